@@ -1,0 +1,75 @@
+-- Which bytes may stand in a name, in a Str text and in a Spatial text: document 01, "Records". The settings, trees, rows and SQL texts all keep to these rules.
+use Prim.Native.Nat.{ℕ, _-_}
+use mathlib.Core.List.{List, [], _∷_, map}
+use mathlib.Core.Bool.{Bool}
+use lib.ListN.{length, getD}
+use lib.Dec.{leb, eqb}
+use Rattle.choice.specs.Choice.{pick, both, either, negated, between, all, some, same}
+
+-- A to Z and a to z
+unfoldable pub letter : ℕ → Bool
+letter b = either (between 65 b 90) (between 97 b 122)
+
+unfoldable pub digit : ℕ → Bool
+digit b = between 48 b 57
+
+-- a name begins with a letter or an underscore
+unfoldable pub nameStart : ℕ → Bool
+nameStart b = either (letter b) (eqb b 95)
+
+-- and goes on with letters, digits, underscores
+unfoldable pub nameByte : ℕ → Bool
+nameByte b = either (nameStart b) (digit b)
+
+-- a letter as its capital, any other byte as it is
+unfoldable pub upper : ℕ → ℕ
+upper b = pick (between 97 b 122) (b - 32) b
+
+-- a text with its letters as capitals: two texts are equal in any letter case if these are equal
+abbrev pub uppers : List ℕ → List ℕ
+uppers s = map upper s
+
+-- the words that are no names: AND BETWEEN COLLATE DIV FALSE IN IS ISNULL LIKE NOT NOTNULL NULL OR TRUE
+unfoldable pub reservedWords : List (List ℕ)
+reservedWords =
+    (65 ∷ 78 ∷ 68 ∷ [])
+    ∷ (66 ∷ 69 ∷ 84 ∷ 87 ∷ 69 ∷ 69 ∷ 78 ∷ [])
+    ∷ (67 ∷ 79 ∷ 76 ∷ 76 ∷ 65 ∷ 84 ∷ 69 ∷ [])
+    ∷ (68 ∷ 73 ∷ 86 ∷ [])
+    ∷ (70 ∷ 65 ∷ 76 ∷ 83 ∷ 69 ∷ [])
+    ∷ (73 ∷ 78 ∷ [])
+    ∷ (73 ∷ 83 ∷ [])
+    ∷ (73 ∷ 83 ∷ 78 ∷ 85 ∷ 76 ∷ 76 ∷ [])
+    ∷ (76 ∷ 73 ∷ 75 ∷ 69 ∷ [])
+    ∷ (78 ∷ 79 ∷ 84 ∷ [])
+    ∷ (78 ∷ 79 ∷ 84 ∷ 78 ∷ 85 ∷ 76 ∷ 76 ∷ [])
+    ∷ (78 ∷ 85 ∷ 76 ∷ 76 ∷ [])
+    ∷ (79 ∷ 82 ∷ [])
+    ∷ (84 ∷ 82 ∷ 85 ∷ 69 ∷ [])
+    ∷ []
+
+-- in any letter case one of them
+unfoldable pub reserved : List ℕ → Bool
+reserved s = some (same (uppers s)) reservedWords
+
+abbrev pub nameLimit : ℕ
+nameLimit = 64
+
+-- a name: 1 to 64 bytes, a letter or underscore and then letters, digits, underscores, and no reserved word
+unfoldable pub name : List ℕ → Bool
+name s =
+    both (between 1 (length s) nameLimit)
+    (both (nameStart (getD s 0 0))
+    (both (all nameByte s) (negated (reserved s))))
+
+-- a byte of a Str text: 20 to 7E except the apostrophe 27
+unfoldable pub strByte : ℕ → Bool
+strByte b = both (between 32 b 126) (negated (eqb b 39))
+
+-- a byte of a Spatial text: letters, digits, space, comma, parentheses, minus, point
+unfoldable pub spatialByte : ℕ → Bool
+spatialByte b =
+    either (letter b)
+    (either (digit b)
+    (either (eqb b 32)
+    (either (between 40 b 41) (between 44 b 46))))
