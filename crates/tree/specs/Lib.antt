@@ -5,3 +5,5 @@ pub mod Placed
 pub mod Accepted
 pub mod Good
 pub mod ByteLaws
+pub mod ParseLaws
+pub mod EncodeLaws
