@@ -188,8 +188,7 @@ function-back below s r ts e M =
     let x : take (length s) (s ++ r) ≡ s = take-at s r (length s) refl in
     let y : drop (0 + 1 + length s) b ≡ r = sym (drop-drop (length s) 1 b) ∙ drop-at s r (length s) refl in
     let l : past b 0 ≤ length b = omega (arith, length-append s r) in
-    let m : length r ≤ length b = omega (arith, length-append s r) in
-    simp (le-leb (past b 0) (length b) l, x, y, e, M (length b) m)
+    simp (le-leb (past b 0) (length b) l, x, y, e, M (length r) (omega arith))
 
 -- The tree. Each record is below the size limit since the whole is.
 

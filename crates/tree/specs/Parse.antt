@@ -59,6 +59,10 @@ many body zero s = end s
 many body (suc fuel) [] = got none
 many body (suc fuel) (x ∷ s) = cons body (x ∷ s) (frame (x ∷ s)) (λ rest. many body fuel rest)
 
+-- a body of records alone
+abbrev pub items : Body → List ℕ → Read Trees
+items body s = many body (length s) s
+
 unfoldable pub first : Trees → Tree
 first none = null
 first (t then ts) = t
@@ -150,11 +154,11 @@ readDyadic = operated takesTwo (λ o ts. dyadic o (first ts) (second ts)) 2
 
 unfoldable pub readFunction : Body → List ℕ → Read Tree
 readFunction below s =
-    pick (namedAt s 0) (also (many below (length s) (drop (past s 0) s)) (λ ts. got (function (nameAt s 0) ts)))
+    pick (namedAt s 0) (also (items below (drop (past s 0) s)) (λ ts. got (function (nameAt s 0) ts)))
     (refused BadField)
 
 abbrev pub readArray : Body → List ℕ → Read Tree
-readArray below s = also (many below (length s) s) (λ ts. got (array ts))
+readArray below s = also (items below s) (λ ts. got (array ts))
 
 abbrev pub readInterval : Body → List ℕ → Read Tree
 readInterval below s = also (exactly below 2 s) (λ ts. got (interval (first ts) (second ts)))

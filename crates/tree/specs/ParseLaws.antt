@@ -26,7 +26,7 @@ use Rattle.op.specs.Op.{opNumber, opOf}
 use Rattle.op.specs.OpLaws.{number-of, of-number}
 use Rattle.tree.specs.Limits.{depthLimit, mantissaLimit, scaleLimit, flagsLimit, textLimit}
 use Rattle.tree.specs.Tree.{Tree, Trees, null, unbounded, bool, num, str, date, timestamp, spatial, id, monadic, dyadic, function, array, interval, none, _then_, twos, dateBytes, counted, encode, encodes}
-use Rattle.tree.specs.Parse.{Read, refused, got, also, Body, cons, end, exactly, many, first, second, le64, signed, mantissa, nameAt, past, namedAt, emptyBody, boolBody, numBody, strBody, dateBody, timestampBody, spatialBody, leaf, takesOne, takesTwo, allowed, operated, readMonadic, readDyadic, readFunction, readArray, readInterval, Row, row, choose, kinds, readKind, node, parse}
+use Rattle.tree.specs.Parse.{Read, refused, got, also, Body, cons, end, exactly, many, items, first, second, le64, signed, mantissa, nameAt, past, namedAt, emptyBody, boolBody, numBody, strBody, dateBody, timestampBody, spatialBody, leaf, takesOne, takesTwo, allowed, operated, readMonadic, readDyadic, readFunction, readArray, readInterval, Row, row, choose, kinds, readKind, node, parse}
 use Rattle.tree.specs.Placed.{count}
 use Rattle.tree.specs.Good.{Good, AllGood}
 use Rattle.tree.specs.ByteLaws.{Bytes, bytes-drop, bytes-take, byte-at, reads, value, reads-drop, le-at, reads-all, twos-signed}
@@ -324,15 +324,15 @@ module _ (n : ℕ) (low : 0 < n) (below : Body) (S : Sound (n - 1) below) where
   unfolding readFunction encode Good
   function-sound s t h c =
       ⊎-elim
-      (λ w. let p = also-got (many below (length s) (drop (past s 0) s)) (λ ts. got (function (nameAt s 0) ts)) t (w .1) in
+      (λ w. let p = also-got (items below (drop (past s 0) s)) (λ ts. got (function (nameAt s 0) ts)) t (w .1) in
       let z : function (nameAt s 0) (p .0) ≡ t = cc (p .2) in
-      let r = many-sound (n - 1) below S (length s) (drop (past s 0) s) (p .0) (bytes-drop (past s 0) s h) (p .1) in
+      let r = many-sound (n - 1) below S (length (drop (past s 0) s)) (drop (past s 0) s) (p .0) (bytes-drop (past s 0) s h) (p .1) in
       let b = named-bytes s (w .0) in
       let g : (recordOf 11 s ≡ encode (function (nameAt s 0) (p .0))) × Good (function (nameAt s 0) (p .0)) n =
       (ap (λ (l : List ℕ). recordOf 11 l) (b .0 ∙ ap (λ (l : List ℕ). counted (nameAt s 0) ++ l) (r .0)), (low, b .1, r .1)) in
       subst (λ (u : Tree). (recordOf 11 s ≡ encode u) × Good u n) z g)
       (λ w. not-got BadField t (w .1))
-      (split (namedAt s 0) (also (many below (length s) (drop (past s 0) s)) (λ ts. got (function (nameAt s 0) ts))) (refused BadField) (got t) c)
+      (split (namedAt s 0) (also (items below (drop (past s 0) s)) (λ ts. got (function (nameAt s 0) ts))) (refused BadField) (got t) c)
 
   array-sound : RowSound n (row 12 (readArray below))
   unfolding encode Good
