@@ -1,0 +1,55 @@
+use borrow.Author.Tests.{eq-eqb, ne-eqb, lt-ltb, le-ltb, le-leb, lt-leb}
+use Rattle.tree.specs.Walk.{taken, takenBy}
+use borrow.Author.Needs.{needs}
+use Rattle.tree.proofs.operator_one.Statement.{statement}
+use Rattle.tree.proofs.operator_one.Tie as tie
+use Rattle.tree.proofs.operator_one.Reads as reads
+use Rattle.tree.proofs.operator_one.Lts as lts
+use Rattle.op.proofs.op_of.Reads as op-of-reads
+use Rattle.tree.proofs.takes_one.Reads as takes-one-reads
+use Rattle.tree.proofs.word_in.Reads as word-in-reads
+
+returns : tie.Need-returns
+unfolding taken
+returns c = simp (lt-ltb _ _ (c .if1 .taken))
+
+word-in-requires : tie.Need-word-in-requires
+word-in-requires c κs = search needs
+
+op-of-requires : tie.Need-op-of-requires
+op-of-requires c κs = search needs
+
+enum-told : tie.Need-enum-told
+enum-told c = search needs
+
+enum-known-o : tie.Need-enum-known-o
+enum-known-o c = search needs
+
+takes-one-requires : tie.Need-takes-one-requires
+takes-one-requires c κs = search needs
+
+returns-2 : tie.Need-returns-2
+unfolding taken takenBy
+returns-2 c = simp (le-ltb _ _ (c .before .before .before .before .if1 .left), ← c .before .before .before .word-in .ensures .0, ← c .before .before .op-of .ensures, c .enum-told .given .1)
+
+returns-3 : tie.Need-returns-3
+unfolding taken takenBy
+returns-3 c = simp (le-ltb _ _ (c .before .before .before .before .before .before .before .if1 .left), ← c .before .before .before .before .before .before .word-in .ensures .0, ← c .before .before .before .before .before .op-of .ensures, c .before .before .before .o .given .1, ← c .before .takes-one .ensures, c .if2 .taken)
+
+returns-4 : tie.Need-returns-4
+unfolding taken takenBy
+returns-4 c = simp (le-ltb _ _ (c .before .before .before .before .before .before .before .if1 .left), ← c .before .before .before .before .before .before .word-in .ensures .0, ← c .before .before .before .before .before .op-of .ensures, c .before .before .before .o .given .1, ← c .before .takes-one .ensures, c .if2 .left)
+
+pub operator-one-spec : {M : Type 1} → statement M
+operator-one-spec =
+    tie.close
+    (tie.spec
+    returns
+    word-in-requires
+    op-of-requires
+    enum-told
+    enum-known-o
+    takes-one-requires
+    returns-2
+    returns-3
+    returns-4)
