@@ -13,7 +13,8 @@ use lib.Seq.{take-all, drop-drop}
 use lib.Dec.{ltb, leb, eqb}
 use borrow.Author.Tests.{ltb-true, ltb-false, le-ltb, lt-ltb, le-leb, lt-leb, eq-eqb, ne-eqb}
 use Rattle.choice.specs.Choice.{pick, both, either, negated, some}
-use Rattle.tree.specs.Limits.{mantissaLimit}
+use Rattle.tree.specs.Accepted.{settingsBody}
+use Rattle.tree.specs.Limits.{mantissaLimit, precisionLimit}
 use Rattle.record.specs.Record.{le16, le32}
 use Rattle.charset.specs.Charset.{name}
 use Rattle.civil.specs.Civil.{validDate, validTime}
@@ -130,3 +131,18 @@ betweenNumber n = pick (eqb n 47) true (pick (eqb n 48) true false)
 pub between-number : (o : Op) → isBetween o ≡ betweenNumber (opNumber o)
 unfolding isBetween some
 between-number o = refl
+
+-- The settings, name by name: a, b, d are the length bytes that the code has read.
+
+module _ (s : List ℕ) (p a b d : ℕ) (ep : p ≡ getD s 6 0) (low : p ≤ precisionLimit) (ci : namedAt s 7 ≡ true) (ea : a ≡ getD s 7 0) where
+  pub settings-ai : namedAt s (8 + a) ≡ false → settingsBody s ≡ false
+  unfolding settingsBody
+  settings-ai h = simp (← ep, le-leb p precisionLimit low, ci, ← ea, h)
+
+  pub settings-cai : namedAt s (8 + a) ≡ true → b ≡ getD s (8 + a) 0 → namedAt s (8 + a + 1 + b) ≡ false → settingsBody s ≡ false
+  unfolding settingsBody
+  settings-cai h eb k = simp (← ep, le-leb p precisionLimit low, ci, ← ea, h, ← eb, k)
+
+  pub settings-end : namedAt s (8 + a) ≡ true → b ≡ getD s (8 + a) 0 → namedAt s (8 + a + 1 + b) ≡ true → d ≡ getD s (8 + a + 1 + b) 0 → eqb (8 + a + 1 + b + 1 + d) (length s) ≡ settingsBody s
+  unfolding settingsBody
+  settings-end h eb k ed = simp (← ep, le-leb p precisionLimit low, ci, ← ea, h, ← eb, k, ← ed)

@@ -10,20 +10,26 @@ ghost use Rattle.tree.specs.Parse.{le64, signed, mantissa, namedAt, empt
 ghost use Rattle.tree.specs.Placed.{isBetween};
 ghost use Rattle.tree.specs.Accepted.{settingsBody, isSettings, accepted};
 ghost use Rattle.tree.specs.Walk.{verdict, seen, seenOne, seenTwo, seenAll, firstOf, taken, plainShape, pairShape, intervalShape, soundShape, fits, orMisplaced, leafOne, monadicOne, dyadicOne, functionOne, arrayOne, intervalOne};
-
-use refusal::Refusal;
-use record::Frame;
-use op::Op;
 use op::Named;
+use op::Op;
+use record::Frame;
+use refusal::Refusal;
 
 // Document 01's limits.
 const TREE_LIMIT: usize = 32768;
+
 const DEPTH_LIMIT: usize = 32;
+
 const MANTISSA_LIMIT: usize = 999999999999999;
+
 const SCALE_LIMIT: usize = 9;
+
 const FLAGS_LIMIT: usize = 3;
+
 const TEXT_LIMIT: usize = 4096;
+
 const PRECISION_LIMIT: usize = 15;
+
 const SETTINGS_KIND: usize = 100;
 
 // What a caller hears of settings and a tree.
@@ -466,3 +472,180 @@ fn interval_one(t: Two) -> One
     }
 }
 
+// An operator of one operand, and one record.
+fn check_monadic(s: &[u8], levels: usize) -> One
+    ensures { λ r. ⌜ r ≡ seen (readMonadic (node levels) (now (s .entry))) ⌝ }
+{
+    match operator_one(s) {
+        Taken::Refuses(e) => One::OneBad(e),
+        Taken::Takes(_) => monadic_one(check_one(&s[2..], levels)),
+    }
+}
+
+// An operator of two operands, and two records.
+fn check_dyadic(s: &[u8], levels: usize) -> One
+    ensures { λ r. ⌜ r ≡ seen (readDyadic (node levels) (now (s .entry))) ⌝ }
+{
+    match operator_two(s) {
+        Taken::Refuses(e) => One::OneBad(e),
+        Taken::Takes(o) => dyadic_one(o, check_two(&s[2..], levels)),
+    }
+}
+
+// A name behind its length byte, and records to the end.
+fn check_function(s: &[u8], levels: usize) -> One
+    ensures { λ r. ⌜ r ≡ seen (readFunction (node levels) (now (s .entry))) ⌝ }
+{
+    if named_at(s, 0) {
+        let from = 1 + wide(s[0]);
+        function_one(check_many(&s[from..], levels))
+    } else {
+        One::OneBad(Refusal::BadField)
+    }
+}
+
+// What a record of this kind with the body s is; it and what is below it may be `levels` deep.
+fn check_node(kind: usize, s: &[u8], levels: usize) -> One
+    ensures { λ r. ⌜ r ≡ seen (node levels kind (now (s .entry))) ⌝ }
+{
+    if levels == 0 {
+        return One::OneBad(Refusal::TooDeep);
+    }
+    match kind {
+        0 => leaf_one(s.len() == 0),
+        1 => leaf_one(s.len() == 0),
+        2 => leaf_one(bool_body(s)),
+        3 => leaf_one(num_body(s)),
+        4 => leaf_one(str_body(s)),
+        5 => leaf_one(date_body(s)),
+        6 => leaf_one(timestamp_body(s)),
+        7 => leaf_one(spatial_body(s)),
+        8 => leaf_one(charset::is_name(s)),
+        9 => check_monadic(s, levels - 1),
+        10 => check_dyadic(s, levels - 1),
+        11 => check_function(s, levels - 1),
+        12 => array_one(check_many(s, levels - 1)),
+        13 => interval_one(check_two(s, levels - 1)),
+        _ => One::OneBad(Refusal::BadKindOrOperator),
+    }
+}
+
+fn check_first(s: &[u8], levels: usize) -> First
+    ensures { λ r. ⌜ r ≡ firstOf (node levels) (now (s .entry)) ⌝ }
+{
+    match record::frame_at(s) {
+        Frame::Broken => First::Stop(Refusal::BadFrame),
+        Frame::Whole { kind, end } => match check_node(kind, &s[6..end], levels) {
+            One::OneBad(e) => First::Stop(e),
+            One::OneIs(a) => First::Next(end, a),
+        },
+    }
+}
+
+// One record and no more.
+fn check_one(s: &[u8], levels: usize) -> One
+    ensures { λ r. ⌜ r ≡ seenOne (exactly (node levels) 1 (now (s .entry))) ⌝ }
+{
+    match check_first(s, levels) {
+        First::Stop(e) => One::OneBad(e),
+        First::Next(n, a) => {
+            if n == s.len() {
+                One::OneIs(a)
+            } else {
+                One::OneBad(Refusal::BadFrame)
+            }
+        }
+    }
+}
+
+// Two records and no more.
+fn check_two(s: &[u8], levels: usize) -> Two
+    ensures { λ r. ⌜ r ≡ seenTwo (exactly (node levels) 2 (now (s .entry))) ⌝ }
+{
+    match check_first(s, levels) {
+        First::Stop(e) => Two::TwoBad(e),
+        First::Next(n, a) => match check_one(&s[n..], levels) {
+            One::OneBad(e) => Two::TwoBad(e),
+            One::OneIs(b) => Two::TwoAre(a, b),
+        },
+    }
+}
+
+// Records to the end.
+fn check_many(s: &[u8], levels: usize) -> Items
+    ensures { λ r. ⌜ r ≡ seenAll (items (node levels) (now (s .entry))) ⌝ }
+{
+    let mut at = 0;
+    let mut plain = true;
+    let mut count = 0;
+    while at < s.len() {
+        match check_first(&s[at..], levels) {
+            First::Stop(e) => return Items::ItemsBad(e),
+            First::Next(n, a) => {
+                at += n;
+                plain = and(plain, plain_shape(a));
+                count += 1;
+            }
+        }
+    }
+    Items::ItemsAre { plain, count }
+}
+
+// Past the frame: a precision, three names, and nothing more.
+fn settings_body(s: &[u8]) -> bool
+    requires { ⌜ 6 ≤ length (now s) ⌝ }
+    ensures { λ r. ⌜ r ≡ settingsBody (now (s .entry)) ⌝ }
+{
+    if PRECISION_LIMIT < byte_at(s, 6) {
+        return false;
+    }
+    if named_at(s, 7) {
+        let ai = 8 + byte_at(s, 7);
+        if named_at(s, ai) {
+            let cai = ai + 1 + byte_at(s, ai);
+            if named_at(s, cai) {
+                return cai + 1 + byte_at(s, cai) == s.len();
+            }
+        }
+    }
+    false
+}
+
+fn is_settings(s: &[u8]) -> bool
+    ensures { λ r. ⌜ r ≡ isSettings (now (s .entry)) ⌝ }
+{
+    match record::frame_at(s) {
+        Frame::Broken => false,
+        Frame::Whole { kind, end } => {
+            if kind == SETTINGS_KIND {
+                if end == s.len() {
+                    return settings_body(s);
+                }
+            }
+            false
+        }
+    }
+}
+
+// Whether the settings and the tree are accepted; else the refusal that comes first.
+pub fn check(settings: &[u8], tree: &[u8]) -> Checked
+    ensures { λ r. ⌜ r ≡ verdict (accepted (now (settings .entry)) (now (tree .entry))) ⌝ }
+{
+    if is_settings(settings) {
+        if TREE_LIMIT < tree.len() {
+            return Checked::Refused(Refusal::TreeTooLong);
+        }
+        match check_one(tree, DEPTH_LIMIT) {
+            One::OneBad(e) => Checked::Refused(e),
+            One::OneIs(a) => {
+                if plain_shape(a) {
+                    Checked::Valid
+                } else {
+                    Checked::Refused(Refusal::BadOperand)
+                }
+            }
+        }
+    } else {
+        Checked::Refused(Refusal::BadSettings)
+    }
+}

@@ -1,10 +1,8 @@
-use borrow.Author.Tests.{eq-eqb, ne-eqb, lt-ltb, le-ltb, le-leb, lt-leb}
+-- `tree::array_one` meets its contract: an Array is a pair if it has two items, and is misplaced if one of them is.
+use borrow.Author.Tests.{eq-eqb, ne-eqb}
 use borrow.Author.Needs.{needs}
 use Rattle.tree.proofs.array_one.Statement.{statement}
 use Rattle.tree.proofs.array_one.Tie as tie
-use Rattle.tree.proofs.array_one.Reads as reads
-use Rattle.tree.proofs.array_one.Lts as lts
-use Rattle.tree.proofs.or_misplaced.Reads as or-misplaced-reads
 
 enum-known-i : tie.Need-enum-known-i
 enum-known-i c = search needs

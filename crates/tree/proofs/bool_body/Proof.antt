@@ -1,11 +1,9 @@
-use borrow.Author.Tests.{eq-eqb, ne-eqb, lt-ltb, le-ltb, le-leb, lt-leb}
+-- `tree::bool_body` meets its contract: one byte, 0 or 1.
+use borrow.Author.Tests.{eq-eqb, ne-eqb}
 use Rattle.tree.specs.Parse.{boolBody}
 use borrow.Author.Needs.{needs}
 use Rattle.tree.proofs.bool_body.Statement.{statement}
 use Rattle.tree.proofs.bool_body.Tie as tie
-use Rattle.tree.proofs.bool_body.Reads as reads
-use Rattle.tree.proofs.bool_body.Lts as lts
-use Rattle.tree.proofs.wide.Reads as wide-reads
 
 shared-slice-read-wide : tie.Need-shared-slice-read-wide
 shared-slice-read-wide c = search needs

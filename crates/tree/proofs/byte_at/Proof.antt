@@ -1,12 +1,10 @@
-use mathlib.Core.Path.{_≡_, sym, ap, _∙_}
+-- `tree::byte_at` meets its contract: past the end there is nothing, which counts as 0.
+use mathlib.Core.Path.{sym}
 use native.Mathlib.Omega.{arith}
 use lib.ListN.{List·getD-eq-default}
 use borrow.Author.Needs.{needs}
 use Rattle.tree.proofs.byte_at.Statement.{statement}
 use Rattle.tree.proofs.byte_at.Tie as tie
-use Rattle.tree.proofs.byte_at.Reads as reads
-use Rattle.tree.proofs.byte_at.Lts as lts
-use Rattle.tree.proofs.wide.Reads as wide-reads
 
 shared-slice-read-wide : tie.Need-shared-slice-read-wide
 shared-slice-read-wide c = search needs

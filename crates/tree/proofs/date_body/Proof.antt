@@ -1,13 +1,9 @@
-use borrow.Author.Tests.{eq-eqb, ne-eqb, lt-ltb, le-ltb, le-leb, lt-leb}
+-- `tree::date_body` meets its contract: four bytes that civil finds valid.
+use borrow.Author.Tests.{eq-eqb, ne-eqb}
 use Rattle.tree.specs.Parse.{dateBody}
 use borrow.Author.Needs.{needs}
 use Rattle.tree.proofs.date_body.Statement.{statement}
 use Rattle.tree.proofs.date_body.Tie as tie
-use Rattle.tree.proofs.date_body.Reads as reads
-use Rattle.tree.proofs.date_body.Lts as lts
-use Rattle.civil.proofs.valid_date.Reads as valid-date-reads
-use Rattle.tree.proofs.wide.Reads as wide-reads
-use Rattle.tree.proofs.word_in.Reads as word-in-reads
 
 word-in-requires : tie.Need-word-in-requires
 word-in-requires c κs = search needs

@@ -1,12 +1,10 @@
-use mathlib.Core.Path.{_≡_, sym, ap, _∙_}
+-- `tree::dword_at` meets its contract: where the upper word lies past the end, the lower is all.
+use mathlib.Core.Path.{sym, _∙_}
 use native.Mathlib.Omega.{arith}
 use Rattle.tree.proofs.Laws as laws
 use borrow.Author.Needs.{needs}
 use Rattle.tree.proofs.dword_at.Statement.{statement}
 use Rattle.tree.proofs.dword_at.Tie as tie
-use Rattle.tree.proofs.dword_at.Reads as reads
-use Rattle.tree.proofs.dword_at.Lts as lts
-use Rattle.tree.proofs.word_at.Reads as word-at-reads
 
 word-at-requires : tie.Need-word-at-requires
 word-at-requires c κs = search needs

@@ -1,10 +1,7 @@
+-- `tree::dyadic_one` meets its contract: what the operator wants of the two sides decides.
 use borrow.Author.Needs.{needs}
 use Rattle.tree.proofs.dyadic_one.Statement.{statement}
 use Rattle.tree.proofs.dyadic_one.Tie as tie
-use Rattle.tree.proofs.dyadic_one.Reads as reads
-use Rattle.tree.proofs.dyadic_one.Lts as lts
-use Rattle.tree.proofs.fit.Reads as fit-reads
-use Rattle.tree.proofs.or_misplaced.Reads as or-misplaced-reads
 
 enum-known-t : tie.Need-enum-known-t
 enum-known-t c = search needs

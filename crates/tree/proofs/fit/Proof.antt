@@ -1,17 +1,8 @@
+-- `tree::fit` meets its contract: the tests on the way are those of `fits`.
 use Rattle.tree.specs.Walk.{fits}
 use borrow.Author.Needs.{needs}
 use Rattle.tree.proofs.fit.Statement.{statement}
 use Rattle.tree.proofs.fit.Tie as tie
-use Rattle.tree.proofs.fit.Reads as reads
-use Rattle.tree.proofs.fit.Lts as lts
-use Rattle.op.proofs.instant_or_interval.Reads as instant-or-interval-reads
-use Rattle.op.proofs.temporal.Reads as temporal-reads
-use Rattle.tree.proofs.and.Reads as and-reads
-use Rattle.tree.proofs.interval_shape.Reads as interval-shape-reads
-use Rattle.tree.proofs.is_between.Reads as is-between-reads
-use Rattle.tree.proofs.pair_shape.Reads as pair-shape-reads
-use Rattle.tree.proofs.plain_shape.Reads as plain-shape-reads
-use Rattle.tree.proofs.sound_shape.Reads as sound-shape-reads
 
 temporal-requires : tie.Need-temporal-requires
 temporal-requires c κs = search needs

@@ -1,9 +1,7 @@
+-- `tree::function_one` meets its contract: misplaced if an argument is.
 use borrow.Author.Needs.{needs}
 use Rattle.tree.proofs.function_one.Statement.{statement}
 use Rattle.tree.proofs.function_one.Tie as tie
-use Rattle.tree.proofs.function_one.Reads as reads
-use Rattle.tree.proofs.function_one.Lts as lts
-use Rattle.tree.proofs.or_misplaced.Reads as or-misplaced-reads
 
 enum-known-i : tie.Need-enum-known-i
 enum-known-i c = search needs

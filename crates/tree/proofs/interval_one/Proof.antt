@@ -1,11 +1,7 @@
+-- `tree::interval_one` meets its contract: an Interval, unless one of its ends is out of place.
 use borrow.Author.Needs.{needs}
 use Rattle.tree.proofs.interval_one.Statement.{statement}
 use Rattle.tree.proofs.interval_one.Tie as tie
-use Rattle.tree.proofs.interval_one.Reads as reads
-use Rattle.tree.proofs.interval_one.Lts as lts
-use Rattle.tree.proofs.and.Reads as and-reads
-use Rattle.tree.proofs.or_misplaced.Reads as or-misplaced-reads
-use Rattle.tree.proofs.plain_shape.Reads as plain-shape-reads
 
 enum-known-t : tie.Need-enum-known-t
 enum-known-t c = search needs

@@ -1,11 +1,9 @@
-use borrow.Author.Tests.{eq-eqb, ne-eqb, lt-ltb, le-ltb, le-leb, lt-leb}
+-- `tree::is_between` meets its contract: the tests on the operator's number are those of `isBetween`.
+use borrow.Author.Tests.{eq-eqb, ne-eqb}
 use Rattle.tree.proofs.Laws as laws
 use borrow.Author.Needs.{needs}
 use Rattle.tree.proofs.is_between.Statement.{statement}
 use Rattle.tree.proofs.is_between.Tie as tie
-use Rattle.tree.proofs.is_between.Reads as reads
-use Rattle.tree.proofs.is_between.Lts as lts
-use Rattle.op.proofs.op_number.Reads as op-number-reads
 
 op-number-requires : tie.Need-op-number-requires
 op-number-requires c κs = search needs

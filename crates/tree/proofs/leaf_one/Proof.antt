@@ -1,7 +1,6 @@
+-- `tree::leaf_one` meets its contract: the body's test decides.
 use Rattle.tree.proofs.leaf_one.Statement.{statement}
 use Rattle.tree.proofs.leaf_one.Tie as tie
-use Rattle.tree.proofs.leaf_one.Reads as reads
-use Rattle.tree.proofs.leaf_one.Lts as lts
 
 returns : tie.Need-returns
 returns c = simp (c .if1 .taken)

@@ -1,18 +1,15 @@
-use mathlib.Core.Path.{_≡_, sym, ap, _∙_, subst}
+-- `tree::mantissa_at` meets its contract: the number of eight bytes, read as signed.
+use mathlib.Core.Path.{sym, ap, _∙_, subst}
 use lib.IntN.{ℤ}
 use mir.Syntax.{w64}
 use mir.Val.{SFits}
 use mir.Facts.{toZ-ofZ}
 use Rattle.tree.proofs.Laws as laws
-use mathlib.Core.Path.{_≡_, sym, ap, _∙_}
+use mathlib.Core.Path.{sym, ap, _∙_}
 use Rattle.tree.specs.Parse.{signed}
 use borrow.Author.Needs.{needs}
 use Rattle.tree.proofs.mantissa_at.Statement.{statement}
 use Rattle.tree.proofs.mantissa_at.Tie as tie
-use Rattle.tree.proofs.mantissa_at.Reads as reads
-use Rattle.tree.proofs.mantissa_at.Lts as lts
-use Rattle.tree.proofs.qword_at.Reads as qword-at-reads
-use Rattle.tree.proofs.signed_of.Reads as signed-of-reads
 
 qword-at-requires : tie.Need-qword-at-requires
 qword-at-requires c κs = search needs

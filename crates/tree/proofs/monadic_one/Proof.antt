@@ -1,10 +1,7 @@
+-- `tree::monadic_one` meets its contract: misplaced if the operand is.
 use borrow.Author.Needs.{needs}
 use Rattle.tree.proofs.monadic_one.Statement.{statement}
 use Rattle.tree.proofs.monadic_one.Tie as tie
-use Rattle.tree.proofs.monadic_one.Reads as reads
-use Rattle.tree.proofs.monadic_one.Lts as lts
-use Rattle.tree.proofs.or_misplaced.Reads as or-misplaced-reads
-use Rattle.tree.proofs.plain_shape.Reads as plain-shape-reads
 
 enum-known-a : tie.Need-enum-known-a
 enum-known-a c = search needs

@@ -1,15 +1,10 @@
-use mathlib.Core.Path.{_≡_, sym, ap, _∙_}
+-- `tree::named_at` meets its contract: the length byte says how far the name reaches, and whether that is within the bytes.
+use mathlib.Core.Path.{sym, _∙_}
 use native.Mathlib.Omega.{arith}
-use borrow.Author.Tests.{eq-eqb, ne-eqb, lt-ltb, le-ltb, le-leb, lt-leb}
-use Rattle.tree.specs.Parse.{namedAt}
 use Rattle.tree.proofs.Laws as laws
 use borrow.Author.Needs.{needs}
 use Rattle.tree.proofs.named_at.Statement.{statement}
 use Rattle.tree.proofs.named_at.Tie as tie
-use Rattle.tree.proofs.named_at.Reads as reads
-use Rattle.tree.proofs.named_at.Lts as lts
-use Rattle.charset.proofs.is_name.Reads as is-name-reads
-use Rattle.tree.proofs.wide.Reads as wide-reads
 
 shared-slice-read-wide : tie.Need-shared-slice-read-wide
 shared-slice-read-wide c = search needs

@@ -1,13 +1,9 @@
-use borrow.Author.Tests.{eq-eqb, ne-eqb, lt-ltb, le-ltb, le-leb, lt-leb}
+-- `tree::num_body` meets its contract: nine bytes, the mantissa and the scale each within its limit.
+use borrow.Author.Tests.{eq-eqb, ne-eqb}
 use Rattle.tree.specs.Parse.{numBody}
 use borrow.Author.Needs.{needs}
 use Rattle.tree.proofs.num_body.Statement.{statement}
 use Rattle.tree.proofs.num_body.Tie as tie
-use Rattle.tree.proofs.num_body.Reads as reads
-use Rattle.tree.proofs.num_body.Lts as lts
-use Rattle.tree.proofs.qword_in.Reads as qword-in-reads
-use Rattle.tree.proofs.wide.Reads as wide-reads
-use Rattle.tree.proofs.within_limit.Reads as within-limit-reads
 
 qword-in-requires : tie.Need-qword-in-requires
 qword-in-requires c κs = search needs

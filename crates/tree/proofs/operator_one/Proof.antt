@@ -1,13 +1,9 @@
-use borrow.Author.Tests.{eq-eqb, ne-eqb, lt-ltb, le-ltb, le-leb, lt-leb}
+-- `tree::operator_one` meets its contract: a body too short for an operator is refused before the operator is looked at.
+use borrow.Author.Tests.{lt-ltb, le-ltb}
 use Rattle.tree.specs.Walk.{taken, takenBy}
 use borrow.Author.Needs.{needs}
 use Rattle.tree.proofs.operator_one.Statement.{statement}
 use Rattle.tree.proofs.operator_one.Tie as tie
-use Rattle.tree.proofs.operator_one.Reads as reads
-use Rattle.tree.proofs.operator_one.Lts as lts
-use Rattle.op.proofs.op_of.Reads as op-of-reads
-use Rattle.tree.proofs.takes_one.Reads as takes-one-reads
-use Rattle.tree.proofs.word_in.Reads as word-in-reads
 
 returns : tie.Need-returns
 unfolding taken

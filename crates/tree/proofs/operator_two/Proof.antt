@@ -1,13 +1,9 @@
-use borrow.Author.Tests.{eq-eqb, ne-eqb, lt-ltb, le-ltb, le-leb, lt-leb}
+-- `tree::operator_two` meets its contract: a body too short for an operator is refused before the operator is looked at.
+use borrow.Author.Tests.{lt-ltb, le-ltb}
 use Rattle.tree.specs.Walk.{taken, takenBy}
 use borrow.Author.Needs.{needs}
 use Rattle.tree.proofs.operator_two.Statement.{statement}
 use Rattle.tree.proofs.operator_two.Tie as tie
-use Rattle.tree.proofs.operator_two.Reads as reads
-use Rattle.tree.proofs.operator_two.Lts as lts
-use Rattle.op.proofs.op_of.Reads as op-of-reads
-use Rattle.tree.proofs.takes_two.Reads as takes-two-reads
-use Rattle.tree.proofs.word_in.Reads as word-in-reads
 
 returns : tie.Need-returns
 unfolding taken

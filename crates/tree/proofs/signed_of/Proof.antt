@@ -1,13 +1,10 @@
-use mathlib.Core.Path.{_≡_, sym, ap, _∙_}
+-- `tree::signed_of` meets its contract: above 2^63 the number is −1 less what it lacks of 2^64 − 1, and that difference fits.
+use mathlib.Core.Path.{_∙_}
 use mir.Facts.{toZ-ofZ}
 use Rattle.tree.proofs.Laws as laws
-use borrow.Author.Tests.{eq-eqb, ne-eqb, lt-ltb, le-ltb, le-leb, lt-leb}
-use Rattle.tree.specs.Parse.{signed}
 use borrow.Author.Needs.{needs}
 use Rattle.tree.proofs.signed_of.Statement.{statement}
 use Rattle.tree.proofs.signed_of.Tie as tie
-use Rattle.tree.proofs.signed_of.Reads as reads
-use Rattle.tree.proofs.signed_of.Lts as lts
 
 cast-result : tie.Need-cast-result
 cast-result c = search needs

@@ -1,12 +1,10 @@
-use borrow.Author.Tests.{eq-eqb, ne-eqb, lt-ltb, le-ltb, le-leb, lt-leb}
+-- `tree::spatial_body` meets its contract: the tests on the way are those of `spatialBody`.
+use borrow.Author.Tests.{le-leb, lt-leb}
 use Rattle.tree.specs.Parse.{spatialBody}
 use Rattle.tree.proofs.Laws.{tail-is}
 use borrow.Author.Needs.{needs}
 use Rattle.tree.proofs.spatial_body.Statement.{statement}
 use Rattle.tree.proofs.spatial_body.Tie as tie
-use Rattle.tree.proofs.spatial_body.Reads as reads
-use Rattle.tree.proofs.spatial_body.Lts as lts
-use Rattle.charset.proofs.is_spatial_text.Reads as is-spatial-text-reads
 
 add-if2 : tie.Need-add-if2
 add-if2 c = search needs

@@ -1,13 +1,10 @@
-use borrow.Author.Tests.{eq-eqb, ne-eqb, lt-ltb, le-ltb, le-leb, lt-leb}
+-- `tree::str_body` meets its contract: the tests on the way are those of `strBody`.
+use borrow.Author.Tests.{le-leb, lt-leb}
 use Rattle.tree.specs.Parse.{strBody}
 use Rattle.tree.proofs.Laws.{tail-is}
 use borrow.Author.Needs.{needs}
 use Rattle.tree.proofs.str_body.Statement.{statement}
 use Rattle.tree.proofs.str_body.Tie as tie
-use Rattle.tree.proofs.str_body.Reads as reads
-use Rattle.tree.proofs.str_body.Lts as lts
-use Rattle.charset.proofs.is_str_text.Reads as is-str-text-reads
-use Rattle.tree.proofs.wide.Reads as wide-reads
 
 add-if2 : tie.Need-add-if2
 add-if2 c = search needs

@@ -1,14 +1,10 @@
+-- `tree::takes_two` meets its contract: all operators but those of one operand, and Minus.
 use Rattle.tree.proofs.Laws as laws
-use borrow.Author.Tests.{eq-eqb, ne-eqb, lt-ltb, le-ltb, le-leb, lt-leb}
 use Rattle.tree.specs.Parse.{takesTwo}
 use Rattle.choice.specs.Choice.{some}
 use borrow.Author.Needs.{needs}
 use Rattle.tree.proofs.takes_two.Statement.{statement}
 use Rattle.tree.proofs.takes_two.Tie as tie
-use Rattle.tree.proofs.takes_two.Reads as reads
-use Rattle.tree.proofs.takes_two.Lts as lts
-use Rattle.op.proofs.op_number.Reads as op-number-reads
-use Rattle.tree.proofs.takes_one.Reads as takes-one-reads
 
 takes-one-requires : tie.Need-takes-one-requires
 takes-one-requires c κs = search needs

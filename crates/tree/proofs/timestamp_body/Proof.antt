@@ -1,16 +1,11 @@
-use mathlib.Core.Path.{_≡_, sym, ap, _∙_}
+-- `tree::timestamp_body` meets its contract: seven bytes, a date and a time of day that civil finds valid.
+use mathlib.Core.Path.{sym, _∙_}
 use Rattle.tree.proofs.Laws as laws
-use borrow.Author.Tests.{eq-eqb, ne-eqb, lt-ltb, le-ltb, le-leb, lt-leb}
+use borrow.Author.Tests.{eq-eqb, ne-eqb}
 use Rattle.tree.specs.Parse.{timestampBody}
 use borrow.Author.Needs.{needs}
 use Rattle.tree.proofs.timestamp_body.Statement.{statement}
 use Rattle.tree.proofs.timestamp_body.Tie as tie
-use Rattle.tree.proofs.timestamp_body.Reads as reads
-use Rattle.tree.proofs.timestamp_body.Lts as lts
-use Rattle.civil.proofs.valid_date.Reads as valid-date-reads
-use Rattle.civil.proofs.valid_time.Reads as valid-time-reads
-use Rattle.tree.proofs.wide.Reads as wide-reads
-use Rattle.tree.proofs.word_in.Reads as word-in-reads
 
 word-in-requires : tie.Need-word-in-requires
 word-in-requires c κs = search needs

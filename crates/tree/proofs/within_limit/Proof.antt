@@ -1,11 +1,10 @@
-use mathlib.Core.Path.{_≡_, sym, ap, _∙_}
+-- `tree::within_limit` meets its contract: a number above 2^63 is within the limit if its complement is.
+use mathlib.Core.Path.{sym}
 use native.Mathlib.Omega.{arith}
 use Rattle.tree.proofs.Laws as laws
 use borrow.Author.Needs.{needs}
 use Rattle.tree.proofs.within_limit.Statement.{statement}
 use Rattle.tree.proofs.within_limit.Tie as tie
-use Rattle.tree.proofs.within_limit.Reads as reads
-use Rattle.tree.proofs.within_limit.Lts as lts
 
 returns : tie.Need-returns
 returns c = sym (laws.limit-low _ (c .if1 .taken))

@@ -1,12 +1,10 @@
-use mathlib.Core.Path.{_≡_, sym, ap, _∙_}
+-- `tree::word_at` meets its contract: past the end both bytes count as 0.
+use mathlib.Core.Path.{sym}
 use native.Mathlib.Omega.{arith}
 use Rattle.tree.proofs.Laws as laws
 use borrow.Author.Needs.{needs}
 use Rattle.tree.proofs.word_at.Statement.{statement}
 use Rattle.tree.proofs.word_at.Tie as tie
-use Rattle.tree.proofs.word_at.Reads as reads
-use Rattle.tree.proofs.word_at.Lts as lts
-use Rattle.tree.proofs.byte_at.Reads as byte-at-reads
 
 byte-at-requires : tie.Need-byte-at-requires
 byte-at-requires c κs = search needs
