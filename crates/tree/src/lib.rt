@@ -298,26 +298,15 @@ fn is_between(o: Op) -> bool
     false
 }
 
-fn operator_one(s: &[u8]) -> Taken
-    ensures { λ r. ⌜ r ≡ taken takesOne (now (s .entry)) ⌝ }
+fn takes(two: bool, o: Op) -> bool
+    ensures { λ r. ⌜ r ≡ pick two (takesTwo o) (takesOne o) ⌝ }
 {
-    if s.len() < 2 {
-        return Taken::Refuses(Refusal::BadField);
-    }
-    match op::op_of(word_in(s, 0)) {
-        Named::NoOp => Taken::Refuses(Refusal::BadKindOrOperator),
-        Named::Is(o) => {
-            if takes_one(o) {
-                Taken::Takes(o)
-            } else {
-                Taken::Refuses(Refusal::BadKindOrOperator)
-            }
-        }
-    }
+    if two { takes_two(o) } else { takes_one(o) }
 }
 
-fn operator_two(s: &[u8]) -> Taken
-    ensures { λ r. ⌜ r ≡ taken takesTwo (now (s .entry)) ⌝ }
+// The operator of a Dyadic (`two`) or of a Monadic. A body too short for it is 6, an operator that the kind does not take 5.
+fn operator_in(two: bool, s: &[u8]) -> Taken
+    ensures { λ r. ⌜ r ≡ taken (λ o. pick two (takesTwo o) (takesOne o)) (now (s .entry)) ⌝ }
 {
     if s.len() < 2 {
         return Taken::Refuses(Refusal::BadField);
@@ -325,7 +314,7 @@ fn operator_two(s: &[u8]) -> Taken
     match op::op_of(word_in(s, 0)) {
         Named::NoOp => Taken::Refuses(Refusal::BadKindOrOperator),
         Named::Is(o) => {
-            if takes_two(o) {
+            if takes(two, o) {
                 Taken::Takes(o)
             } else {
                 Taken::Refuses(Refusal::BadKindOrOperator)
@@ -476,7 +465,7 @@ fn interval_one(t: Two) -> One
 fn check_monadic(s: &[u8], levels: usize) -> One
     ensures { λ r. ⌜ r ≡ seen (readMonadic (node levels) (now (s .entry))) ⌝ }
 {
-    match operator_one(s) {
+    match operator_in(false, s) {
         Taken::Refuses(e) => One::OneBad(e),
         Taken::Takes(_) => monadic_one(check_one(&s[2..], levels)),
     }
@@ -486,7 +475,7 @@ fn check_monadic(s: &[u8], levels: usize) -> One
 fn check_dyadic(s: &[u8], levels: usize) -> One
     ensures { λ r. ⌜ r ≡ seen (readDyadic (node levels) (now (s .entry))) ⌝ }
 {
-    match operator_two(s) {
+    match operator_in(true, s) {
         Taken::Refuses(e) => One::OneBad(e),
         Taken::Takes(o) => dyadic_one(o, check_two(&s[2..], levels)),
     }

@@ -50,8 +50,7 @@ use Rattle.tree.proofs.leaf_one.Reads as leaf-one-reads
 use Rattle.tree.proofs.monadic_one.Reads as monadic-one-reads
 use Rattle.tree.proofs.named_at.Reads as named-at-reads
 use Rattle.tree.proofs.num_body.Reads as num-body-reads
-use Rattle.tree.proofs.operator_one.Reads as operator-one-reads
-use Rattle.tree.proofs.operator_two.Reads as operator-two-reads
+use Rattle.tree.proofs.operator_in.Reads as operator-in-reads
 use Rattle.tree.proofs.plain_shape.Reads as plain-shape-reads
 use Rattle.tree.proofs.spatial_body.Reads as spatial-body-reads
 use Rattle.tree.proofs.str_body.Reads as str-body-reads
@@ -156,17 +155,17 @@ unfolding choose kinds
     μ-check-node
     μ-check-one
     μ-check-two
-    (λ t. check-dyadic-lts.spec (operator-two-reads.Asked, operator-two-reads.Learnt, check-two-below t, check-two.Post, dyadic-one-reads.Asked, dyadic-one-reads.Learnt) (check-dyadic-at t) check-dyadic.Post
+    (λ t. check-dyadic-lts.spec (operator-in-reads.Asked, operator-in-reads.Learnt, check-two-below t, check-two.Post, dyadic-one-reads.Asked, dyadic-one-reads.Learnt) (check-dyadic-at t) check-dyadic.Post
     (λ c κs. search needs)
     (λ c. search needs)
     (λ c. search needs)
-    (λ c. omega (arith, walk.taken-long _ _ _ (sym (c .before .before .before .operator-two .ensures) ∙ c .before .o .given .1)))
-    (λ c. omega (arith, walk.taken-long _ _ _ (sym (c .before .before .before .operator-two .ensures) ∙ c .before .o .given .1)))
-    (λ c. omega (arith, walk.taken-long _ _ _ (sym (c .before .before .before .operator-two .ensures) ∙ c .before .o .given .1)))
+    (λ c. omega (arith, walk.taken-long _ _ _ (sym (c .before .before .before .operator-in .ensures) ∙ c .before .o .given .1)))
+    (λ c. omega (arith, walk.taken-long _ _ _ (sym (c .before .before .before .operator-in .ensures) ∙ c .before .o .given .1)))
+    (λ c. omega (arith, walk.taken-long _ _ _ (sym (c .before .before .before .operator-in .ensures) ∙ c .before .o .given .1)))
     (λ c κs. search needs)
     (λ c κs. search needs)
-    (λ c. sym (walk.dyadic-stop _ _ _ (sym (c .before .before .before .operator-two .ensures) ∙ c .before .e .given .1)))
-    (λ c. c .dyadic-one .ensures ∙ ap (dyadicOne _) (c .before .check-two .ensures) ∙ sym (walk.dyadic-is _ _ _ (sym (c .before .before .before .before .before .before .operator-two .ensures) ∙ c .before .before .before .before .o .given .1))))
+    (λ c. sym (walk.dyadic-stop _ _ _ (sym (c .before .before .before .operator-in .ensures) ∙ c .before .e .given .1)))
+    (λ c. c .dyadic-one .ensures ∙ ap (dyadicOne _) (c .before .check-two .ensures) ∙ sym (walk.dyadic-is _ _ _ (sym (c .before .before .before .before .before .before .operator-in .ensures) ∙ c .before .before .before .before .o .given .1))))
     (λ t. check-first-lts.spec (frame-at-reads.Asked, frame-at-reads.Learnt, check-node-below t, check-node.Post) (check-first-at t) check-first.Post
     (λ c κs. search needs)
     (λ c. search needs)
@@ -210,17 +209,17 @@ unfolding choose kinds
     (λ c. omega (arith, walk.tail-within _ (c .before .before .before .before .before .before .before .before .before .before .args .s .now) (c .before .before .before .before .before .before .before .before .loop .at) _ _ (c .before .before .before .before .before .before .before .before .loop .inv .0) (sym (c .before .before .before .before .before .check-first .ensures) ∙ c .before .before .before .n .given .1)))
     (λ c. (omega (arith, walk.tail-within _ (c .before .before .before .before .before .before .before .before .before .before .args .s .now) (c .before .before .before .before .before .before .before .before .loop .at) _ _ (c .before .before .before .before .before .before .before .before .loop .inv .0) (sym (c .before .before .before .before .before .check-first .ensures) ∙ c .before .before .before .n .given .1)), omega (arith, walk.tail-within _ (c .before .before .before .before .before .before .before .before .before .before .args .s .now) (c .before .before .before .before .before .before .before .before .loop .at) _ _ (c .before .before .before .before .before .before .before .before .loop .inv .0) (sym (c .before .before .before .before .before .check-first .ensures) ∙ c .before .before .before .n .given .1)), (c .before .before .before .before .before .before .before .before .loop .inv .2 .0 - 1, omega (arith, walk.tail-within _ (c .before .before .before .before .before .before .before .before .before .before .args .s .now) (c .before .before .before .before .before .before .before .before .loop .at) _ _ (c .before .before .before .before .before .before .before .before .loop .inv .0) (sym (c .before .before .before .before .before .check-first .ensures) ∙ c .before .before .before .n .given .1)), c .before .before .before .before .before .before .before .before .loop .inv .2 .2 ∙ walk.many-on _ (c .before .before .before .before .before .before .before .before .before .before .args .s .now) _ _ _ _ _ _ _ _ (c .before .before .before .before .before .before .before .loop-test .taken) (c .before .before .before .before .before .before .before .before .loop .inv .2 .1) (sym (c .before .before .before .before .before .check-first .ensures) ∙ c .before .before .before .n .given .1) (c .and .ensures) (c .before .plain-shape .ensures))))
     (λ c. sym (c .before .loop .inv .2 .2 ∙ walk.many-end _ (c .before .before .before .args .s .now) _ _ _ _ (c .loop-test .left))))
-    (λ t. check-monadic-lts.spec (operator-one-reads.Asked, operator-one-reads.Learnt, check-one-below t, check-one.Post, monadic-one-reads.Asked, monadic-one-reads.Learnt) (check-monadic-at t) check-monadic.Post
+    (λ t. check-monadic-lts.spec (operator-in-reads.Asked, operator-in-reads.Learnt, check-one-below t, check-one.Post, monadic-one-reads.Asked, monadic-one-reads.Learnt) (check-monadic-at t) check-monadic.Post
     (λ c κs. search needs)
     (λ c. search needs)
     (λ c. search needs)
-    (λ c. omega (arith, walk.taken-long _ _ _ (sym (c .before .before .operator-one .ensures) ∙ c .enum-told .given .1)))
-    (λ c. omega (arith, walk.taken-long _ _ _ (sym (c .before .before .operator-one .ensures) ∙ c .enum-told .given .1)))
-    (λ c. omega (arith, walk.taken-long _ _ _ (sym (c .before .before .operator-one .ensures) ∙ c .enum-told .given .1)))
+    (λ c. omega (arith, walk.taken-long _ _ _ (sym (c .before .before .operator-in .ensures) ∙ c .enum-told .given .1)))
+    (λ c. omega (arith, walk.taken-long _ _ _ (sym (c .before .before .operator-in .ensures) ∙ c .enum-told .given .1)))
+    (λ c. omega (arith, walk.taken-long _ _ _ (sym (c .before .before .operator-in .ensures) ∙ c .enum-told .given .1)))
     (λ c κs. search needs)
     (λ c κs. search needs)
-    (λ c. sym (walk.monadic-stop _ _ _ (sym (c .before .before .before .operator-one .ensures) ∙ c .before .e .given .1)))
-    (λ c. c .monadic-one .ensures ∙ ap monadicOne (c .before .check-one .ensures) ∙ sym (walk.monadic-is _ _ _ (sym (c .before .before .before .before .before .operator-one .ensures) ∙ c .before .before .before .enum-told .given .1))))
+    (λ c. sym (walk.monadic-stop _ _ _ (sym (c .before .before .before .operator-in .ensures) ∙ c .before .e .given .1)))
+    (λ c. c .monadic-one .ensures ∙ ap monadicOne (c .before .check-one .ensures) ∙ sym (walk.monadic-is _ _ _ (sym (c .before .before .before .before .before .operator-in .ensures) ∙ c .before .before .before .enum-told .given .1))))
     (λ t. check-node-lts.spec (leaf-one-reads.Asked, leaf-one-reads.Learnt, bool-body-reads.Asked, bool-body-reads.Learnt, num-body-reads.Asked, num-body-reads.Learnt, str-body-reads.Asked, str-body-reads.Learnt, date-body-reads.Asked, date-body-reads.Learnt, timestamp-body-reads.Asked, timestamp-body-reads.Learnt, spatial-body-reads.Asked, spatial-body-reads.Learnt, is-name-reads.Asked, is-name-reads.Learnt, check-monadic-below t, check-monadic.Post, check-dyadic-below t, check-dyadic.Post, check-function-below t, check-function.Post, check-many-below t, check-many.Post, array-one-reads.Asked, array-one-reads.Learnt, check-two-below t, check-two.Post, interval-one-reads.Asked, interval-one-reads.Learnt) (check-node-at t) check-node.Post
     (λ c. sym (walk.node-zero _ _ _ (c .if1 .taken)))
     (λ c κs. search needs)
