@@ -149,6 +149,12 @@ unfolding shown plain
 plain-shown n zero h = refl
 plain-shown n (suc s) h = simp (ne-eqb (n % 10) 0 h, ne-eqb (suc s) 0 (λ (e : suc s ≡ 0). let v : ⊥ = omega arith in v))
 
+-- no fraction is left
+pub shown-plain : (n s : ℕ) → s ≡ 0 → shown n s ≡ plain n s
+unfolding shown plain
+shown-plain n zero e = refl
+shown-plain n (suc s) e = absurd (let v : ⊥ = omega arith in v)
+
 -- a closing zero is dropped
 pub plain-drop : (n s : ℕ) → 0 < s → n % 10 ≡ 0 → plain (n / 10) (s - 1) ≡ plain n s
 unfolding plain
