@@ -64,13 +64,16 @@ mid-length xs a e h g = length-take-le (e - a) (drop a xs) (rw length-drop (omeg
 
 -- ---- the test before a write
 
+-- it does not fit, and nothing is changed
+pub not-placed : (out : List ℕ) (at : ℕ) (t : List ℕ) → length out < at + length t → (out ≡ placed out at t) × (at ≡ placedEnd out at t)
+not-placed out at t h = (sym (placed-over out at t h), sym (placedEnd-over out at t h))
+
 module _ (out : List ℕ) (at : ℕ) (t : List ℕ) {w : ℕ} {b : Bool} (e : w ≡ length t) (f : b ≡ ltb (length out) (at + w)) where
   over : b ≡ true → length out < at + length t
   over g = let h = ltb-true (length out) (at + w) (sym f ∙ g) in omega arith
 
-  -- it does not fit, and nothing is changed
   pub no-room : b ≡ true → (out ≡ placed out at t) × (at ≡ placedEnd out at t)
-  no-room g = (sym (placed-over out at t (over g)), sym (placedEnd-over out at t (over g)))
+  no-room g = not-placed out at t (over g)
 
   pub room : b ≡ false → at + length t ≤ length out
   room g = let h = ltb-false (length out) (at + w) (sym f ∙ g) in omega arith

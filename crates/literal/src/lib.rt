@@ -1,9 +1,10 @@
 ghost use mathlib.Core.Path.{_≡_};
 ghost use Prim.Native.Nat.{ℕ, _+_, _/_, _%_, _^_, _≤_, _<_};
+ghost use mathlib.Core.List.{_++_};
 ghost use lib.ListN.{length};
 ghost use lib.Dec.{ltb};
 ghost use lib.IntN.{natAbs};
-ghost use Rattle.literal.specs.Literal.{low, decimal, plain, sign, numText, quoted, collate, dateText, timestampText, spatialText};
+ghost use Rattle.literal.specs.Literal.{boolText, unboundedText, low, decimal, plain, sign, numText, quoted, collate, dateText, timestampText, spatialText};
 ghost use Rattle.literal.specs.LiteralLaws.{shown};
 ghost use Rattle.literal.specs.Placed.{placed, placedEnd};
 
@@ -300,4 +301,61 @@ pub fn put_spatial(srid: usize, w: &[u8], out: &mut [u8], at: usize) -> usize
     let number = put(b", ", out, comma);
     let close = put_decimal(srid, out, number);
     put(b")", out, close)
+}
+
+// Writes a text in quotes and its collation.
+pub fn put_collated(s: &[u8], name: &[u8], out: &mut [u8], at: usize) -> usize
+    ensures text { λ r. ⌜ now (out .exit) ≡ placed (now (out .entry)) at (quoted (now (s .entry)) ++ collate (now (name .entry))) ⌝ }
+    ensures end { λ r. ⌜ r ≡ placedEnd (now (out .entry)) at (quoted (now (s .entry)) ++ collate (now (name .entry))) ⌝ }
+{
+    let n = s.len() + 2;
+    if lacks_room(out.len(), at, n) {
+        return at;
+    }
+    let end = at + n;
+    if lacks_room(out.len(), end, name.len() + 9) {
+        return at;
+    }
+    let collation = put_quoted(s, out, at);
+    put_collate(name, out, collation)
+}
+
+// Writes TRUE or FALSE.
+pub fn put_bool(b: bool, out: &mut [u8], at: usize) -> usize
+    ensures text { λ r. ⌜ now (out .exit) ≡ placed (now (out .entry)) at (boolText b) ⌝ }
+    ensures end { λ r. ⌜ r ≡ placedEnd (now (out .entry)) at (boolText b) ⌝ }
+{
+    if b {
+        return put(b"TRUE", out, at);
+    }
+    put(b"FALSE", out, at)
+}
+
+// Writes an open end.
+pub fn put_unbounded(out: &mut [u8], at: usize) -> usize
+    ensures text { λ r. ⌜ now (out .exit) ≡ placed (now (out .entry)) at unboundedText ⌝ }
+    ensures end { λ r. ⌜ r ≡ placedEnd (now (out .entry)) at unboundedText ⌝ }
+{
+    put(b"'-2021-01-01'", out, at)
+}
+
+// How many bytes an open end takes.
+pub fn unbounded_len() -> usize
+    ensures { λ r. ⌜ r ≡ length unboundedText ⌝ }
+{
+    13
+}
+
+// How many bytes any date takes.
+pub fn date_len() -> usize
+    ensures { λ r. ⌜ ((y m d : ℕ) → r ≡ length (dateText y m d)) ⌝ }
+{
+    12
+}
+
+// How many bytes any timestamp takes.
+pub fn timestamp_len() -> usize
+    ensures { λ r. ⌜ ((y m d hour minute second : ℕ) → r ≡ length (timestampText y m d hour minute second)) ⌝ }
+{
+    21
 }
