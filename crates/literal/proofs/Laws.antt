@@ -11,7 +11,7 @@ use lib.Dec.{ltb}
 use lib.IntN.{ℤ, natAbs}
 use borrow.Author.Tests.{ltb-true, ltb-false}
 use lib.Seq.{drop-cons, lt-length-set, getD-set-same, drop-set-lt, drop-drop, length-take-le, drop-at, sets, sets-eq, length-sets}
-use borrow.Rule.Slice.PartMut.{putMid, midOf, postOf, same-len-mid}
+use borrow.Rule.Slice.PartMut.{putMid, postOf, same-len-mid}
 use Rattle.literal.specs.Literal.{low, decimal, plain, sign, numText}
 use Rattle.literal.specs.LiteralLaws.{decimal-low}
 use Rattle.literal.specs.Placed.{placed, placedEnd}

@@ -1,23 +1,16 @@
 -- `literal::fill_shown` meets its contract: the fraction, the point and the whole part fill the three parts of the text.
 use native.Mathlib.Omega.{arith}
-use borrow.Author.Tests.{ltb-true, ltb-false}
 use mathlib.Core.Path.{_≡_, refl, ap, sym, _∙_}
-use mathlib.Core.List.{List, [], _∷_, _++_}
-use Prim.Native.Nat.{ℕ, _+_, _-_, _≤_, _<_}
-use lib.ListN.{length, take, drop}
+use mathlib.Core.List.{List, _∷_, _++_}
+use Prim.Native.Nat.{ℕ, _+_, _-_, _/_, _^_}
+use lib.ListN.{length, take, drop, set, length-set, length-append}
 use borrow.Author.Needs.{needs}
-use Prim.Native.Nat.{_/_, _^_}
 use Rattle.literal.specs.Literal.{low, decimal, pointed}
 use Rattle.literal.specs.LiteralLaws.{shown, shown-whole, shown-pointed, length-pointed, length-low, decimal-low, decimal-some}
-use lib.ListN.{set, length-set, length-append}
 use borrow.Rule.Slice.PartMut.{putMid}
-use Rattle.literal.proofs.Laws.{positive, put-length, fraction, whole-part}
-use Rattle.literal.proofs.Laws.{filled, mid-length}
+use Rattle.literal.proofs.Laws.{positive, put-length, fraction, whole-part, filled}
 use Rattle.literal.proofs.fill_shown.Statement.{statement}
 use Rattle.literal.proofs.fill_shown.Tie as tie
-use Rattle.literal.proofs.fill_shown.Reads as reads
-use Rattle.literal.proofs.fill_shown.Lts as lts
-use Rattle.literal.proofs.fill_low.Reads as fill-low-reads
 
 -- how long the part is
 long : (n s : ℕ) (p : List ℕ) → (s ≡ 0 → ⊥) → length p ≡ length (shown n s) → length p ≡ length (decimal (n / 10 ^ s)) + (1 + s)

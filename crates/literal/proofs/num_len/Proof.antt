@@ -1,10 +1,7 @@
 -- `literal::num_len` meets its contract: the bytes of the sign and those of the shortened number.
 use native.Mathlib.Omega.{arith}
-use borrow.Author.Tests.{ltb-true, ltb-false}
-use mathlib.Core.Path.{_≡_, refl, ap, sym, _∙_}
-use mathlib.Core.List.{List, [], _∷_, _++_}
-use Prim.Native.Nat.{ℕ, _+_, _-_, _≤_, _<_}
-use lib.ListN.{length, take, drop}
+use mathlib.Core.Path.{ap, _∙_}
+use lib.ListN.{length}
 use borrow.Author.Needs.{needs}
 use lib.IntN.{ℤ, natAbs}
 use mir.Syntax.{w64}
@@ -13,12 +10,6 @@ use Rattle.literal.specs.Literal.{sign}
 use Rattle.literal.proofs.Laws.{num-length}
 use Rattle.literal.proofs.num_len.Statement.{statement}
 use Rattle.literal.proofs.num_len.Tie as tie
-use Rattle.literal.proofs.num_len.Reads as reads
-use Rattle.literal.proofs.num_len.Lts as lts
-use Rattle.literal.proofs.magnitude.Reads as magnitude-reads
-use Rattle.literal.proofs.shorten.Reads as shorten-reads
-use Rattle.literal.proofs.shown_len.Reads as shown-len-reads
-use Rattle.literal.proofs.sign_len.Reads as sign-len-reads
 
 magnitude-requires : tie.Need-magnitude-requires
 magnitude-requires c κs = search needs

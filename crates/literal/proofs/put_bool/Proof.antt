@@ -1,16 +1,7 @@
 -- `literal::put_bool` meets its contract: each arm writes its word.
-use native.Mathlib.Omega.{arith}
-use borrow.Author.Tests.{ltb-true, ltb-false}
-use mathlib.Core.Path.{_≡_, refl, ap, sym, _∙_}
-use mathlib.Core.List.{List, [], _∷_, _++_}
-use Prim.Native.Nat.{ℕ, _+_, _-_, _≤_, _<_}
-use lib.ListN.{length, take, drop}
 use borrow.Author.Needs.{needs}
 use Rattle.literal.proofs.put_bool.Statement.{statement}
 use Rattle.literal.proofs.put_bool.Tie as tie
-use Rattle.literal.proofs.put_bool.Reads as reads
-use Rattle.literal.proofs.put_bool.Lts as lts
-use Rattle.literal.proofs.put.Reads as put-reads
 
 slice-aggregate-put : tie.Need-slice-aggregate-put
 slice-aggregate-put c = search needs

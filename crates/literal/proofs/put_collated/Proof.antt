@@ -1,23 +1,17 @@
 -- `literal::put_collated` meets its contract: the quoted text, then its collation behind it.
 use native.Mathlib.Omega.{arith}
 use borrow.Author.Tests.{ltb-true, ltb-false}
-use mathlib.Core.Path.{_≡_, refl, ap, sym, _∙_}
-use mathlib.Core.List.{List, [], _∷_, _++_}
-use Prim.Native.Nat.{ℕ, _+_, _-_, _≤_, _<_}
-use lib.ListN.{length, take, drop}
+use mathlib.Core.Path.{sym, _∙_}
+use mathlib.Core.List.{_++_}
+use Prim.Native.Nat.{_+_}
+use lib.ListN.{length, length-append}
 use borrow.Author.Needs.{needs}
-use lib.ListN.{length-append}
 use Rattle.literal.specs.Literal.{quoted, collate}
 use Rattle.literal.specs.LiteralLaws.{length-quoted, length-collate}
-use Rattle.literal.specs.PlacedLaws.{Wrote, wrote, wrote-then}
+use Rattle.literal.specs.PlacedLaws.{wrote, wrote-then}
 use Rattle.literal.proofs.Laws.{not-placed, both-placed}
 use Rattle.literal.proofs.put_collated.Statement.{statement}
 use Rattle.literal.proofs.put_collated.Tie as tie
-use Rattle.literal.proofs.put_collated.Reads as reads
-use Rattle.literal.proofs.put_collated.Lts as lts
-use Rattle.literal.proofs.lacks_room.Reads as lacks-room-reads
-use Rattle.literal.proofs.put_collate.Reads as put-collate-reads
-use Rattle.literal.proofs.put_quoted.Reads as put-quoted-reads
 
 add-n : tie.Need-add-n
 add-n c = search needs

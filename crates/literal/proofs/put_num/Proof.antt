@@ -1,31 +1,20 @@
 -- `literal::put_num` meets its contract: the sign, then the part behind it that is filled with the shortened number.
 use native.Mathlib.Omega.{arith}
-use borrow.Author.Tests.{ltb-true, ltb-false}
-use mathlib.Core.Path.{_≡_, refl, ap, sym, _∙_}
-use mathlib.Core.List.{List, [], _∷_, _++_}
-use Prim.Native.Nat.{ℕ, _+_, _-_, _≤_, _<_}
-use lib.ListN.{length, take, drop}
+use mathlib.Core.Path.{_≡_, ap, sym, _∙_}
+use mathlib.Core.List.{List, _++_}
+use Prim.Native.Nat.{ℕ, _+_}
+use lib.ListN.{length}
 use borrow.Author.Needs.{needs}
-use Rattle.literal.specs.PlacedLaws.{Wrote, wrote, wrote-then, wrote-same}
+use Rattle.literal.specs.PlacedLaws.{wrote, wrote-same}
 use lib.Seq.{length-sets}
 use Rattle.literal.specs.Literal.{sign, numText}
 use lib.IntN.{ℤ, natAbs}
 use mir.Syntax.{w64}
 use mir.ValLaws.{toZ-ofZ}
 use Rattle.literal.specs.Placed.{placed, placedEnd}
-use Rattle.literal.proofs.Laws.{num-length, num-is, wrote-part}
-use Rattle.literal.proofs.Laws.{no-room, room, both-placed}
+use Rattle.literal.proofs.Laws.{num-length, num-is, wrote-part, no-room, room, both-placed}
 use Rattle.literal.proofs.put_num.Statement.{statement}
 use Rattle.literal.proofs.put_num.Tie as tie
-use Rattle.literal.proofs.put_num.Reads as reads
-use Rattle.literal.proofs.put_num.Lts as lts
-use Rattle.literal.proofs.fill_shown.Reads as fill-shown-reads
-use Rattle.literal.proofs.lacks_room.Reads as lacks-room-reads
-use Rattle.literal.proofs.magnitude.Reads as magnitude-reads
-use Rattle.literal.proofs.put_sign.Reads as put-sign-reads
-use Rattle.literal.proofs.shorten.Reads as shorten-reads
-use Rattle.literal.proofs.shown_len.Reads as shown-len-reads
-use Rattle.literal.proofs.sign_len.Reads as sign-len-reads
 
 magnitude-requires : tie.Need-magnitude-requires
 magnitude-requires c κs = search needs

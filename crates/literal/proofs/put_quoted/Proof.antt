@@ -1,21 +1,14 @@
 -- `literal::put_quoted` meets its contract: a quotation mark, the text, a quotation mark.
 use native.Mathlib.Omega.{arith}
-use borrow.Author.Tests.{ltb-true, ltb-false}
-use mathlib.Core.Path.{_≡_, refl, ap, sym, _∙_}
-use mathlib.Core.List.{List, [], _∷_, _++_}
-use Prim.Native.Nat.{ℕ, _+_, _-_, _≤_, _<_}
-use lib.ListN.{length, take, drop}
+use mathlib.Core.Path.{sym}
+use mathlib.Core.List.{[], _∷_}
 use borrow.Author.Needs.{needs}
 use Rattle.literal.specs.Literal.{quoted}
 use Rattle.literal.specs.LiteralLaws.{length-quoted}
 use Rattle.literal.proofs.Laws.{no-room, room, both-placed}
-use Rattle.literal.specs.PlacedLaws.{Wrote, wrote, wrote-then, wrote-same}
+use Rattle.literal.specs.PlacedLaws.{wrote, wrote-then}
 use Rattle.literal.proofs.put_quoted.Statement.{statement}
 use Rattle.literal.proofs.put_quoted.Tie as tie
-use Rattle.literal.proofs.put_quoted.Reads as reads
-use Rattle.literal.proofs.put_quoted.Lts as lts
-use Rattle.literal.proofs.lacks_room.Reads as lacks-room-reads
-use Rattle.literal.proofs.put.Reads as put-reads
 
 add-lacks-room : tie.Need-add-lacks-room
 add-lacks-room c = search needs

@@ -1,20 +1,14 @@
 -- `literal::put_sign` meets its contract: the minus where m is below zero, else nothing.
-use native.Mathlib.Omega.{arith}
-use borrow.Author.Tests.{ltb-true, ltb-false}
-use mathlib.Core.Path.{_≡_, refl, ap, sym, _∙_}
-use mathlib.Core.List.{List, [], _∷_, _++_}
-use Prim.Native.Nat.{ℕ, _+_, _-_, _≤_, _<_}
-use lib.ListN.{length, take, drop}
+use mathlib.Core.Path.{ap, sym, _∙_}
+use mathlib.Core.List.{List}
+use Prim.Native.Nat.{ℕ}
 use borrow.Author.Needs.{needs}
 use Rattle.literal.specs.Literal.{sign}
 use Rattle.literal.specs.Placed.{placed, placedEnd}
 use Rattle.literal.specs.PlacedLaws.{placed-none, placedEnd-none}
-use Rattle.literal.proofs.Signed.{Below, Above, below, above}
+use Rattle.literal.proofs.Signed.{below, above}
 use Rattle.literal.proofs.put_sign.Statement.{statement}
 use Rattle.literal.proofs.put_sign.Tie as tie
-use Rattle.literal.proofs.put_sign.Reads as reads
-use Rattle.literal.proofs.put_sign.Lts as lts
-use Rattle.literal.proofs.put.Reads as put-reads
 
 slice-aggregate-put : tie.Need-slice-aggregate-put
 slice-aggregate-put c = search needs

@@ -1,26 +1,16 @@
 -- `literal::put_spatial` meets its contract: five texts, each behind the one before.
 use native.Mathlib.Omega.{arith}
-use borrow.Author.Tests.{ltb-true, ltb-false}
-use mathlib.Core.Path.{_≡_, refl, ap, sym, _∙_}
-use mathlib.Core.List.{List, [], _∷_, _++_}
-use Prim.Native.Nat.{ℕ, _+_, _-_, _≤_, _<_}
-use lib.ListN.{length, take, drop}
+use mathlib.Core.Path.{_≡_}
+use mathlib.Core.List.{[], _∷_, append-assoc}
+use Prim.Native.Nat.{_+_}
+use lib.ListN.{length, length-append}
 use borrow.Author.Needs.{needs}
-use lib.ListN.{length-append}
-use mathlib.Core.List.{append-assoc}
 use Rattle.literal.specs.Literal.{quoted, decimal, spatialText}
 use Rattle.literal.specs.LiteralLaws.{length-quoted, length-spatial}
-use Rattle.literal.specs.PlacedLaws.{Wrote, wrote, wrote-then, wrote-same}
+use Rattle.literal.specs.PlacedLaws.{wrote, wrote-then, wrote-same}
 use Rattle.literal.proofs.Laws.{no-room, room, both-placed}
 use Rattle.literal.proofs.put_spatial.Statement.{statement}
 use Rattle.literal.proofs.put_spatial.Tie as tie
-use Rattle.literal.proofs.put_spatial.Reads as reads
-use Rattle.literal.proofs.put_spatial.Lts as lts
-use Rattle.literal.proofs.decimal_len.Reads as decimal-len-reads
-use Rattle.literal.proofs.lacks_room.Reads as lacks-room-reads
-use Rattle.literal.proofs.put.Reads as put-reads
-use Rattle.literal.proofs.put_decimal.Reads as put-decimal-reads
-use Rattle.literal.proofs.put_quoted.Reads as put-quoted-reads
 
 decimal-len-requires : tie.Need-decimal-len-requires
 decimal-len-requires c κs = search needs

@@ -1,17 +1,8 @@
 -- `literal::put_unbounded` meets its contract: the bytes are those of the text.
-use native.Mathlib.Omega.{arith}
-use borrow.Author.Tests.{ltb-true, ltb-false}
-use mathlib.Core.Path.{_≡_, refl, ap, sym, _∙_}
-use mathlib.Core.List.{List, [], _∷_, _++_}
-use Prim.Native.Nat.{ℕ, _+_, _-_, _≤_, _<_}
-use lib.ListN.{length, take, drop}
 use borrow.Author.Needs.{needs}
-use Rattle.literal.specs.Literal.{quoted, openEnd, unboundedText}
+use Rattle.literal.specs.Literal.{quoted, openEnd}
 use Rattle.literal.proofs.put_unbounded.Statement.{statement}
 use Rattle.literal.proofs.put_unbounded.Tie as tie
-use Rattle.literal.proofs.put_unbounded.Reads as reads
-use Rattle.literal.proofs.put_unbounded.Lts as lts
-use Rattle.literal.proofs.put.Reads as put-reads
 
 slice-aggregate-put : tie.Need-slice-aggregate-put
 slice-aggregate-put c = search needs

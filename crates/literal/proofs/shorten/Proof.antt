@@ -1,17 +1,12 @@
 -- `literal::shorten` meets its contract: each turn drops one closing zero, which keeps the text.
 use native.Mathlib.Omega.{arith}
-use borrow.Author.Tests.{ltb-true, ltb-false}
-use mathlib.Core.Path.{_≡_, refl, ap, sym, _∙_}
-use mathlib.Core.List.{List, [], _∷_, _++_}
-use Prim.Native.Nat.{ℕ, _+_, _-_, _≤_, _<_}
+use mathlib.Core.Path.{_≡_, refl, sym, _∙_}
+use Prim.Native.Nat.{_<_}
 use borrow.Author.Needs.{needs}
 use Rattle.literal.specs.Literal.{plain}
-use lib.ListN.{length, take, drop}
 use Rattle.literal.specs.LiteralLaws.{plain-shown, plain-drop, shown-plain}
 use Rattle.literal.proofs.shorten.Statement.{statement}
 use Rattle.literal.proofs.shorten.Tie as tie
-use Rattle.literal.proofs.shorten.Reads as reads
-use Rattle.literal.proofs.shorten.Lts as lts
 
 abbrev Inv-loop : tie.InvT-loop
 Inv-loop n scale m₀ s₀ m s = (plain m s ≡ plain n scale) × (s < 256)

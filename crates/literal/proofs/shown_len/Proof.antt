@@ -1,18 +1,13 @@
 -- `literal::shown_len` meets its contract: the whole part has what is left of the digits of n, or one zero.
 use native.Mathlib.Omega.{arith}
-use borrow.Author.Tests.{ltb-true, ltb-false}
-use mathlib.Core.Path.{_≡_, refl, ap, sym, _∙_}
-use mathlib.Core.List.{List, [], _∷_, _++_}
-use Prim.Native.Nat.{ℕ, _+_, _-_, _≤_, _<_}
-use lib.ListN.{length, take, drop}
+use mathlib.Core.Path.{ap, sym, _∙_}
+use Prim.Native.Nat.{ℕ}
+use lib.ListN.{length}
 use borrow.Author.Needs.{needs}
 use Rattle.literal.proofs.Laws.{positive}
 use Rattle.literal.specs.LiteralLaws.{shown, shown-whole, shown-pointed, length-pointed, whole-long, whole-short}
 use Rattle.literal.proofs.shown_len.Statement.{statement}
 use Rattle.literal.proofs.shown_len.Tie as tie
-use Rattle.literal.proofs.shown_len.Reads as reads
-use Rattle.literal.proofs.shown_len.Lts as lts
-use Rattle.literal.proofs.decimal_len.Reads as decimal-len-reads
 
 decimal-len-requires : tie.Need-decimal-len-requires
 decimal-len-requires c κs = search needs

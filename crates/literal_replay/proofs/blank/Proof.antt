@@ -1,11 +1,9 @@
 -- `literal_replay::blank` stays in bounds and ends: i counts up to the length.
-use Prim.Native.Nat.{_≤_, _-_, _+_}
+use Prim.Native.Nat.{_≤_, _-_}
 use lib.ListN.{length}
 use borrow.Author.Needs.{needs}
 use Rattle.literal_replay.proofs.blank.Statement.{statement}
 use Rattle.literal_replay.proofs.blank.Tie as tie
-use Rattle.literal_replay.proofs.blank.Reads as reads
-use Rattle.literal_replay.proofs.blank.Lts as lts
 
 abbrev Inv-loop : tie.InvT-loop
 Inv-loop s i₀ i = i ≤ length s

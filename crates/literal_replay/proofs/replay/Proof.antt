@@ -1,14 +1,9 @@
 -- `literal_replay::replay` stays in bounds and ends: at moves on by at least six bytes a case.
-use Prim.Native.Nat.{_≤_, _-_, _+_}
+use Prim.Native.Nat.{_≤_, _-_}
 use lib.ListN.{length}
 use borrow.Author.Needs.{needs}
 use Rattle.literal_replay.proofs.replay.Statement.{statement}
 use Rattle.literal_replay.proofs.replay.Tie as tie
-use Rattle.literal_replay.proofs.replay.Reads as reads
-use Rattle.literal_replay.proofs.replay.Lts as lts
-use Rattle.literal_replay.proofs.dword_at.Reads as dword-at-reads
-use Rattle.literal_replay.proofs.score.Reads as score-reads
-use Rattle.literal_replay.proofs.word_at.Reads as word-at-reads
 
 abbrev Inv-loop : tie.InvT-loop
 Inv-loop list cases₀ right₀ at₀ cases right at = (right ≤ cases) × ((cases ≤ at) × (at ≤ length list))

@@ -1,6 +1,6 @@
 -- `literal_replay::signed_at` stays in range: -1 less a number below 2^63 is an i64.
 use native.Mathlib.Omega.{arith}
-use mathlib.Core.Path.{_≡_, sym, subst}
+use mathlib.Core.Path.{sym, subst}
 use Prim.Native.Nat.{ℕ, zero, suc, _+_, _-_, _*_, _^_, _<_}
 use lib.IntN.{ℤ, pos, negsuc, _-ℤ_}
 use mir.Syntax.{w64}
@@ -9,9 +9,6 @@ use mir.ValLaws.{toZ-ofZ}
 use borrow.Author.Needs.{needs}
 use Rattle.literal_replay.proofs.signed_at.Statement.{statement}
 use Rattle.literal_replay.proofs.signed_at.Tie as tie
-use Rattle.literal_replay.proofs.signed_at.Reads as reads
-use Rattle.literal_replay.proofs.signed_at.Lts as lts
-use Rattle.literal_replay.proofs.dword_at.Reads as dword-at-reads
 
 least : (x : ℕ) → x < 2 ^ 63 → SFits w64 (negsuc 0 -ℤ pos x)
 least zero h = record { sfits = omega arith }
