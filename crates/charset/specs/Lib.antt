@@ -1,1 +1,2 @@
 pub mod Charset
+pub mod WordKey

@@ -1,1 +1,193 @@
 ghost use mathlib.Core.Path.{_≡_};
+ghost use Prim.Native.Nat.{_≤_, _<_};
+ghost use lib.ListN.{length};
+ghost use Rattle.choice.specs.Choice.{between, all};
+ghost use Rattle.charset.specs.Charset.{letter, digit, nameStart, nameByte, upper, uppers, reserved, name, strByte, spatialByte};
+ghost use Rattle.charset.specs.WordKey.{keyOf, Bytes};
+
+fn within(lo: u8, b: u8, hi: u8) -> bool
+    ensures { λ r. ⌜ r ≡ between lo b hi ⌝ }
+{
+    if lo <= b { b <= hi } else { false }
+}
+
+fn is_letter(b: u8) -> bool
+    ensures { λ r. ⌜ r ≡ letter b ⌝ }
+{
+    if within(65, b, 90) {
+        return true;
+    }
+    within(97, b, 122)
+}
+
+fn is_digit(b: u8) -> bool
+    ensures { λ r. ⌜ r ≡ digit b ⌝ }
+{
+    within(48, b, 57)
+}
+
+pub fn is_name_start(b: u8) -> bool
+    ensures { λ r. ⌜ r ≡ nameStart b ⌝ }
+{
+    if is_letter(b) {
+        return true;
+    }
+    b == 95
+}
+
+pub fn is_name_byte(b: u8) -> bool
+    ensures { λ r. ⌜ r ≡ nameByte b ⌝ }
+{
+    if is_name_start(b) {
+        return true;
+    }
+    is_digit(b)
+}
+
+// A letter as its capital, any other byte as it is.
+pub fn upper_of(b: u8) -> u8
+    ensures { λ r. ⌜ r ≡ upper b ⌝ }
+{
+    if within(97, b, 122) { b - 32 } else { b }
+}
+
+pub fn is_str_byte(b: u8) -> bool
+    ensures { λ r. ⌜ r ≡ strByte b ⌝ }
+{
+    if within(32, b, 126) {
+        if b == 39 {
+            return false;
+        }
+        return true;
+    }
+    false
+}
+
+fn is_spatial_byte(b: u8) -> bool
+    ensures { λ r. ⌜ r ≡ spatialByte b ⌝ }
+{
+    if is_letter(b) {
+        return true;
+    }
+    if is_digit(b) {
+        return true;
+    }
+    if b == 32 {
+        return true;
+    }
+    if within(40, b, 41) {
+        return true;
+    }
+    within(44, b, 46)
+}
+
+fn are_name_bytes(s: &[u8]) -> bool
+    ensures { λ r. ⌜ r ≡ all nameByte (now (s .entry)) ⌝ }
+{
+    let mut i = 0;
+    while i < s.len() {
+        if is_name_byte(s[i]) {
+            i += 1;
+        } else {
+            return false;
+        }
+    }
+    true
+}
+
+// Every byte may stand in a Str text.
+pub fn is_str_text(s: &[u8]) -> bool
+    ensures { λ r. ⌜ r ≡ all strByte (now (s .entry)) ⌝ }
+{
+    let mut i = 0;
+    while i < s.len() {
+        if is_str_byte(s[i]) {
+            i += 1;
+        } else {
+            return false;
+        }
+    }
+    true
+}
+
+// Every byte may stand in a Spatial text.
+pub fn is_spatial_text(s: &[u8]) -> bool
+    ensures { λ r. ⌜ r ≡ all spatialByte (now (s .entry)) ⌝ }
+{
+    let mut i = 0;
+    while i < s.len() {
+        if is_spatial_byte(s[i]) {
+            i += 1;
+        } else {
+            return false;
+        }
+    }
+    true
+}
+
+fn wide(x: u8) -> u64
+    ensures { λ r. ⌜ (r ≡ x) × (r < 256) ⌝ }
+{
+    x as u64
+}
+
+// A word of up to seven bytes, its letters as capitals, as one number, so that it is compared with a reserved word at once.
+fn word_key(s: &[u8]) -> u64
+    requires { ⌜ length (now s) ≤ 7 ⌝ }
+    ensures { λ r. ⌜ (r ≡ keyOf (uppers (now (s .entry)))) × Bytes (uppers (now (s .entry))) ⌝ }
+{
+    let mut key: u64 = 1;
+    let mut i = s.len();
+    while 0 < i {
+        i -= 1;
+        key = key * 256 + wide(upper_of(s[i]));
+    }
+    key
+}
+
+fn is_reserved(s: &[u8]) -> bool
+    ensures { λ r. ⌜ r ≡ reserved (now (s .entry)) ⌝ }
+{
+    if 7 < s.len() {
+        return false;
+    }
+    let key = word_key(s);
+    match key {
+        21253697 => true, // AND
+        94088806341559618 => true, // BETWEEN
+        91572006860640067 => true, // COLLATE
+        22432068 => true, // DIV
+        1397261877574 => true, // FALSE
+        85577 => true, // IN
+        86857 => true, // IS
+        365365709132617 => true, // ISNULL
+        5457529164 => true, // LIKE
+        22302542 => true, // NOT
+        93533621538017102 => true, // NOTNULL
+        5575038286 => true, // NULL
+        86607 => true, // OR
+        5458186836 => true, // TRUE
+        _ => false,
+    }
+}
+
+// A name that the settings, a tree, a row or an SQL text may hold.
+pub fn is_name(s: &[u8]) -> bool
+    ensures { λ r. ⌜ r ≡ name (now (s .entry)) ⌝ }
+{
+    if s.len() < 1 {
+        return false;
+    }
+    if 64 < s.len() {
+        return false;
+    }
+    if is_name_start(s[0]) {
+        if are_name_bytes(s) {
+            if is_reserved(s) {
+                return false;
+            }
+            return true;
+        }
+    }
+    false
+}

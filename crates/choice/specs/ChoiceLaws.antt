@@ -5,11 +5,11 @@ use mathlib.Core.List.{List, [], _∷_}
 use mathlib.Core.Bool.{Bool, true, false}
 use native.Mathlib.Numerals.{add-one}
 use native.Mathlib.Omega.{arith}
-use lib.Dec.{eqb}
+use lib.Dec.{eqb, leb}
 use lib.ListN.{length, getD, drop, drop-of-length-le}
 use lib.Seq.{drop-cons}
-use borrow.Author.Tests.{eq-eqb, eqb-true}
-use Rattle.choice.specs.Choice.{pick, all, same}
+use borrow.Author.Tests.{eq-eqb, eqb-true, leb-true}
+use Rattle.choice.specs.Choice.{pick, both, between, all, some, same}
 
 -- the element at i passes: the rest decides
 pub all-next : (f : ℕ → Bool) (s : List ℕ) (i : ℕ) → i < length s → f (getD s i 0) ≡ true → all f (drop i s) ≡ all f (drop (i + 1) s)
@@ -41,3 +41,16 @@ same-true (x ∷ s) (y ∷ t) e = go (eqb x y) refl e (λ q. same-true s t q)
     go : (b : Bool) → eqb x y ≡ b → pick b (same s t) false ≡ true → (same s t ≡ true → s ≡ t) → _≡_ {A = List ℕ} (x ∷ s) (y ∷ t)
     go true p q f = let a : x ≡ y = eqb-true x y p in let r : s ≡ t = f q in cc
     go false p q f = cc
+
+pub both-true : (a b : Bool) → both a b ≡ true → (a ≡ true) × (b ≡ true)
+both-true true b e = (refl, e)
+both-true false b e = let z : false ≡ true = e in (cc, cc)
+
+pub between-true : (lo n hi : ℕ) → between lo n hi ≡ true → (lo ≤ n) × (n ≤ hi)
+between-true lo n hi e = let h = both-true (leb lo n) (leb n hi) e in (leb-true lo n (h .0), leb-true n hi (h .1))
+
+-- tests that agree find alike
+pub some-alike : {A : Type 0} (f g : A → Bool) (xs : List A) → ((x : A) → f x ≡ g x) → some f xs ≡ some g xs
+unfolding some
+some-alike f g [] h = refl
+some-alike f g (x ∷ xs) h = simp (h x) (ap (λ b. pick (g x) true b) (some-alike f g xs h))

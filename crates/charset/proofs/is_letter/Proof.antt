@@ -1,0 +1,26 @@
+-- `charset::is_letter` meets its contract: each `return` is the case of the definition that its tests name.
+use borrow.Author.Tests.{eq-eqb, ne-eqb, lt-ltb, le-ltb, le-leb, lt-leb, eqb-true, eqb-false, ltb-true, ltb-false, leb-true, leb-false}
+use Rattle.charset.specs.Charset.{letter, digit, nameStart, nameByte, upper, strByte, spatialByte, name}
+use borrow.Author.Needs.{needs}
+use Rattle.charset.proofs.is_letter.Statement.{statement}
+use Rattle.charset.proofs.is_letter.Tie as tie
+use Rattle.charset.proofs.is_letter.Reads as reads
+use Rattle.charset.proofs.is_letter.Lts as lts
+use Rattle.charset.proofs.within.Reads as within-reads
+
+within-requires : tie.Need-within-requires
+within-requires c κs = search needs
+
+returns : tie.Need-returns
+unfolding letter
+returns c = simp (← c .before .within .ensures, c .if1 .taken)
+
+within-requires-2 : tie.Need-within-requires-2
+within-requires-2 c κs = search needs
+
+returns-2 : tie.Need-returns-2
+unfolding letter
+returns-2 c = simp (← c .before .before .within .ensures, c .before .if1 .left, c .within2 .ensures)
+
+pub is-letter-spec : {M : Type 1} → statement M
+is-letter-spec = tie.close (tie.spec within-requires returns within-requires-2 returns-2)

@@ -1,0 +1,29 @@
+-- `charset::upper_of` meets its contract: each `return` is the case of the definition that its tests name.
+use borrow.Author.Tests.{eq-eqb, ne-eqb, lt-ltb, le-ltb, le-leb, lt-leb, eqb-true, eqb-false, ltb-true, ltb-false, leb-true, leb-false}
+use Rattle.charset.specs.Charset.{letter, digit, nameStart, nameByte, upper, strByte, spatialByte, name}
+use mathlib.Core.Path.{sym, _∙_}
+use native.Mathlib.Omega.{arith}
+use Rattle.choice.specs.ChoiceLaws.{between-true}
+use borrow.Author.Needs.{needs}
+use Rattle.charset.proofs.upper_of.Statement.{statement}
+use Rattle.charset.proofs.upper_of.Tie as tie
+use Rattle.charset.proofs.upper_of.Reads as reads
+use Rattle.charset.proofs.upper_of.Lts as lts
+use Rattle.charset.proofs.within.Reads as within-reads
+
+within-requires : tie.Need-within-requires
+within-requires c κs = search needs
+
+sub-result : tie.Need-sub-result
+sub-result c = omega (arith, between-true 97 (c .before .before .args .b) 122 (sym (c .before .within .ensures) ∙ c .if1 .taken))
+
+returns : tie.Need-returns
+unfolding upper
+returns c = simp (← c .before .within .ensures, c .if1 .taken)
+
+returns-2 : tie.Need-returns-2
+unfolding upper
+returns-2 c = simp (← c .before .within .ensures, c .if1 .left)
+
+pub upper-of-spec : {M : Type 1} → statement M
+upper-of-spec = tie.close (tie.spec within-requires sub-result returns returns-2)

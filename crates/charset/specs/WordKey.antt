@@ -1,0 +1,12 @@
+-- A word as one number, low byte first above a closing 1: how the code tells reserved words apart. No definition of document 01 rests on it.
+use Prim.Native.Nat.{ℕ, _+_, _*_, _<_}
+use mathlib.Core.List.{List, [], _∷_}
+
+abbrev pub keyOf : List ℕ → ℕ
+keyOf [] = 1
+keyOf (b ∷ s) = keyOf s * 256 + b
+
+-- each number is a byte
+abbrev pub Bytes : List ℕ → Type 0
+Bytes [] = Unit {0}
+Bytes (b ∷ s) = (b < 256) × Bytes s
