@@ -1,0 +1,5 @@
+pub mod Lex
+pub mod LexLaws
+pub mod Grammar
+pub mod Reading
+pub mod Places
