@@ -1,2 +1,4 @@
 pub mod TokenLaws
 pub mod IndexLaws
+pub mod Steps
+pub mod Simple
