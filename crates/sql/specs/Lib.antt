@@ -1,0 +1,4 @@
+pub mod Condition
+pub mod Ends
+pub mod Template
+pub mod Translators
