@@ -1,0 +1,1 @@
+// The records of a tree: their definitions stand in specs/.
