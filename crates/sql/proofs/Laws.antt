@@ -1,11 +1,13 @@
 -- A run of bytes that grows by one, and a text laid behind what a template holds.
 use mathlib.Core.Path.{_≡_, refl, ap, sym, _∙_}
 use mathlib.Core.List.{List, [], _∷_, _++_, append-assoc}
-use Prim.Native.Nat.{ℕ, suc, _+_, _≤_, _<_}
+use Prim.Native.Nat.{ℕ, suc, _+_, _-_, _≤_, _<_, min}
+use mathlib.Core.Logic.{⊎-elim}
+use native.Mathlib.Nat.{eq-zero-or-pos}
 use native.Mathlib.Numerals.{add-one}
 use native.Mathlib.Omega.{arith}
 use lib.ListN.{length, take, getD, set}
-use lib.Seq.{take-suc, take-suc-set}
+use lib.Seq.{take-suc, take-suc-set, take-all}
 use mathlib.Core.Bool.{Bool, true, false}
 use Rattle.choice.specs.Choice.{pick}
 use Rattle.sql.specs.Condition.{Cond, and, or, isNotNull, notNull, brackets, print, checkId, checkIds}
@@ -48,3 +50,11 @@ two-guards column i j base = go (column i) (column j)
 pub either-or : (c d : Cond) → eitherText (templateOf c) (templateOf d) ≡ templateOf (or (brackets c) (brackets d))
 unfolding print eitherText
 either-or c d = ap (λ (l : List ℕ). 40 ∷ l) (sym (append-assoc (templateOf c) (41 ∷ []) (32 ∷ 79 ∷ 82 ∷ 32 ∷ 40 ∷ (templateOf d ++ (41 ∷ [])))))
+
+-- no more than there is
+pub least-take : (s : List ℕ) (n : ℕ) → n ≡ min 96 (length s) → take n s ≡ take 96 s
+least-take s n e =
+    ⊎-elim
+    (λ (z : 96 - length s ≡ 0). let u : n ≡ 96 = omega arith in rw u)
+    (λ (z : 0 < 96 - length s). take-all n s (omega arith) ∙ sym (take-all 96 s (omega arith)))
+    (eq-zero-or-pos (96 - length s))

@@ -3,6 +3,8 @@ use Prim.Native.Nat.{ℕ}
 use mathlib.Core.List.{List, [], _∷_}
 use mathlib.Core.Bool.{Bool, true, false}
 use lib.ListN.{getD}
+use lib.Dec.{ltb}
+use Rattle.choice.specs.Choice.{pick}
 use Rattle.sql.specs.declared.End as end
 use Rattle.sql.specs.declared.End.the-variants.{Column, Instant, Other, Open, Null}
 use Rattle.sql.specs.declared.Operand as operand
@@ -21,7 +23,7 @@ isInterval (Interval e f) = true
 
 -- which of four ends are columns
 abbrev pub columns : List end.End → ℕ → Bool
-columns ends j = isColumn (getD ends j (Column 0 0))
+columns ends j = pick (ltb j 4) (isColumn (getD ends j (Column 0 0))) false
 
 -- an instant fills e0 or e2, and Null its partner
 abbrev pub startOf : operand.Operand → end.End

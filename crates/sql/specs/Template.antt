@@ -1,9 +1,9 @@
 -- A condition whose ends are still to be written: its text with the digits 0 to 3 where the ends go.
-use Prim.Native.Nat.{ℕ, _+_}
+use Prim.Native.Nat.{ℕ, _+_, _-_}
 use mathlib.Core.List.{List, [], _∷_, _++_}
 use mathlib.Core.Bool.{Bool}
 use lib.ListN.{take}
-use Rattle.choice.specs.Choice.{pick}
+use Rattle.choice.specs.Choice.{pick, between}
 use Rattle.sql.specs.Condition.{Cond, print}
 use Rattle.sql.specs.declared.Template as template
 
@@ -18,6 +18,11 @@ templateOf c = print digitOf c
 -- what a template of the code holds
 abbrev pub held : template.Template → List ℕ
 held t = take (t .len) (t .bytes)
+
+-- a template filled: each digit gives way to the text of its number
+unfoldable pub fill : (ℕ → List ℕ) → List ℕ → List ℕ
+fill slot [] = []
+fill slot (b ∷ s) = pick (between 48 b 57) (slot (b - 48)) (b ∷ []) ++ fill slot s
 
 -- check_ids on texts: i and j are digits
 unfoldable pub guardedText : ℕ → List ℕ → List ℕ

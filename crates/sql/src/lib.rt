@@ -2,8 +2,8 @@
 ghost use mathlib.Core.Path.{_≡_};
 ghost use mathlib.Core.List.{List, [], _∷_, _++_};
 ghost use mathlib.Core.Bool.{Bool, true, false};
-ghost use Prim.Native.Nat.{ℕ, _+_, _≤_, _<_};
-ghost use lib.ListN.{length};
+ghost use Prim.Native.Nat.{ℕ, _+_, _≤_, _<_, min};
+ghost use lib.ListN.{length, take};
 ghost use Rattle.sql.specs.Condition.{checkId, checkIds};
 ghost use Rattle.sql.specs.Ends.{isColumn, isInterval, columns, startOf, stopOf, unfoldExpressions};
 ghost use Rattle.sql.specs.Template.{held, templateOf, guardedText, guardedBothText, checkIdText, checkIdsText, eitherText};
@@ -67,6 +67,20 @@ fn sql(s: &[u8]) -> Template
 {
     let bytes = [0u8; 96];
     push(Template { bytes, len: 0 }, s)
+}
+
+fn least(a: usize, b: usize) -> usize
+    ensures { λ r. ⌜ r ≡ min a b ⌝ }
+{
+    if a <= b { a } else { b }
+}
+
+// The template of a node's text, as far as there is room: no text of a node is longer.
+pub fn plain(s: &[u8]) -> Template
+    ensures { λ r. ⌜ (held r ≡ take 96 (now (s .entry))) × (r .len ≤ 96) ⌝ }
+{
+    let n = least(96, s.len());
+    sql(&s[..n])
 }
 
 // `("i" IS NOT NULL AND (base))` without its outer brackets, i a digit.
