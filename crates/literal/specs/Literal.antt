@@ -80,10 +80,13 @@ spatialText n w =
 unfoldable pub date : (y m d : ℕ) → List ℕ
 date y m d = low 4 y ++ (45 ∷ (low 2 m ++ (45 ∷ low 2 d)))
 
+-- HH:MM:SS
+unfoldable pub clock : (hour minute second : ℕ) → List ℕ
+clock hour minute second = low 2 hour ++ (58 ∷ (low 2 minute ++ (58 ∷ low 2 second)))
+
 -- YYYY-MM-DDTHH:MM:SS
 unfoldable pub timestamp : (y m d hour minute second : ℕ) → List ℕ
-timestamp y m d hour minute second =
-    date y m d ++ (84 ∷ (low 2 hour ++ (58 ∷ (low 2 minute ++ (58 ∷ low 2 second)))))
+timestamp y m d hour minute second = date y m d ++ (84 ∷ clock hour minute second)
 
 -- -2021-01-01 (`MIN_DATE_SQL`)
 unfoldable pub openEnd : List ℕ

@@ -1,17 +1,16 @@
 -- Laws of specs/Literal.antt: a number's digits one at a time, how many they are, and the lengths of the texts.
 use Prim.Native.Nat.{ℕ, zero, suc, _+_, _-_, _*_, _/_, _%_, _^_, _≤_, _<_}
 use mathlib.Core.Path.{_≡_, refl, ap, sym, _∙_}
-use mathlib.Core.List.{List, [], _∷_, _++_, append-assoc}
+use mathlib.Core.List.{List, [], _∷_, _++_}
 use mathlib.Core.Bool.{Bool, true, false}
 use native.Mathlib.Nat.{pow-succ', div-div-eq-div-mul, div-one, zero-div}
 use native.Mathlib.Numerals.{add-one}
 use native.Mathlib.Omega.{arith}
-use lib.IntN.{ℤ, pos, negsuc, natAbs}
 use lib.ListN.{length, length-append}
 use lib.Dec.{ltb, eqb}
-use borrow.Author.Tests.{lt-ltb, le-ltb, ltb-false, ltb-true, eq-eqb, ne-eqb, eqb-true}
+use borrow.Author.Tests.{lt-ltb, le-ltb, ltb-false, ltb-true, eq-eqb, ne-eqb}
 use Rattle.choice.specs.Choice.{pick}
-use Rattle.literal.specs.Literal.{low, digits, decimal, pointed, plain, sign, numText, quoted, collate, spatialText, date, timestamp, openEnd, dateText, timestampText, unboundedText}
+use Rattle.literal.specs.Literal.{low, digits, decimal, pointed, plain, quoted, collate, spatialText, date, clock, timestamp, openEnd, dateText, timestampText, unboundedText}
 
 -- ---- digits
 
@@ -149,6 +148,12 @@ unfolding shown plain
 plain-shown n zero h = refl
 plain-shown n (suc s) h = simp (ne-eqb (n % 10) 0 h, ne-eqb (suc s) 0 (λ (e : suc s ≡ 0). let v : ⊥ = omega arith in v))
 
+-- no fraction is left
+pub shown-plain : (n s : ℕ) → s ≡ 0 → shown n s ≡ plain n s
+unfolding shown plain
+shown-plain n zero e = refl
+shown-plain n (suc s) e = absurd (let v : ⊥ = omega arith in v)
+
 -- a closing zero is dropped
 pub plain-drop : (n s : ℕ) → 0 < s → n % 10 ≡ 0 → plain (n / 10) (s - 1) ≡ plain n s
 unfolding plain
@@ -165,12 +170,20 @@ pub length-collate : (name : List ℕ) → length (collate name) ≡ length name
 unfolding collate
 length-collate name = omega arith
 
+pub date-ten : (y m d : ℕ) → length (date y m d) ≡ 10
+unfolding date low
+date-ten y m d = refl
+
+pub clock-eight : (hour minute second : ℕ) → length (clock hour minute second) ≡ 8
+unfolding clock low
+clock-eight hour minute second = refl
+
 pub length-date : (y m d : ℕ) → length (dateText y m d) ≡ 12
 unfolding quoted date low
 length-date y m d = refl
 
 pub length-timestamp : (y m d hour minute second : ℕ) → length (timestampText y m d hour minute second) ≡ 21
-unfolding quoted timestamp date low
+unfolding quoted timestamp date clock low
 length-timestamp y m d hour minute second = refl
 
 pub length-unbounded : length unboundedText ≡ 13

@@ -53,6 +53,23 @@ length-placed out at t = go (fits out at (length t))
     go true = length-sets out at t
     go false = refl
 
+-- an empty text changes nothing, wherever it stands
+pub placed-none : (out : List ℕ) (at : ℕ) → placed out at [] ≡ out
+unfolding placed
+placed-none out at = go (fits out at 0)
+  where
+    go : (b : Bool) → pick b out out ≡ out
+    go true = refl
+    go false = refl
+
+pub placedEnd-none : (out : List ℕ) (at : ℕ) → placedEnd out at [] ≡ at
+unfolding placedEnd
+placedEnd-none out at = go (fits out at 0)
+  where
+    go : (b : Bool) → pick b (at + 0) at ≡ at
+    go true = add-zero at
+    go false = refl
+
 -- a text at the front that fits: it, then the bytes past it
 pub placed-front : (out t : List ℕ) → length t ≤ length out → placed out 0 t ≡ t ++ drop (length t) out
 placed-front out t h =

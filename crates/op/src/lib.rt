@@ -263,8 +263,7 @@ pub fn nullable(op: Op) -> bool
 }
 
 // All spellings of Op::to_sql, one behind the other in the order of the enum; ENDS has where each ends.
-// The caller lays the table out once and hands it down.
-pub const SPELLINGS: [u8; 173] = [
+const SPELLINGS: [u8; 173] = [
     43,
     45,
     42,
@@ -497,7 +496,14 @@ const ENDS: [u8; 54] = [
     173,
 ];
 
-// Where an operator's spelling lies in SPELLINGS.
+// The table of spellings. A constant is laid out anew at each use, so a caller takes it once and hands it down.
+pub fn spelling_table() -> [u8; 173]
+    ensures { λ r. ⌜ r ≡ spellings ⌝ }
+{
+    SPELLINGS
+}
+
+// Where an operator's spelling lies in the table.
 pub enum Spelled {
     // CaseI, AccentI and the temporal operators have none.
     Unspelled,

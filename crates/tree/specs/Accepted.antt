@@ -30,13 +30,15 @@ abbrev pub caiAt : List ℕ → ℕ
 caiAt s = past s (aiAt s)
 
 -- a precision byte 0 to 15, then three names, and nothing after them
-unfoldable pub isSettings : List ℕ → Bool
-isSettings s =
-    both (isFrame (length s) (frame s))
-    (both (leb (getD s 6 0) precisionLimit)
+unfoldable pub settingsBody : List ℕ → Bool
+settingsBody s =
+    both (leb (getD s 6 0) precisionLimit)
     (both (namedAt s (ciAt s))
     (both (namedAt s (aiAt s))
-    (both (namedAt s (caiAt s)) (eqb (past s (caiAt s)) (length s))))))
+    (both (namedAt s (caiAt s)) (eqb (past s (caiAt s)) (length s)))))
+
+unfoldable pub isSettings : List ℕ → Bool
+isSettings s = both (isFrame (length s) (frame s)) (settingsBody s)
 
 unfoldable pub settings : List ℕ → Read Settings
 settings s =

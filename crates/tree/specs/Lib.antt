@@ -3,6 +3,7 @@ pub mod Tree
 pub mod Parse
 pub mod Placed
 pub mod Accepted
+pub mod Walk
 pub mod Good
 pub mod ByteLaws
 pub mod ParseLaws

@@ -5,9 +5,6 @@ use borrow.Author.Tests.{eq-eqb, ne-eqb, le-leb, lt-leb}
 use borrow.Author.Needs.{needs}
 use Rattle.civil.proofs.days_in.Statement.{statement}
 use Rattle.civil.proofs.days_in.Tie as tie
-use Rattle.civil.proofs.days_in.Reads as reads
-use Rattle.civil.proofs.days_in.Lts as lts
-use Rattle.civil.proofs.is_leap.Reads as is-leap-reads
 
 is-leap-requires : tie.Need-is-leap-requires
 is-leap-requires c κs = search needs

@@ -3,8 +3,6 @@ use Rattle.civil.specs.Civil.{leap}
 use borrow.Author.Tests.{eq-eqb, ne-eqb, le-leb, lt-leb}
 use Rattle.civil.proofs.is_leap.Statement.{statement}
 use Rattle.civil.proofs.is_leap.Tie as tie
-use Rattle.civil.proofs.is_leap.Reads as reads
-use Rattle.civil.proofs.is_leap.Lts as lts
 
 returns : tie.Need-returns
 unfolding leap

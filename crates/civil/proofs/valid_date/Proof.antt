@@ -4,10 +4,6 @@ use borrow.Author.Tests.{eq-eqb, ne-eqb, le-leb, lt-leb}
 use borrow.Author.Needs.{needs}
 use Rattle.civil.proofs.valid_date.Statement.{statement}
 use Rattle.civil.proofs.valid_date.Tie as tie
-use Rattle.civil.proofs.valid_date.Reads as reads
-use Rattle.civil.proofs.valid_date.Lts as lts
-use Rattle.civil.proofs.days_in.Reads as days-in-reads
-use Rattle.civil.proofs.within.Reads as within-reads
 
 within-requires : tie.Need-within-requires
 within-requires c κs = search needs

@@ -3,8 +3,6 @@ use Rattle.civil.specs.Civil.{validTime}
 use borrow.Author.Tests.{eq-eqb, ne-eqb, le-leb, lt-leb}
 use Rattle.civil.proofs.valid_time.Statement.{statement}
 use Rattle.civil.proofs.valid_time.Tie as tie
-use Rattle.civil.proofs.valid_time.Reads as reads
-use Rattle.civil.proofs.valid_time.Lts as lts
 
 returns : tie.Need-returns
 unfolding validTime

@@ -2,8 +2,6 @@
 use borrow.Author.Tests.{eq-eqb, ne-eqb, le-leb, lt-leb}
 use Rattle.civil.proofs.within.Statement.{statement}
 use Rattle.civil.proofs.within.Tie as tie
-use Rattle.civil.proofs.within.Reads as reads
-use Rattle.civil.proofs.within.Lts as lts
 
 returns : tie.Need-returns
 returns c = simp (le-leb _ _ (c .if1 .taken))

@@ -1,16 +1,14 @@
 -- `literal::decimal_len` meets its contract: the digits counted so far and those of what is left are one more than all.
 use borrow.Author.Needs.{needs}
 use native.Mathlib.Omega.{arith}
-use mathlib.Core.Path.{_≡_, refl, ap, sym, _∙_}
-use mathlib.Core.List.{List, [], _∷_, _++_}
-use Prim.Native.Nat.{ℕ, _+_, _-_, _≤_, _/_, _%_, _^_}
+use mathlib.Core.Path.{_≡_, refl, ap, _∙_}
+use mathlib.Core.List.{[], _∷_}
+use Prim.Native.Nat.{_+_, _≤_, _/_, _%_}
 use lib.ListN.{length, length-append}
 use Rattle.literal.specs.Literal.{decimal}
-use Rattle.literal.specs.LiteralLaws.{decimal-one, decimal-more, decimal-short, decimal-some}
+use Rattle.literal.specs.LiteralLaws.{decimal-one, decimal-more, decimal-short}
 use Rattle.literal.proofs.decimal_len.Statement.{statement}
 use Rattle.literal.proofs.decimal_len.Tie as tie
-use Rattle.literal.proofs.decimal_len.Reads as reads
-use Rattle.literal.proofs.decimal_len.Lts as lts
 
 abbrev Inv-loop : tie.InvT-loop
 Inv-loop n m₀ w₀ m w = (w + length (decimal m) ≡ 1 + length (decimal n)) × (w + m ≤ n + 1) × (m ≤ n)

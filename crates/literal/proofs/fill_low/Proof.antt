@@ -2,18 +2,15 @@
 use borrow.Author.Needs.{needs}
 use native.Mathlib.Omega.{arith}
 use mathlib.Core.Path.{_≡_, refl, ap, sym, _∙_}
-use mathlib.Core.List.{List, [], _∷_, _++_, append-nil}
-use Prim.Native.Nat.{ℕ, _+_, _-_, _≤_, _/_, _%_, _^_}
-use lib.ListN.{length, length-append, drop, length-set}
+use mathlib.Core.List.{List, _++_, append-nil}
+use Prim.Native.Nat.{ℕ, _-_, _≤_, _/_, _^_}
+use lib.ListN.{length, drop, length-set}
 use lib.Seq.{drop-length}
 use native.Mathlib.Nat.{div-one}
 use Rattle.literal.proofs.Laws.{low-more, low-none, tenth}
 use Rattle.literal.specs.Literal.{low}
 use Rattle.literal.proofs.fill_low.Statement.{statement}
 use Rattle.literal.proofs.fill_low.Tie as tie
-use Rattle.literal.proofs.fill_low.Reads as reads
-use Rattle.literal.proofs.fill_low.Lts as lts
-use Rattle.literal.proofs.digit_of.Reads as digit-of-reads
 
 abbrev Inv-loop : tie.InvT-loop
 Inv-loop n part₀ m₀ k₀ part m k = (k ≤ length part₀) × (length part ≡ length part₀) × (low k m ++ drop k part ≡ low (length part₀) n) × (m ≡ n / 10 ^ (length part₀ - k))

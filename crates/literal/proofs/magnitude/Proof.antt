@@ -1,15 +1,12 @@
 -- `literal::magnitude` meets its contract: below zero m is -(n + 1), and -1 - m is n; else m is n.
-use borrow.Author.Needs.{needs}
 use native.Mathlib.Omega.{arith}
 use lib.IntN.{natAbs}
 use mir.Syntax.{w64}
 use mir.ValLaws.{toZ-ofZ}
-use Rattle.literal.proofs.Signed.{Below, Above, below, above, flip, flip-back}
-use mathlib.Core.Path.{_≡_, refl, ap, sym, _∙_}
+use Rattle.literal.proofs.Signed.{below, above, flip, flip-back}
+use mathlib.Core.Path.{ap, _∙_}
 use Rattle.literal.proofs.magnitude.Statement.{statement}
 use Rattle.literal.proofs.magnitude.Tie as tie
-use Rattle.literal.proofs.magnitude.Reads as reads
-use Rattle.literal.proofs.magnitude.Lts as lts
 
 sub-result : tie.Need-sub-result
 sub-result c =

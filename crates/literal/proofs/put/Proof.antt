@@ -6,13 +6,10 @@ use mathlib.Core.Path.{_≡_, refl, ap, sym, _∙_}
 use mathlib.Core.List.{List}
 use Prim.Native.Nat.{ℕ, _+_, _-_, _≤_}
 use lib.ListN.{getD, length, take, set, length-set}
-use lib.Seq.{sets, length-sets, take-all}
+use lib.Seq.{sets, take-all}
 use Rattle.literal.specs.PlacedLaws.{sets-more, placed-fits, placed-over, placedEnd-fits, placedEnd-over}
 use Rattle.literal.proofs.put.Statement.{statement}
 use Rattle.literal.proofs.put.Tie as tie
-use Rattle.literal.proofs.put.Reads as reads
-use Rattle.literal.proofs.put.Lts as lts
-use Rattle.literal.proofs.lacks_room.Reads as lacks-room-reads
 
 abbrev Inv-loop : tie.InvT-loop
 Inv-loop s out₀ at k₀ out k = (k ≤ length s) × (out ≡ sets out₀ at (take k s)) × (length out ≡ length out₀) × (at + length s ≤ length out₀)

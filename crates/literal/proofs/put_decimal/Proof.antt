@@ -1,23 +1,18 @@
 -- `literal::put_decimal` meets its contract: the part that is lent is as long as the digits of n, and comes back filled with them.
 use native.Mathlib.Omega.{arith}
 use borrow.Author.Tests.{ltb-true, ltb-false}
-use mathlib.Core.Path.{_≡_, refl, ap, sym, _∙_}
+use mathlib.Core.Path.{_≡_, ap, sym, _∙_}
 use mathlib.Core.List.{List}
 use Prim.Native.Nat.{ℕ, _+_, _-_, _≤_, _<_}
 use lib.ListN.{length, take, drop}
 use lib.Seq.{sets}
 use Rattle.literal.specs.Literal.{low, decimal}
-use Rattle.literal.specs.LiteralLaws.{decimal-low, length-low}
+use Rattle.literal.specs.LiteralLaws.{decimal-low}
 use Rattle.literal.specs.PlacedLaws.{placed-fits, placed-over, placedEnd-fits, placedEnd-over}
 use Rattle.literal.proofs.Laws.{mid-sets, mid-length}
 use borrow.Author.Needs.{needs}
 use Rattle.literal.proofs.put_decimal.Statement.{statement}
 use Rattle.literal.proofs.put_decimal.Tie as tie
-use Rattle.literal.proofs.put_decimal.Reads as reads
-use Rattle.literal.proofs.put_decimal.Lts as lts
-use Rattle.literal.proofs.decimal_len.Reads as decimal-len-reads
-use Rattle.literal.proofs.fill_low.Reads as fill-low-reads
-use Rattle.literal.proofs.lacks_room.Reads as lacks-room-reads
 
 decimal-len-requires : tie.Need-decimal-len-requires
 decimal-len-requires c κs = search needs

@@ -1,15 +1,12 @@
 -- `literal::sign_len` meets its contract.
-use borrow.Author.Needs.{needs}
 use native.Mathlib.Omega.{arith}
-use mathlib.Core.Path.{_≡_, refl, ap, sym, _∙_}
+use mathlib.Core.Path.{ap, sym}
 use lib.IntN.{ℤ}
 use lib.ListN.{length}
 use Rattle.literal.specs.Literal.{sign}
-use Rattle.literal.proofs.Signed.{Below, Above, below, above}
+use Rattle.literal.proofs.Signed.{below, above}
 use Rattle.literal.proofs.sign_len.Statement.{statement}
 use Rattle.literal.proofs.sign_len.Tie as tie
-use Rattle.literal.proofs.sign_len.Reads as reads
-use Rattle.literal.proofs.sign_len.Lts as lts
 
 returns : tie.Need-returns
 unfolding sign

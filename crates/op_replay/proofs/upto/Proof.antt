@@ -1,0 +1,25 @@
+-- `op_replay::upto` stays in bounds: the test says that i is below the length.
+use native.Mathlib.Omega.{arith}
+use mathlib.Core.Path.{sym}
+use lib.Seq.{length-take-le}
+use borrow.Author.Needs.{needs}
+use Rattle.op_replay.proofs.upto.Statement.{statement}
+use Rattle.op_replay.proofs.upto.Tie as tie
+use Rattle.op_replay.proofs.upto.Reads as reads
+use Rattle.op_replay.proofs.upto.Lts as lts
+use Rattle.op_replay.proofs.find.Reads as find-reads
+
+find-requires : tie.Need-find-requires
+find-requires c κs = search needs
+
+slice-aggregate-result : tie.Need-slice-aggregate-result
+slice-aggregate-result c = sym (length-take-le _ _ (omega arith))
+
+returns : tie.Need-returns
+returns c = search needs
+
+returns-2 : tie.Need-returns-2
+returns-2 c = search needs
+
+pub upto-spec : {M : Type 1} → statement M
+upto-spec = tie.close (tie.spec find-requires slice-aggregate-result returns returns-2)
