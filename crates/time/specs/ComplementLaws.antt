@@ -3,7 +3,7 @@
 use Prim.Native.Nat.{ℕ}
 use mathlib.Core.Path.{_≡_, refl, sym, _∙_}
 use mathlib.Core.List.{List}
-use mathlib.Core.Bool.{Bool, true, false, false≢true}
+use mathlib.Core.Bool.{Bool, true, false, false≢true, not}
 use lib.Dec.{eqb}
 use Rattle.choice.specs.Choice.{negated}
 use Rattle.choice.specs.ChoiceLaws.{both-true}
@@ -153,7 +153,7 @@ ne-eq (has row.null) (has y) = refl
 ne-eq (has (val x)) (has row.null) = refl
 ne-eq (has (val x)) (has (val y)) = go (eqb (order x y) 1)
   where
-    go : (b : Bool) → truthOf (negated b) ≡ not3 (truthOf b)
+    go : (b : Bool) → truthOf (not b) ≡ not3 (truthOf b)
     go true = refl
     go false = refl
 

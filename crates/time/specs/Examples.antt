@@ -195,7 +195,7 @@ ogc-admits :
     (instants ten days ≡ true) × (operands TDuring (interval b c) first-week ≡ true) × (ogcOperand ten (interval b c) ≡ true)
     × (ogcOperand ten first-week ≡ true) × (temporalTruth days TDuring (interval b c) first-week ≡ True)
     × (ogcOn ten days TDuring (interval b c) first-week ≡ true) × (instants nineteen (rowOf (second 1) (second 2) (second 3) (second 4)) ≡ true)
-unfolding temporalTruth condTruth translators.translate translators.tDuring sql.checkId sql.checkIds isInterval gpkg.isId gpkg.startOf gpkg.stopOf gpkg.endsOf valueOn look same order grammar.holds literal.date literal.low literal.timestamp literal.openEnd instants isInstant beginsDate goesOnTime validDate validTime daysIn leap charset.digit operands op.isTemporal op.isInstantOrInterval some ogcOperand isStart isPoint ogcOn ogc earlier below momentOn fields
+unfolding temporalTruth condTruth translators.translate translators.tDuring sql.checkId sql.checkIds isInterval gpkg.isId gpkg.startOf gpkg.stopOf gpkg.endsOf valueOn look same order grammar.holds literal.date literal.low literal.timestamp literal.clock literal.openEnd instants isInstant beginsDate goesOnTime validDate validTime daysIn leap charset.digit operands op.isTemporal op.isInstantOrInterval some ogcOperand isStart isPoint ogcOn ogc earlier below momentOn fields
 ogc-admits = (refl, refl, refl, refl, refl, refl, refl)
 
 ogc-instance : temporalTruth days TDuring (interval b c) first-week ≡ truthOf (ogcOn ten days TDuring (interval b c) first-week)
@@ -218,7 +218,7 @@ ogc-open-end = (refl, refl)
 ogc-mixed :
     (ogcOperand ten (timestamp 2024 1 1 0 0 0) ≡ false) × (ogcOperand nineteen (date 2024 1 1) ≡ false)
     × (temporalTruth [] TBefore (date 2024 1 1) (timestamp 2024 1 1 0 0 0) ≡ True) × (temporalTruth [] TEquals (date 2024 1 1) (timestamp 2024 1 1 0 0 0) ≡ False)
-unfolding temporalTruth condTruth translators.translate translators.tBefore translators.tEquals sql.checkId sql.checkIds isInterval gpkg.isId gpkg.startOf gpkg.stopOf gpkg.endsOf valueOn look same order grammar.holds literal.date literal.low literal.timestamp ogcOperand
+unfolding temporalTruth condTruth translators.translate translators.tBefore translators.tEquals sql.checkId sql.checkIds isInterval gpkg.isId gpkg.startOf gpkg.stopOf gpkg.endsOf valueOn look same order grammar.holds literal.date literal.low literal.timestamp literal.clock ogcOperand
 ogc-mixed = (refl, refl, refl, refl)
 
 -- A row of the other width: two seconds of one day are ordered, their days are not.
@@ -226,7 +226,7 @@ abbrev seconds : List Column
 seconds = rowOf (second 1) (second 2) (second 3) (second 4)
 
 ogc-width : (instants ten seconds ≡ false) × (temporalTruth seconds TBefore a b ≡ True) × (ogcOn ten seconds TBefore a b ≡ false)
-unfolding temporalTruth condTruth translators.translate translators.tBefore sql.checkId sql.checkIds isInterval gpkg.isId gpkg.startOf gpkg.stopOf gpkg.endsOf valueOn look same order grammar.holds literal.date literal.low literal.timestamp instants isInstant ogcOn ogc earlier below momentOn fields some
+unfolding temporalTruth condTruth translators.translate translators.tBefore sql.checkId sql.checkIds isInterval gpkg.isId gpkg.startOf gpkg.stopOf gpkg.endsOf valueOn look same order grammar.holds literal.date literal.low literal.timestamp literal.clock instants isInstant ogcOn ogc earlier below momentOn fields some
 ogc-width = (refl, refl, refl)
 
 -- A value that is no date, `2024-01-0:` beside `2024-01-10`: bytes tell them apart, digits do not.

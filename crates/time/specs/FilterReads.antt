@@ -100,7 +100,7 @@ date-str y m d =
     (all-append strByte (low 2 m) (45 ∷ low 2 d) (low-str 2 m) (low-str 2 d))
 
 timestamp-str : (y m d h i s : ℕ) → all strByte (literal.timestamp y m d h i s) ≡ true
-unfolding literal.timestamp all strByte
+unfolding literal.timestamp literal.clock all strByte
 timestamp-str y m d h i s =
     all-append strByte (literal.date y m d) (84 ∷ (low 2 h ++ (58 ∷ (low 2 i ++ (58 ∷ low 2 s))))) (date-str y m d)
     (all-append strByte (low 2 h) (58 ∷ (low 2 i ++ (58 ∷ low 2 s))) (low-str 2 h)

@@ -367,11 +367,11 @@ module _ (y m d h i s : ℕ) (e : validDate y m d ≡ true) (f : validTime h i s
       (and-also (and-also (shown (i / 10)) (shown i)) (and-also refl (and-also (and-also (shown (s / 10)) (shown s)) time-back)))))
 
   pub timestamp-instant : isInstant nineteen (literal.timestamp y m d h i s) ≡ true
-  unfolding isInstant literal.timestamp literal.date literal.low
+  unfolding isInstant literal.timestamp literal.clock literal.date literal.low
   timestamp-instant = and-also (date-begins y m d e time) time-goes-on
 
   pub timestamp-fields : fields nineteen (literal.timestamp y m d h i s) ≡ y ∷ m ∷ d ∷ h ∷ i ∷ s ∷ []
-  unfolding fields literal.timestamp literal.date literal.low
+  unfolding fields literal.timestamp literal.clock literal.date literal.low
   timestamp-fields =
       let a = year-back y m d e time in
       let b = month-back y m d e time in
