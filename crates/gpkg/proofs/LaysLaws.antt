@@ -1,0 +1,49 @@
+-- Steps of the walk one after the other. Counting stops at 65,536, so a place is exact wherever the text behind it has room.
+use Prim.Native.Nat.{ℕ, _+_, _≤_, _<_, min}
+use mathlib.Core.Path.{_≡_, refl, ap, sym, _∙_, subst}
+use mathlib.Core.List.{List, [], _∷_, _++_, append-assoc}
+use native.Mathlib.Omega.{arith}
+use lib.ListN.{length, length-append}
+use lib.Seq.{sets, length-sets}
+use Rattle.literal.specs.Placed.{placed}
+use Rattle.literal.specs.PlacedLaws.{sets-append, placed-fits, length-placed}
+use Rattle.gpkg.specs.Lays.{Lays, capped}
+
+-- one write
+pub lays-placed : {at : ℕ} {t entry exit : List ℕ} {r : ℕ} (n : ℕ) → exit ≡ placed entry at t → r ≡ capped (at + n) → n ≡ length t → Lays at t entry exit r
+lays-placed {at} {t} {entry} {exit} {r} n e p z = record {
+  place = p ∙ ap (λ (k : ℕ). capped (at + k)) z;
+  kept = ap length e ∙ length-placed entry at t;
+  laid = λ h g. e ∙ placed-fits entry at t h;
+}
+
+-- nothing is written
+pub lays-none : {at : ℕ} {l : List ℕ} {r : ℕ} → r ≡ capped (at + 0) → Lays at [] l l r
+lays-none e = record { place = e; kept = refl; laid = λ h g. refl }
+
+-- the text by another name
+pub lays-of : {at : ℕ} {t u entry exit : List ℕ} {r : ℕ} → t ≡ u → Lays at t entry exit r → Lays at u entry exit r
+lays-of {at} {t} {u} {entry} {exit} {r} e x = subst (λ (y : List ℕ). Lays at y entry exit r) e x
+
+twice : (a b : ℕ) → capped (capped a + b) ≡ capped (a + b)
+twice a b = omega arith
+
+exact : (a : ℕ) → a ≤ 65536 → capped a ≡ a
+exact a h = omega arith
+
+-- two steps
+pub lays-then : {at : ℕ} {t u l m n : List ℕ} {p r : ℕ} → Lays at t l m p → Lays p u m n r → Lays at (t ++ u) l n r
+lays-then {at} {t} {u} {l} {m} {n} {p} {r} x y = record {
+  place =
+      y .place
+      ∙ ap (λ (k : ℕ). capped (k + length u)) (x .place)
+      ∙ twice (at + length t) (length u)
+      ∙ ap capped (let z : (at + length t) + length u ≡ at + length (t ++ u) = rw length-append (omega arith) in z);
+  kept = y .kept ∙ x .kept;
+  laid = λ h g.
+      let w : length (t ++ u) ≡ length t + length u = length-append t u in
+      let q : p ≡ at + length t = x .place ∙ exact (at + length t) (omega arith) in
+      let k : length m ≡ length l = x .kept in
+      let a : m ≡ sets l at t = x .laid (omega arith) (omega arith) in
+      y .laid (omega arith) (omega arith) ∙ rw (q, a) (sets-append t u l at);
+}

@@ -1,0 +1,10 @@
+pub mod LaysLaws
+pub mod Records
+pub mod Clip
+pub mod Literals
+pub mod Ends
+pub mod Words
+pub mod Nodes
+pub mod Operands
+pub mod Twin
+pub mod Sorts

@@ -1,0 +1,304 @@
+-- A node's template, filled, is its text: one law for each template.
+use Prim.Native.Nat.{ℕ, zero, suc, _+_, _≤_, _<_}
+use borrow.Author.Tests.{leb-true, lt-leb}
+use mathlib.Core.Path.{_≡_, refl, ap, sym, _∙_, subst}
+use mathlib.Core.List.{List, [], _∷_, _++_, append-assoc, append-nil}
+use mathlib.Core.Bool.{Bool, true, false}
+use native.Mathlib.Omega.{arith}
+use native.Mathlib.Nat.{add-zero}
+use lib.ListN.{length, getD, drop}
+use lib.Dec.{eqb, ltb, leb}
+use Rattle.choice.specs.Choice.{pick, both, either, negated, between, some}
+use Rattle.record.specs.Record.{le, le16, recordOf}
+use Rattle.op.specs.declared.Op.{Op}
+use Rattle.op.specs.declared.Op.the-variants.{Minus, Neg, CaseI, AccentI, STouches, SWithin, SOverlaps, IsLike, IsNotLike}
+use Rattle.op.specs.Op.{opNumber, oneOf, isArray, isSpatial, isTemporal, isNullable}
+use Rattle.op.specs.OpLaws.{agree, number-below}
+use Rattle.tree.specs.Tree.{Tree, Trees, Settings, encode, encodes, null, unbounded, bool, num, str, date, timestamp, spatial, id, monadic, dyadic, function, array, interval, none, _then_}
+use Rattle.tree.specs.Parse.{first, second}
+use Rattle.tree.specs.Placed.{isInterval, isBetween}
+use Rattle.literal.specs.Literal.{nullText, collate, decimal}
+use Rattle.sql.specs.Condition.{print}
+use Rattle.sql.specs.Translators.{translate}
+use Rattle.sql.specs.Template.{fill, templateOf}
+use Rattle.sql.specs.TemplateLaws.{translate-fills, translate-same}
+use Rattle.gpkg.specs.Text.{isId, isLiteralOrId, isMonadic, isItems, startOf, stopOf, endsOf, columnsOf, word, bare, reducePrecision, monadicText, reduces, startText, stopText, boundText, dyadicText, text, children, texts}
+use Rattle.gpkg.specs.Plan.{twin, twinOf, underOf, itemsOf, monadicEnds, dyadicEnds, slot, wordText, precise, spatialTemplate, infixTemplate}
+use Rattle.gpkg.proofs.Records.{kindOf, bodyOf, shape, kind-at}
+
+-- Classes of operators, by number.
+
+pub is-between : (o : Op) → isBetween o ≡ between 47 (opNumber o) 48
+unfolding isBetween some
+is-between o = agree (λ p. isBetween p) (λ p. between 47 (opNumber p) 48) tt o
+
+pub is-spatial : (o : Op) → isSpatial o ≡ between 18 (opNumber o) 25
+unfolding isSpatial some
+is-spatial o = agree (λ p. isSpatial p) (λ p. between 18 (opNumber p) 25) tt o
+
+pub is-temporal : (o : Op) → isTemporal o ≡ between 26 (opNumber o) 40
+unfolding isTemporal some
+is-temporal o = agree (λ p. isTemporal p) (λ p. between 26 (opNumber p) 40) tt o
+
+pub is-array : (o : Op) → isArray o ≡ between 41 (opNumber o) 44
+unfolding isArray some
+is-array o = agree (λ p. isArray p) (λ p. between 41 (opNumber p) 44) tt o
+
+pub is-like : (o : Op) → oneOf o (IsLike ∷ IsNotLike ∷ []) ≡ between 45 (opNumber o) 46
+unfolding some
+is-like o = agree (λ p. oneOf p (IsLike ∷ IsNotLike ∷ [])) (λ p. between 45 (opNumber p) 46) tt o
+
+pub is-nullable : (o : Op) → isNullable o ≡ between 51 (opNumber o) 52
+unfolding isNullable some
+is-nullable o = agree (λ p. isNullable p) (λ p. between 51 (opNumber p) 52) tt o
+
+pub is-reduced : (o : Op) → oneOf o (SWithin ∷ SOverlaps ∷ STouches ∷ []) ≡ between 21 (opNumber o) 23
+unfolding some
+is-reduced o = agree (λ p. oneOf p (SWithin ∷ SOverlaps ∷ STouches ∷ [])) (λ p. between 21 (opNumber p) 23) tt o
+
+pub is-negation : (o : Op) → oneOf o (Neg ∷ Minus ∷ []) ≡ either (eqb (opNumber o) 7) (eqb (opNumber o) 1)
+unfolding some
+is-negation o = agree (λ p. oneOf p (Neg ∷ Minus ∷ [])) (λ p. either (eqb (opNumber p) 7) (eqb (opNumber p) 1)) tt o
+
+pub is-casei : (o : Op) → oneOf o (CaseI ∷ []) ≡ eqb (opNumber o) 16
+unfolding some
+is-casei o = agree (λ p. oneOf p (CaseI ∷ [])) (λ p. eqb (opNumber p) 16) tt o
+
+-- Monadic nodes.
+
+op-at : (p : Op) (t : Tree) → le16 (encode (monadic p t)) 6 ≡ opNumber p
+unfolding encode recordOf
+op-at p t = let h = number-below p in omega arith
+
+inner-of : (t : Tree) (k : ℕ) (o : Op) → k ≡ opNumber o → isMonadic o t ≡ pick (eqb (kindOf t) 9) (eqb (le16 (encode t) 6) k) false
+unfolding isMonadic encode recordOf
+inner-of null k o e = refl
+inner-of unbounded k o e = refl
+inner-of (bool b) k o e = refl
+inner-of (num m s) k o e = refl
+inner-of (str f s) k o e = refl
+inner-of (date y m d) k o e = refl
+inner-of (timestamp y m d h i s) k o e = refl
+inner-of (spatial n s) k o e = refl
+inner-of (id s) k o e = refl
+inner-of (monadic p t) k o e =
+    let a : le16 (encode (monadic p t)) 6 ≡ opNumber p = op-at p t in
+    rw (a, e) refl
+inner-of (dyadic p t u) k o e = refl
+inner-of (function n ts) k o e = refl
+inner-of (array ts) k o e = refl
+inner-of (interval t u) k o e = refl
+
+pub is-twin : (o : Op) (t : Tree) → twin o t ≡ twinOf (opNumber o) (kindOf t) (le16 (encode t) 6)
+unfolding twin
+is-twin o t =
+    rw (is-nullable o, is-negation o, is-casei o, inner-of t 17 AccentI refl, inner-of t 16 CaseI refl)
+    (go (between 51 (opNumber o) 52) (eqb (opNumber o) 7) (eqb (opNumber o) 1) (eqb (opNumber o) 16) (eqb (kindOf t) 9) (eqb (le16 (encode t) 6) 17) (eqb (le16 (encode t) 6) 16))
+  where
+    go : (a b c d e f h : Bool) → pick a false (pick (either b c) false (pick d (pick e f false) (pick e h false))) ≡ pick a false (pick b false (pick c false (pick e (pick d f h) false)))
+    go true b c d e f h = refl
+    go false true c d e f h = refl
+    go false false true d e f h = refl
+    go false false false true true f h = refl
+    go false false false true false f h = refl
+    go false false false false true f h = refl
+    go false false false false false f h = refl
+
+-- the operand's text under a twin
+under-text : (g : Settings) (o : Op) (t : Tree) → isMonadic o t ≡ true → getD (children g t) 0 [] ≡ text g (underOf t)
+unfolding isMonadic children underOf
+under-text g o null e = absurd (let z : _≡_ {A = ℕ} 0 1 = cc in let v : ⊥ = omega arith in v)
+under-text g o unbounded e = absurd (let z : _≡_ {A = ℕ} 0 1 = cc in let v : ⊥ = omega arith in v)
+under-text g o (bool b) e = absurd (let z : _≡_ {A = ℕ} 0 1 = cc in let v : ⊥ = omega arith in v)
+under-text g o (num m s) e = absurd (let z : _≡_ {A = ℕ} 0 1 = cc in let v : ⊥ = omega arith in v)
+under-text g o (str f s) e = absurd (let z : _≡_ {A = ℕ} 0 1 = cc in let v : ⊥ = omega arith in v)
+under-text g o (date y m d) e = absurd (let z : _≡_ {A = ℕ} 0 1 = cc in let v : ⊥ = omega arith in v)
+under-text g o (timestamp y m d h i s) e = absurd (let z : _≡_ {A = ℕ} 0 1 = cc in let v : ⊥ = omega arith in v)
+under-text g o (spatial n s) e = absurd (let z : _≡_ {A = ℕ} 0 1 = cc in let v : ⊥ = omega arith in v)
+under-text g o (id s) e = absurd (let z : _≡_ {A = ℕ} 0 1 = cc in let v : ⊥ = omega arith in v)
+under-text g o (monadic p t) e = refl
+under-text g o (dyadic p t u) e = absurd (let z : _≡_ {A = ℕ} 0 1 = cc in let v : ⊥ = omega arith in v)
+under-text g o (function n ts) e = absurd (let z : _≡_ {A = ℕ} 0 1 = cc in let v : ⊥ = omega arith in v)
+under-text g o (array ts) e = absurd (let z : _≡_ {A = ℕ} 0 1 = cc in let v : ⊥ = omega arith in v)
+under-text g o (interval t u) e = absurd (let z : _≡_ {A = ℕ} 0 1 = cc in let v : ⊥ = omega arith in v)
+
+module _ (g : Settings) (o : Op) (t : Tree) where
+  pub nullable-bare : isNullable o ≡ true → isLiteralOrId t ≡ true → text g (monadic o t) ≡ fill (slot g (word o) (monadicEnds o t)) (48 ∷ 32 ∷ 52 ∷ [])
+  unfolding text monadicText monadicEnds twin fill
+  nullable-bare p q = simp (p, q, append-nil)
+
+  pub nullable-open : isNullable o ≡ true → isLiteralOrId t ≡ false → text g (monadic o t) ≡ fill (slot g (word o) (monadicEnds o t)) (40 ∷ 48 ∷ 41 ∷ 32 ∷ 52 ∷ [])
+  unfolding text monadicText monadicEnds twin fill
+  nullable-open p q = simp (p, q, append-nil, append-assoc)
+
+  pub sign-bare : isNullable o ≡ false → oneOf o (Neg ∷ Minus ∷ []) ≡ true → isLiteralOrId t ≡ true → text g (monadic o t) ≡ fill (slot g (word o) (monadicEnds o t)) (52 ∷ 32 ∷ 48 ∷ [])
+  unfolding text monadicText monadicEnds twin fill
+  sign-bare p n q = simp (p, n, q, append-nil)
+
+  pub sign-open : isNullable o ≡ false → oneOf o (Neg ∷ Minus ∷ []) ≡ true → isLiteralOrId t ≡ false → text g (monadic o t) ≡ fill (slot g (word o) (monadicEnds o t)) (52 ∷ 32 ∷ 40 ∷ 48 ∷ 41 ∷ [])
+  unfolding text monadicText monadicEnds twin fill
+  sign-open p n q = simp (p, n, q, append-nil, append-assoc)
+
+  module _ (p : isNullable o ≡ false) (n : oneOf o (Neg ∷ Minus ∷ []) ≡ false) where
+    pub both-collated : twin o t ≡ true → text g (monadic o t) ≡ fill (slot g (word o) (monadicEnds o t)) (48 ∷ 32 ∷ 67 ∷ 79 ∷ 76 ∷ 76 ∷ 65 ∷ 84 ∷ 69 ∷ 32 ∷ 55 ∷ [])
+    unfolding text monadicText monadicEnds twin fill collate
+    both-collated w = go (oneOf o (CaseI ∷ [])) refl
+      where
+        go : (b : Bool) → oneOf o (CaseI ∷ []) ≡ b → text g (monadic o t) ≡ fill (slot g (word o) (monadicEnds o t)) (48 ∷ 32 ∷ 67 ∷ 79 ∷ 76 ∷ 76 ∷ 65 ∷ 84 ∷ 69 ∷ 32 ∷ 55 ∷ [])
+        go true z =
+            let m : isMonadic AccentI t ≡ true = simp (p, n, z) at w in
+            simp (p, n, z, m, append-nil) (ap (λ (l : List ℕ). l ++ (32 ∷ 67 ∷ 79 ∷ 76 ∷ 76 ∷ 65 ∷ 84 ∷ 69 ∷ 32 ∷ g .cai)) (under-text g AccentI t m))
+        go false z =
+            let m : isMonadic CaseI t ≡ true = simp (p, n, z) at w in
+            simp (p, n, z, m, append-nil) (ap (λ (l : List ℕ). l ++ (32 ∷ 67 ∷ 79 ∷ 76 ∷ 76 ∷ 65 ∷ 84 ∷ 69 ∷ 32 ∷ g .cai)) (under-text g CaseI t m))
+
+    pub case-collated : twin o t ≡ false → oneOf o (CaseI ∷ []) ≡ true → text g (monadic o t) ≡ fill (slot g (word o) (monadicEnds o t)) (48 ∷ 32 ∷ 67 ∷ 79 ∷ 76 ∷ 76 ∷ 65 ∷ 84 ∷ 69 ∷ 32 ∷ 53 ∷ [])
+    unfolding text monadicText monadicEnds twin fill collate
+    case-collated w z = let m : isMonadic AccentI t ≡ false = simp (p, n, z) at w in simp (p, n, z, m, append-nil)
+
+    pub accent-collated : twin o t ≡ false → oneOf o (CaseI ∷ []) ≡ false → text g (monadic o t) ≡ fill (slot g (word o) (monadicEnds o t)) (48 ∷ 32 ∷ 67 ∷ 79 ∷ 76 ∷ 76 ∷ 65 ∷ 84 ∷ 69 ∷ 32 ∷ 54 ∷ [])
+    unfolding text monadicText monadicEnds twin fill collate
+    accent-collated w z = let m : isMonadic CaseI t ≡ false = simp (p, n, z) at w in simp (p, n, z, m, append-nil)
+
+-- Dyadic nodes.
+
+not-temporal : (n : ℕ) → between 18 n 25 ≡ true → between 26 n 40 ≡ false
+not-temporal n e =
+    let a : leb n 25 ≡ true = go (leb 18 n) (leb n 25) e in
+    let b : n ≤ 25 = leb-true n 25 a in
+    simp (lt-leb 26 n (omega arith))
+  where
+    go : (a b : Bool) → both a b ≡ true → b ≡ true
+    go true b e = e
+    go false b e = absurd (let z : _≡_ {A = ℕ} 0 1 = cc in let v : ⊥ = omega arith in v)
+
+bound-0 : (g : Settings) (u : Tree) → boundText u (children g u) 0 ≡ text g (first (itemsOf u))
+unfolding children texts itemsOf isItems first second text
+bound-0 g null = refl
+bound-0 g unbounded = refl
+bound-0 g (bool b) = refl
+bound-0 g (num m s) = refl
+bound-0 g (str f s) = refl
+bound-0 g (date y m d) = refl
+bound-0 g (timestamp y m d h i s) = refl
+bound-0 g (spatial n s) = refl
+bound-0 g (id s) = refl
+bound-0 g (monadic p t) = refl
+bound-0 g (dyadic p t u) = refl
+bound-0 g (function n ts) = refl
+bound-0 g (array none) = refl
+bound-0 g (array (t then ts)) = refl
+bound-0 g (interval t u) = refl
+
+bound-1 : (g : Settings) (u : Tree) → boundText u (children g u) 1 ≡ text g (second (itemsOf u))
+unfolding children texts itemsOf isItems first second text
+bound-1 g null = refl
+bound-1 g unbounded = refl
+bound-1 g (bool b) = refl
+bound-1 g (num m s) = refl
+bound-1 g (str f s) = refl
+bound-1 g (date y m d) = refl
+bound-1 g (timestamp y m d h i s) = refl
+bound-1 g (spatial n s) = refl
+bound-1 g (id s) = refl
+bound-1 g (monadic p t) = refl
+bound-1 g (dyadic p t u) = refl
+bound-1 g (function n ts) = refl
+bound-1 g (array none) = refl
+bound-1 g (array (t then none)) = refl
+bound-1 g (array (t then (u then ts))) = refl
+bound-1 g (interval t u) = refl
+
+start-text : (g : Settings) (t : Tree) → startText t (text g t) (children g t) ≡ text g (startOf t)
+unfolding isInterval children startOf stopOf text
+start-text g null = refl
+start-text g unbounded = refl
+start-text g (bool b) = refl
+start-text g (num m s) = refl
+start-text g (str f s) = refl
+start-text g (date y m d) = refl
+start-text g (timestamp y m d h i s) = refl
+start-text g (spatial n s) = refl
+start-text g (id s) = refl
+start-text g (monadic p t) = refl
+start-text g (dyadic p t u) = refl
+start-text g (function n ts) = refl
+start-text g (array ts) = refl
+start-text g (interval t u) = refl
+
+stop-text : (g : Settings) (t : Tree) → stopText t (children g t) ≡ text g (stopOf t)
+unfolding isInterval children startOf stopOf text
+stop-text g null = refl
+stop-text g unbounded = refl
+stop-text g (bool b) = refl
+stop-text g (num m s) = refl
+stop-text g (str f s) = refl
+stop-text g (date y m d) = refl
+stop-text g (timestamp y m d h i s) = refl
+stop-text g (spatial n s) = refl
+stop-text g (id s) = refl
+stop-text g (monadic p t) = refl
+stop-text g (dyadic p t u) = refl
+stop-text g (function n ts) = refl
+stop-text g (array ts) = refl
+stop-text g (interval t u) = refl
+
+module _ (g : Settings) (o : Op) (t u : Tree) where
+  pub between-fills : isBetween o ≡ true → text g (dyadic o t u) ≡ fill (slot g (word o) (dyadicEnds o t u)) (48 ∷ 32 ∷ 52 ∷ 32 ∷ 49 ∷ 32 ∷ 65 ∷ 78 ∷ 68 ∷ 32 ∷ 50 ∷ [])
+  unfolding text dyadicText dyadicEnds fill
+  between-fills p = simp (p, append-nil, bound-0 g u, bound-1 g u)
+
+  module _ (p : isBetween o ≡ false) where
+    pub spatial-fills : isSpatial o ≡ true → text g (dyadic o t u) ≡ fill (slot g (word o) (dyadicEnds o t u)) (spatialTemplate (opNumber o) (isId t) (isId u))
+    unfolding text dyadicText dyadicEnds fill spatialTemplate reduces reducePrecision isTemporal
+    spatial-fills q =
+        let z : isTemporal o ≡ false = is-temporal o ∙ not-temporal (opNumber o) (sym (is-spatial o) ∙ q) in
+        rw (p, q, z, is-reduced o) (go (between 21 (opNumber o) 23) (isId t) (isId u))
+      where
+        go : (r a b : Bool) → word o ++ (40 ∷ (pick (both r (both a (negated b))) (reducePrecision (g .precision) (text g t)) (text g t) ++ (44 ∷ 32 ∷ (pick (both r (both b (negated a))) (reducePrecision (g .precision) (text g u)) (text g u) ++ (41 ∷ []))))) ≡ fill (slot g (word o) (t ∷ u ∷ null ∷ null ∷ [])) (pick r (pick a (pick b (52 ∷ 40 ∷ 48 ∷ 44 ∷ 32 ∷ 49 ∷ 41 ∷ []) (52 ∷ 40 ∷ 83 ∷ 84 ∷ 95 ∷ 82 ∷ 101 ∷ 100 ∷ 117 ∷ 99 ∷ 101 ∷ 80 ∷ 114 ∷ 101 ∷ 99 ∷ 105 ∷ 115 ∷ 105 ∷ 111 ∷ 110 ∷ 40 ∷ 48 ∷ 44 ∷ 32 ∷ 56 ∷ 41 ∷ 44 ∷ 32 ∷ 49 ∷ 41 ∷ [])) (pick b (52 ∷ 40 ∷ 48 ∷ 44 ∷ 32 ∷ 83 ∷ 84 ∷ 95 ∷ 82 ∷ 101 ∷ 100 ∷ 117 ∷ 99 ∷ 101 ∷ 80 ∷ 114 ∷ 101 ∷ 99 ∷ 105 ∷ 115 ∷ 105 ∷ 111 ∷ 110 ∷ 40 ∷ 49 ∷ 44 ∷ 32 ∷ 56 ∷ 41 ∷ 41 ∷ []) (52 ∷ 40 ∷ 48 ∷ 44 ∷ 32 ∷ 49 ∷ 41 ∷ []))) (52 ∷ 40 ∷ 48 ∷ 44 ∷ 32 ∷ 49 ∷ 41 ∷ []))
+        go true true true = refl
+        go true true false = simp append-assoc
+        go true false true = simp append-assoc
+        go true false false = refl
+        go false true true = refl
+        go false true false = refl
+        go false false true = refl
+        go false false false = refl
+
+    module _ (q : isSpatial o ≡ false) where
+      pub temporal-fills : isTemporal o ≡ true → text g (dyadic o t u) ≡ fill (slot g (word o) (dyadicEnds o t u)) (templateOf (translate (opNumber o) (isInterval t) (isInterval u) (columnsOf t u)))
+      unfolding text dyadicText dyadicEnds endsOf
+      temporal-fills r =
+          rw (p, q, r)
+          (translate-same _ _ ends-same (opNumber o) (isInterval t) (isInterval u) (columnsOf t u)
+          ∙ sym (translate-fills (slot g (word o) (endsOf t u)) (opNumber o) (isInterval t) (isInterval u) (columnsOf t u)))
+        where
+          ends-same : (j : ℕ) → j < 4 → getD (startText t (text g t) (children g t) ∷ stopText t (children g t) ∷ startText u (text g u) (children g u) ∷ stopText u (children g u) ∷ []) j [] ≡ slot g (word o) (endsOf t u) j
+          ends-same zero h = start-text g t
+          ends-same (suc zero) h = stop-text g t
+          ends-same (suc (suc zero)) h = start-text g u
+          ends-same (suc (suc (suc zero))) h = stop-text g u
+          ends-same (suc (suc (suc (suc j)))) h = absurd (let v : ⊥ = omega arith in v)
+
+      module _ (r : isTemporal o ≡ false) where
+        pub array-fills : isArray o ≡ true → text g (dyadic o t u) ≡ fill (slot g (word o) (dyadicEnds o t u)) (48 ∷ 32 ∷ 52 ∷ 32 ∷ 49 ∷ [])
+        unfolding text dyadicText dyadicEnds fill
+        array-fills w = simp (p, q, r, w, append-nil)
+
+        pub like-fills : isArray o ≡ false → oneOf o (IsLike ∷ IsNotLike ∷ []) ≡ true → text g (dyadic o t u) ≡ fill (slot g (word o) (dyadicEnds o t u)) (infixTemplate (isLiteralOrId t) false)
+        unfolding text dyadicText dyadicEnds fill infixTemplate
+        like-fills w l = rw (p, q, r, w, l) (go (isLiteralOrId t))
+          where
+            go : (a : Bool) → bare a (text g t) ++ (32 ∷ (word o ++ (32 ∷ bare false (text g u)))) ≡ fill (slot g (word o) (t ∷ u ∷ null ∷ null ∷ [])) (pick a (48 ∷ 32 ∷ 52 ∷ 32 ∷ 40 ∷ 49 ∷ 41 ∷ []) (40 ∷ 48 ∷ 41 ∷ 32 ∷ 52 ∷ 32 ∷ 40 ∷ 49 ∷ 41 ∷ []))
+            go true = refl
+            go false = simp append-assoc
+
+        pub infix-fills : isArray o ≡ false → oneOf o (IsLike ∷ IsNotLike ∷ []) ≡ false → text g (dyadic o t u) ≡ fill (slot g (word o) (dyadicEnds o t u)) (infixTemplate (isLiteralOrId t) (isLiteralOrId u))
+        unfolding text dyadicText dyadicEnds fill infixTemplate
+        infix-fills w l = rw (p, q, r, w, l) (go (isLiteralOrId t) (isLiteralOrId u))
+          where
+            go : (a b : Bool) → bare a (text g t) ++ (32 ∷ (word o ++ (32 ∷ bare b (text g u)))) ≡ fill (slot g (word o) (t ∷ u ∷ null ∷ null ∷ [])) (pick a (pick b (48 ∷ 32 ∷ 52 ∷ 32 ∷ 49 ∷ []) (48 ∷ 32 ∷ 52 ∷ 32 ∷ 40 ∷ 49 ∷ 41 ∷ [])) (pick b (40 ∷ 48 ∷ 41 ∷ 32 ∷ 52 ∷ 32 ∷ 49 ∷ []) (40 ∷ 48 ∷ 41 ∷ 32 ∷ 52 ∷ 32 ∷ 40 ∷ 49 ∷ 41 ∷ [])))
+            go true true = simp (append-assoc, append-nil)
+            go true false = refl
+            go false true = simp (append-assoc, append-nil)
+            go false false = simp append-assoc

@@ -1,0 +1,68 @@
+-- What the calls ensure, put together.
+use native.Mathlib.Omega.{arith}
+use mathlib.Core.Path.{_≡_, refl, ap, sym, _∙_}
+use mathlib.Core.List.{List, [], _∷_, _++_, append-assoc, append-nil}
+use mathlib.Core.Bool.{Bool, true, false}
+use Prim.Native.Nat.{ℕ, _+_, _-_, _≤_, _<_, min}
+use lib.ListN.{length, getD, take, drop, length-take, length-drop}
+use denote.Ref.{now}
+use borrow.Author.Tests.{eq-eqb, ne-eqb, lt-ltb, le-ltb, le-leb, lt-leb}
+use Rattle.gpkg.proofs.LaysLaws.{lays-placed, lays-none, lays-of, lays-then}
+use Rattle.gpkg.specs.Plan.{leafText, collation, nameOf, settingsIn, precise}
+use Rattle.literal.specs.Literal.{decimal, numText, boolText, dateText, timestampText, spatialText, quoted, collate, strText}
+use Rattle.record.specs.Record.{le16}
+use Rattle.literal.specs.LiteralLaws.{length-timestamp}
+use borrow.Author.Needs.{needs}
+use Rattle.gpkg.proofs.put_timestamp.Statement.{statement}
+use Rattle.gpkg.proofs.put_timestamp.Tie as tie
+use Rattle.gpkg.proofs.put_timestamp.Reads as reads
+use Rattle.gpkg.proofs.put_timestamp.Lts as lts
+use Rattle.gpkg.proofs.ended.Reads as ended-reads
+use Rattle.literal.proofs.put_timestamp.Reads as put-timestamp-reads
+use Rattle.tree.proofs.byte_at.Reads as byte-at-reads
+use Rattle.tree.proofs.word_at.Reads as word-at-reads
+
+word-at-requires : tie.Need-word-at-requires
+word-at-requires c κs = search needs
+
+byte-at-requires : tie.Need-byte-at-requires
+byte-at-requires c κs = search needs
+
+byte-at-requires-2 : tie.Need-byte-at-requires-2
+byte-at-requires-2 c κs = search needs
+
+byte-at-requires-3 : tie.Need-byte-at-requires-3
+byte-at-requires-3 c κs = search needs
+
+byte-at-requires-4 : tie.Need-byte-at-requires-4
+byte-at-requires-4 c κs = search needs
+
+byte-at-requires-5 : tie.Need-byte-at-requires-5
+byte-at-requires-5 c κs = search needs
+
+put-timestamp-requires : tie.Need-put-timestamp-requires
+put-timestamp-requires c κs = search needs
+
+ended-requires : tie.Need-ended-requires
+ended-requires c κs = search needs
+
+same-length : tie.Need-same-length
+same-length c = search needs
+
+returns : tie.Need-returns
+returns c = let e : timestampText (c .before .before .before .before .before .before .before .before .before .before .word-at .result) (c .before .before .before .before .before .before .before .before .before .byte-at .result) (c .before .before .before .before .before .before .before .before .byte-at2 .result) (c .before .before .before .before .before .before .before .byte-at3 .result) (c .before .before .before .before .before .before .byte-at4 .result) (c .before .before .before .before .before .byte-at5 .result) ≡ timestampText (le16 (c .before .before .before .before .before .before .before .before .before .before .before .before .before .args .s .now) 6) (getD (c .before .before .before .before .before .before .before .before .before .before .before .before .before .args .s .now) 8 0) (getD (c .before .before .before .before .before .before .before .before .before .before .before .before .before .args .s .now) 9 0) (getD (c .before .before .before .before .before .before .before .before .before .before .before .before .before .args .s .now) 10 0) (getD (c .before .before .before .before .before .before .before .before .before .before .before .before .before .args .s .now) 11 0) (getD (c .before .before .before .before .before .before .before .before .before .before .before .before .before .args .s .now) 12 0) = cc in lays-of e (lays-placed 21 (c .before .before .before .put-timestamp .ensures .0) (c .ended .ensures) (sym (length-timestamp _ _ _ _ _ _)))
+
+pub put-timestamp-spec : {M : Type 1} → statement M
+put-timestamp-spec =
+    tie.close
+    (tie.spec
+    word-at-requires
+    byte-at-requires
+    byte-at-requires-2
+    byte-at-requires-3
+    byte-at-requires-4
+    byte-at-requires-5
+    put-timestamp-requires
+    ended-requires
+    same-length
+    returns)

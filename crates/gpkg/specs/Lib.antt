@@ -1,0 +1,4 @@
+pub mod Text
+pub mod Lowered
+pub mod Lays
+pub mod Plan

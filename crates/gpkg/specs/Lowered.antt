@@ -1,0 +1,38 @@
+-- What lowering answers and what it leaves in the buffer, refusals 1 to 9 in order: document 01, "What a caller hears".
+use Prim.Native.Nat.{ℕ}
+use mathlib.Core.List.{List, _++_}
+use mathlib.Core.Bool.{Bool, true, false}
+use lib.ListN.{length, drop}
+use lib.Dec.{ltb}
+use Rattle.choice.specs.Choice.{pick}
+use Rattle.refusal.specs.declared.Refusal.{Refusal}
+use Rattle.refusal.specs.declared.Refusal.the-variants.{TextTooLong, BufferTooShort}
+use Rattle.tree.specs.Tree.{Tree, Settings}
+use Rattle.tree.specs.Parse.{Read, refused, got, also}
+use Rattle.tree.specs.Accepted.{accepted}
+use Rattle.gpkg.specs.Text.{text}
+use Rattle.gpkg.specs.declared.Lowered as lowered
+use Rattle.gpkg.specs.declared.Lowered.the-variants.{Text, Refused}
+
+abbrev pub lengthLimit : ℕ
+lengthLimit = 65535
+
+-- 8 if the text is longer than 65,535 bytes, 9 if it is longer than the buffer, else the text
+unfoldable pub fitted : List ℕ → List ℕ → Read (List ℕ)
+fitted out x =
+    pick (ltb lengthLimit (length x)) (refused TextTooLong)
+    (pick (ltb (length out) (length x)) (refused BufferTooShort) (got x))
+
+-- the text of accepted settings and tree
+unfoldable pub lowering : List ℕ → List ℕ → List ℕ → Read (List ℕ)
+lowering settings tree out = also (accepted settings tree) (λ p. fitted out (text (p .0) (p .1)))
+
+-- the answer: a text's length, or the refusal
+unfoldable pub answer : Read (List ℕ) → lowered.Lowered
+answer (refused n) = Refused n
+answer (got x) = Text (length x)
+
+-- the buffer: the text and then the bytes as lent, or all as lent
+unfoldable pub leaves : List ℕ → Read (List ℕ) → List ℕ
+leaves out (refused n) = out
+leaves out (got x) = x ++ drop (length x) out

@@ -1,0 +1,279 @@
+-- How the walk sees a node: a template, in which the digits 0 to 3 stand for operands or ends, 4 for the operator, 5 to 7 for the collations, 8 for the precision.
+use Prim.Native.Nat.{ℕ, _+_, _-_, _≤_, _<_}
+use mathlib.Core.Path.{_≡_}
+use mathlib.Core.List.{List, [], _∷_, _++_}
+use mathlib.Core.Bool.{Bool, true, false}
+use lib.ListN.{length, getD, take, drop}
+use lib.Dec.{ltb, leb, eqb}
+use lib.IntN.{natAbs}
+use Rattle.record.specs.Record.{le16, le32}
+use Rattle.tree.specs.Limits.{mantissaLimit}
+use Rattle.choice.specs.Choice.{pick, both, either, between}
+use Rattle.op.specs.declared.Op.{Op}
+use Rattle.op.specs.declared.Op.the-variants.{Minus, Neg, CaseI, AccentI}
+use Rattle.op.specs.Op.{oneOf, isTemporal, isNullable, opNumber}
+use Rattle.tree.specs.Tree.{Tree, Trees, Settings, encode, null, unbounded, bool, num, str, date, timestamp, spatial, id, monadic, dyadic, function, array, interval, none, _then_}
+use Rattle.tree.specs.Parse.{first, second, nameAt, mantissa}
+use Rattle.tree.specs.Accepted.{ciAt, aiAt, caiAt}
+use Rattle.tree.specs.Placed.{isBetween, isInterval}
+use Rattle.literal.specs.Literal.{nullText, boolText, unboundedText, numText, strText, dateText, timestampText, spatialText, decimal, collate}
+use Rattle.sql.specs.Ends.{isColumn}
+use Rattle.sql.specs.Ends as sqlEnds
+use Rattle.sql.specs.declared.Operand as operand
+use Rattle.sql.specs.Template.{fill, held}
+use Rattle.sql.specs.declared.End as end
+use Rattle.sql.specs.declared.End.the-variants.{Column, Instant, Other, Open, Null}
+use Rattle.sql.specs.declared.Template as template
+use Rattle.gpkg.specs.Text.{isId, isMonadic, startOf, stopOf, endsOf, word, text}
+use Rattle.gpkg.specs.declared.Flat as flat
+use Rattle.gpkg.specs.declared.Flat.the-variants.{Byte, Slot, Opened, Nothing}
+use Rattle.gpkg.specs.declared.Piece as piece
+use Rattle.gpkg.specs.declared.Piece.the-variants as pieces
+
+-- the settings that some bytes hold
+abbrev pub settingsIn : List ℕ → Settings
+settingsIn s = record { precision = getD s 6 0; ci = nameAt s (ciAt s); ai = nameAt s (aiAt s); cai = nameAt s (caiAt s) }
+
+-- Trees whose numbers fit their fields.
+unfoldable mutual
+  pub sound : Tree → Bool
+  sound null = true
+  sound unbounded = true
+  sound (bool b) = true
+  sound (num m s) = leb (natAbs m) mantissaLimit
+  sound (str f s) = true
+  sound (date y m d) = ltb y 65536
+  sound (timestamp y m d h i s) = ltb y 65536
+  sound (spatial n s) = ltb n 4294967296
+  sound (id s) = true
+  sound (monadic o t) = sound t
+  sound (dyadic o t u) = both (sound t) (sound u)
+  sound (function n ts) = sounds ts
+  sound (array ts) = sounds ts
+  sound (interval t u) = both (sound t) (sound u)
+
+  pub sounds : Trees → Bool
+  sounds none = true
+  sounds (t then ts) = both (sound t) (sounds ts)
+
+-- the text of a node without operands, from its record
+unfoldable pub leafText : Settings → List ℕ → List ℕ
+leafText g s =
+    pick (eqb (le16 s 4) 0) nullText
+    (pick (eqb (le16 s 4) 1) unboundedText
+    (pick (eqb (le16 s 4) 2) (boolText (eqb (getD s 6 0) 1))
+    (pick (eqb (le16 s 4) 3) (numText (mantissa s 6) (getD s 14 0))
+    (pick (eqb (le16 s 4) 4) (strText (g .ci) (g .ai) (g .cai) (getD s 6 0) (drop 7 s))
+    (pick (eqb (le16 s 4) 5) (dateText (le16 s 6) (getD s 8 0) (getD s 9 0))
+    (pick (eqb (le16 s 4) 6) (timestampText (le16 s 6) (getD s 8 0) (getD s 9 0) (getD s 10 0) (getD s 11 0) (getD s 12 0))
+    (pick (eqb (le16 s 4) 7) (spatialText (le32 s 6) (drop 10 s)) (drop 6 s))))))))
+
+-- the part from a to e, inside s and not at its front
+pub record Inside (s : List ℕ) (a e : ℕ) : Type 0 where
+  pub starts : 0 < a
+  pub order : a ≤ e
+  pub ends : e ≤ length s
+
+abbrev pub part : List ℕ → ℕ → ℕ → List ℕ
+part s a e = take (e - a) (drop a s)
+
+-- an end in s is the tree x
+abbrev pub Here : List ℕ → end.End → Tree → Type 0
+Here s (Column a e) x = Inside s a e × (part s a e ≡ encode x)
+Here s (Instant a e) x = Inside s a e × (part s a e ≡ encode x)
+Here s (Other a e) x = Inside s a e × (part s a e ≡ encode x)
+Here s Open x = x ≡ unbounded
+Here s Null x = x ≡ null
+
+pub record Is (s : List ℕ) (e : end.End) (x : Tree) : Type 0 where
+  pub column : isColumn e ≡ isId x
+  pub fit : sound x ≡ true
+  pub here : Here s e x
+
+-- CaseI over AccentI or AccentI over CaseI
+unfoldable pub twin : Op → Tree → Bool
+twin o t =
+    pick (isNullable o) false
+    (pick (oneOf o (Neg ∷ Minus ∷ [])) false
+    (pick (oneOf o (CaseI ∷ [])) (isMonadic AccentI t) (isMonadic CaseI t)))
+
+-- the operand of a monadic node; the items of an array
+unfoldable pub underOf : Tree → Tree
+underOf null = null
+underOf unbounded = null
+underOf (bool b) = null
+underOf (num m s) = null
+underOf (str f s) = null
+underOf (date y m d) = null
+underOf (timestamp y m d h i s) = null
+underOf (spatial n s) = null
+underOf (id s) = null
+underOf (monadic o t) = t
+underOf (dyadic o t u) = null
+underOf (function n ts) = null
+underOf (array ts) = null
+underOf (interval t u) = null
+
+unfoldable pub itemsOf : Tree → Trees
+itemsOf null = none
+itemsOf unbounded = none
+itemsOf (bool b) = none
+itemsOf (num m s) = none
+itemsOf (str f s) = none
+itemsOf (date y m d) = none
+itemsOf (timestamp y m d h i s) = none
+itemsOf (spatial n s) = none
+itemsOf (id s) = none
+itemsOf (monadic o t) = none
+itemsOf (dyadic o t u) = none
+itemsOf (function n ts) = none
+itemsOf (array ts) = ts
+itemsOf (interval t u) = none
+
+-- what the digits 0 to 3 stand for
+unfoldable pub monadicEnds : Op → Tree → List Tree
+monadicEnds o t = pick (twin o t) (underOf t) t ∷ null ∷ null ∷ null ∷ []
+
+unfoldable pub dyadicEnds : Op → Tree → Tree → List Tree
+dyadicEnds o t u =
+    pick (isBetween o) (t ∷ first (itemsOf u) ∷ second (itemsOf u) ∷ null ∷ [])
+    (pick (isTemporal o) (endsOf t u) (t ∷ u ∷ null ∷ null ∷ []))
+
+-- 1E-p
+abbrev pub precise : ℕ → List ℕ
+precise p = 49 ∷ 69 ∷ 45 ∷ decimal p
+
+-- the name of a collation by its digit, and a Str's collation by its flags
+abbrev pub nameOf : Settings → ℕ → List ℕ
+nameOf g j = pick (eqb j 5) (g .ci) (pick (eqb j 6) (g .ai) (g .cai))
+
+abbrev pub collation : Settings → ℕ → List ℕ
+collation g flags =
+    pick (eqb flags 0) []
+    (pick (eqb flags 1) (collate (g .ci))
+    (pick (eqb flags 2) (collate (g .ai)) (collate (g .cai))))
+
+-- the text that a digit stands for
+abbrev pub wordText : Settings → List ℕ → ℕ → List ℕ
+wordText g w j =
+    pick (eqb j 4) w
+    (pick (eqb j 5) (g .ci)
+    (pick (eqb j 6) (g .ai)
+    (pick (eqb j 7) (g .cai) (precise (g .precision)))))
+
+abbrev pub slot : Settings → List ℕ → List Tree → ℕ → List ℕ
+slot g w xs j = pick (ltb j 4) (text g (getD xs j null)) (wordText g w j)
+
+-- four ends are four trees
+pub record Are (s : List ℕ) (e : List end.End) (xs : List Tree) : Type 0 where
+  pub is0 : Is s (getD e 0 (Column 0 0)) (getD xs 0 null)
+  pub is1 : Is s (getD e 1 (Column 0 0)) (getD xs 1 null)
+  pub is2 : Is s (getD e 2 (Column 0 0)) (getD xs 2 null)
+  pub is3 : Is s (getD e 3 (Column 0 0)) (getD xs 3 null)
+
+-- the pieces of a template
+abbrev pub endPiece : end.End → piece.Piece
+endPiece (Column a e) = pieces.Node a e
+endPiece (Instant a e) = pieces.Node a e
+endPiece (Other a e) = pieces.Node a e
+endPiece Open = pieces.Plain Opened
+endPiece Null = pieces.Plain Nothing
+
+unfoldable pub pieceOf : ℕ → List end.End → piece.Piece
+pieceOf b e =
+    pick (between 48 b 57)
+    (pick (ltb (b - 48) 4) (endPiece (getD e (b - 48) (Column 0 0))) (pieces.Plain (Slot (b - 48))))
+    (pieces.Plain (Byte b))
+
+unfoldable pub flatText : Settings → List ℕ → flat.Flat → List ℕ
+flatText g w (Byte b) = b ∷ []
+flatText g w (Slot j) = wordText g w j
+flatText g w Opened = unboundedText
+flatText g w Nothing = nullText
+
+-- where the record at p ends, kept inside s
+pub record EndOf (s : List ℕ) (p r : ℕ) : Type 0 where
+  pub high : r ≤ length s
+  pub moves : p < length s → p < r
+  pub low : p ≤ r
+  pub exact : (x : Tree) (rest : List ℕ) → drop p s ≡ encode x ++ rest → r ≡ p + length (encode x)
+
+-- what an operand is
+pub record IsOperand (s : List ℕ) (o : operand.Operand) (x : Tree) : Type 0 where
+  pub split : sqlEnds.isInterval o ≡ isInterval x
+  pub starts : Is s (sqlEnds.startOf o) (startOf x)
+  pub stops : Is s (sqlEnds.stopOf o) (stopOf x)
+
+-- the record of x stands at p and ends at z
+pub record Stands (s : List ℕ) (p z : ℕ) (x : Tree) : Type 0 where
+  pub rest : List ℕ
+  pub there : drop p s ≡ encode x ++ rest
+  pub past : z ≡ p + length (encode x)
+  pub starts : 0 < p
+  pub inside : p ≤ length s
+  pub fit : sound x ≡ true
+
+-- a twin by the numbers of the operator above, of the kind below and of the operator below
+abbrev pub twinOf : ℕ → ℕ → ℕ → Bool
+twinOf op kind inner =
+    pick (between 51 op 52) false
+    (pick (eqb op 7) false
+    (pick (eqb op 1) false
+    (pick (eqb kind 9) (pick (eqb op 16) (eqb inner 17) (eqb inner 16)) false)))
+
+-- the template of a spatial operator by whether each side is a column
+unfoldable pub spatialTemplate : ℕ → Bool → Bool → List ℕ
+spatialTemplate op a b =
+    pick (between 21 op 23)
+    (pick a
+    (pick b (52 ∷ 40 ∷ 48 ∷ 44 ∷ 32 ∷ 49 ∷ 41 ∷ [])
+    (52 ∷ 40 ∷ 83 ∷ 84 ∷ 95 ∷ 82 ∷ 101 ∷ 100 ∷ 117 ∷ 99 ∷ 101 ∷ 80 ∷ 114 ∷ 101 ∷ 99 ∷ 105 ∷ 115 ∷ 105 ∷ 111 ∷ 110 ∷ 40 ∷ 48 ∷ 44 ∷ 32 ∷ 56 ∷ 41 ∷ 44 ∷ 32 ∷ 49 ∷ 41 ∷ []))
+    (pick b
+    (52 ∷ 40 ∷ 48 ∷ 44 ∷ 32 ∷ 83 ∷ 84 ∷ 95 ∷ 82 ∷ 101 ∷ 100 ∷ 117 ∷ 99 ∷ 101 ∷ 80 ∷ 114 ∷ 101 ∷ 99 ∷ 105 ∷ 115 ∷ 105 ∷ 111 ∷ 110 ∷ 40 ∷ 49 ∷ 44 ∷ 32 ∷ 56 ∷ 41 ∷ 41 ∷ [])
+    (52 ∷ 40 ∷ 48 ∷ 44 ∷ 32 ∷ 49 ∷ 41 ∷ [])))
+    (52 ∷ 40 ∷ 48 ∷ 44 ∷ 32 ∷ 49 ∷ 41 ∷ [])
+
+-- the template of an operator between its sides, by which of them are bare
+unfoldable pub infixTemplate : Bool → Bool → List ℕ
+infixTemplate a b =
+    pick a
+    (pick b (48 ∷ 32 ∷ 52 ∷ 32 ∷ 49 ∷ []) (48 ∷ 32 ∷ 52 ∷ 32 ∷ 40 ∷ 49 ∷ 41 ∷ []))
+    (pick b (40 ∷ 48 ∷ 41 ∷ 32 ∷ 52 ∷ 32 ∷ 49 ∷ []) (40 ∷ 48 ∷ 41 ∷ 32 ∷ 52 ∷ 32 ∷ 40 ∷ 49 ∷ 41 ∷ []))
+
+-- a node with operands: its ends, its operator
+unfoldable pub nodeEnds : Tree → List Tree
+nodeEnds null = []
+nodeEnds unbounded = []
+nodeEnds (bool b) = []
+nodeEnds (num m s) = []
+nodeEnds (str f s) = []
+nodeEnds (date y m d) = []
+nodeEnds (timestamp y m d h i s) = []
+nodeEnds (spatial n s) = []
+nodeEnds (id s) = []
+nodeEnds (monadic o t) = monadicEnds o t
+nodeEnds (dyadic o t u) = dyadicEnds o t u
+nodeEnds (function n ts) = []
+nodeEnds (array ts) = []
+nodeEnds (interval t u) = []
+
+unfoldable pub nodeOp : Tree → Op
+nodeOp null = Minus
+nodeOp unbounded = Minus
+nodeOp (bool b) = Minus
+nodeOp (num m s) = Minus
+nodeOp (str f s) = Minus
+nodeOp (date y m d) = Minus
+nodeOp (timestamp y m d h i s) = Minus
+nodeOp (spatial n s) = Minus
+nodeOp (id s) = Minus
+nodeOp (monadic o t) = o
+nodeOp (dyadic o t u) = o
+nodeOp (function n ts) = Minus
+nodeOp (array ts) = Minus
+nodeOp (interval t u) = Minus
+
+-- s is the record of such a node, of this kind and operator, whose second operand starts at m
+pub data Node (s : List ℕ) (kind op m : ℕ) : Tree → Type 0 where
+  one : (o : Op) (t : Tree) → kind ≡ 9 → op ≡ opNumber o → s ≡ encode (monadic o t) → sound t ≡ true → Node s kind op m (monadic o t)
+  two : (o : Op) (t u : Tree) → kind ≡ 10 → op ≡ opNumber o → Stands s 8 m t → Stands s m (length s) u → Node s kind op m (dyadic o t u)

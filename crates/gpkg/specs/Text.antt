@@ -1,0 +1,237 @@
+-- The SQL text of a tree, case by case as `to_sql_impl` (src/ds/gpkg.rs) with `is_literal` (src/expr.rs): document 01, "The lowering".
+use Prim.Native.Nat.{ℕ}
+use mathlib.Core.List.{List, [], _∷_, _++_}
+use mathlib.Core.Bool.{Bool, true, false}
+use lib.ListN.{getD}
+use lib.Dec.{eqb}
+use Rattle.choice.specs.Choice.{pick, both, either, negated}
+use Rattle.op.specs.declared.Op.{Op}
+use Rattle.op.specs.declared.Op.the-variants.{Minus, Neg, CaseI, AccentI, STouches, SWithin, SOverlaps, IsLike, IsNotLike}
+use Rattle.op.specs.Op.{opNumber, oneOf, isArray, isSpatial, isTemporal, isNullable}
+use Rattle.op.specs.Spelling.{Spelling, noSpelling, spelled, spelling}
+use Rattle.tree.specs.Tree.{Tree, Trees, Settings, null, unbounded, bool, num, str, date, timestamp, spatial, id, monadic, dyadic, function, array, interval, none, _then_}
+use Rattle.tree.specs.Placed.{isInterval, isBetween}
+use Rattle.literal.specs.Literal.{nullText, boolText, unboundedText, numText, strText, dateText, timestampText, spatialText, decimal, collate}
+use Rattle.sql.specs.Condition.{print}
+use Rattle.sql.specs.Translators.{translate}
+
+-- Tests on a tree.
+
+-- false for Null and Unbounded, true for an empty array
+unfoldable mutual
+  pub isLiteral : Tree → Bool
+  isLiteral null = false
+  isLiteral unbounded = false
+  isLiteral (bool b) = true
+  isLiteral (num m s) = true
+  isLiteral (str f s) = true
+  isLiteral (date y m d) = true
+  isLiteral (timestamp y m d h i s) = true
+  isLiteral (spatial n s) = true
+  isLiteral (id s) = false
+  isLiteral (monadic o t) = false
+  isLiteral (dyadic o t u) = false
+  isLiteral (function n ts) = false
+  isLiteral (array ts) = allLiteral ts
+  isLiteral (interval t u) = false
+
+  pub allLiteral : Trees → Bool
+  allLiteral none = true
+  allLiteral (t then ts) = both (isLiteral t) (allLiteral ts)
+
+unfoldable pub isId : Tree → Bool
+isId null = false
+isId unbounded = false
+isId (bool b) = false
+isId (num m s) = false
+isId (str f s) = false
+isId (date y m d) = false
+isId (timestamp y m d h i s) = false
+isId (spatial n s) = false
+isId (id s) = true
+isId (monadic o t) = false
+isId (dyadic o t u) = false
+isId (function n ts) = false
+isId (array ts) = false
+isId (interval t u) = false
+
+unfoldable pub isLiteralOrId : Tree → Bool
+isLiteralOrId t = either (isLiteral t) (isId t)
+
+-- a monadic node of the operator o
+unfoldable pub isMonadic : Op → Tree → Bool
+isMonadic o null = false
+isMonadic o unbounded = false
+isMonadic o (bool b) = false
+isMonadic o (num m s) = false
+isMonadic o (str f s) = false
+isMonadic o (date y m d) = false
+isMonadic o (timestamp y m d h i s) = false
+isMonadic o (spatial n s) = false
+isMonadic o (id s) = false
+isMonadic o (monadic p t) = eqb (opNumber p) (opNumber o)
+isMonadic o (dyadic p t u) = false
+isMonadic o (function n ts) = false
+isMonadic o (array ts) = false
+isMonadic o (interval t u) = false
+
+unfoldable pub isItems : Tree → Bool
+isItems null = false
+isItems unbounded = false
+isItems (bool b) = false
+isItems (num m s) = false
+isItems (str f s) = false
+isItems (date y m d) = false
+isItems (timestamp y m d h i s) = false
+isItems (spatial n s) = false
+isItems (id s) = false
+isItems (monadic o t) = false
+isItems (dyadic o t u) = false
+isItems (function n ts) = false
+isItems (array ts) = true
+isItems (interval t u) = false
+
+-- `unfold_expressions`: the ends of an operand; an instant's second end is Null
+unfoldable pub startOf : Tree → Tree
+startOf null = null
+startOf unbounded = unbounded
+startOf (bool b) = bool b
+startOf (num m s) = num m s
+startOf (str f s) = str f s
+startOf (date y m d) = date y m d
+startOf (timestamp y m d h i s) = timestamp y m d h i s
+startOf (spatial n s) = spatial n s
+startOf (id s) = id s
+startOf (monadic o t) = monadic o t
+startOf (dyadic o t u) = dyadic o t u
+startOf (function n ts) = function n ts
+startOf (array ts) = array ts
+startOf (interval t u) = t
+
+unfoldable pub stopOf : Tree → Tree
+stopOf null = null
+stopOf unbounded = null
+stopOf (bool b) = null
+stopOf (num m s) = null
+stopOf (str f s) = null
+stopOf (date y m d) = null
+stopOf (timestamp y m d h i s) = null
+stopOf (spatial n s) = null
+stopOf (id s) = null
+stopOf (monadic o t) = null
+stopOf (dyadic o t u) = null
+stopOf (function n ts) = null
+stopOf (array ts) = null
+stopOf (interval t u) = u
+
+-- the four ends in order
+unfoldable pub endsOf : Tree → Tree → List Tree
+endsOf t u = startOf t ∷ stopOf t ∷ startOf u ∷ stopOf u ∷ []
+
+-- which of them are columns
+abbrev pub columnsOf : Tree → Tree → ℕ → Bool
+columnsOf t u j = isId (getD (endsOf t u) j null)
+
+-- Words.
+
+unfoldable pub spelledAs : Spelling → List ℕ
+spelledAs noSpelling = []
+spelledAs (spelled s) = s
+
+-- an operator's spelling; those that have none are written without it
+abbrev pub word : Op → List ℕ
+word o = spelledAs (spelling o)
+
+-- x itself, or in brackets
+abbrev pub bare : Bool → List ℕ → List ℕ
+bare b x = pick b x (40 ∷ (x ++ (41 ∷ [])))
+
+-- x, y, z
+unfoldable pub joined : List (List ℕ) → List ℕ
+joined [] = []
+joined (x ∷ []) = x
+joined (x ∷ (y ∷ s)) = x ++ (44 ∷ 32 ∷ joined (y ∷ s))
+
+-- `reduce_precision_sql`: ST_ReducePrecision(x, 1E-p)
+unfoldable pub reducePrecision : ℕ → List ℕ → List ℕ
+reducePrecision p x =
+    83 ∷ 84 ∷ 95 ∷ 82 ∷ 101 ∷ 100 ∷ 117 ∷ 99 ∷ 101 ∷ 80 ∷ 114 ∷ 101 ∷ 99 ∷ 105 ∷ 115 ∷ 105 ∷ 111 ∷ 110 ∷ 40
+    ∷ (x ++ (44 ∷ 32 ∷ 49 ∷ 69 ∷ 45 ∷ (decimal p ++ (41 ∷ []))))
+
+-- Operators. x and y are the texts of t and u; xs and ys those of their own children.
+
+unfoldable pub monadicText : Settings → Op → Tree → List ℕ → List (List ℕ) → List ℕ
+monadicText g o t x xs =
+    pick (isNullable o) (bare (isLiteralOrId t) x ++ (32 ∷ word o))
+    (pick (oneOf o (Neg ∷ Minus ∷ [])) (word o ++ (32 ∷ bare (isLiteralOrId t) x))
+    (pick (oneOf o (CaseI ∷ []))
+    (pick (isMonadic AccentI t) (getD xs 0 [] ++ collate (g .cai)) (x ++ collate (g .ci)))
+    (pick (isMonadic CaseI t) (getD xs 0 [] ++ collate (g .cai)) (x ++ collate (g .ai)))))
+
+-- exactly one side a column, and only SWithin, SOverlaps, STouches
+unfoldable pub reduces : Op → Tree → Tree → Bool
+reduces o t u = both (oneOf o (SWithin ∷ SOverlaps ∷ STouches ∷ [])) (both (isId t) (negated (isId u)))
+
+-- the text of an end: of an interval its child's, of an instant its own
+abbrev pub startText : Tree → List ℕ → List (List ℕ) → List ℕ
+startText t x xs = pick (isInterval t) (getD xs 0 []) x
+
+abbrev pub stopText : Tree → List (List ℕ) → List ℕ
+stopText t xs = pick (isInterval t) (getD xs 1 []) nullText
+
+-- a bound of BETWEEN, whose right side is an Array of two
+abbrev pub boundText : Tree → List (List ℕ) → ℕ → List ℕ
+boundText u ys j = pick (isItems u) (getD ys j nullText) nullText
+
+unfoldable pub dyadicText : Settings → Op → Tree → Tree → List ℕ → List ℕ → List (List ℕ) → List (List ℕ) → List ℕ
+dyadicText g o t u x y xs ys =
+    pick (isBetween o)
+    (x ++ (32 ∷ (word o ++ (32 ∷ (boundText u ys 0 ++ (32 ∷ 65 ∷ 78 ∷ 68 ∷ 32 ∷ boundText u ys 1))))))
+    (pick (isSpatial o)
+    (word o ++ (40 ∷ (pick (reduces o t u) (reducePrecision (g .precision) x) x
+    ++ (44 ∷ 32 ∷ (pick (reduces o u t) (reducePrecision (g .precision) y) y ++ (41 ∷ []))))))
+    (pick (isTemporal o)
+    (print (λ j. getD (startText t x xs ∷ stopText t xs ∷ startText u y ys ∷ stopText u ys ∷ []) j [])
+    (translate (opNumber o) (isInterval t) (isInterval u) (columnsOf t u)))
+    (pick (isArray o) (x ++ (32 ∷ (word o ++ (32 ∷ y))))
+    (pick (oneOf o (IsLike ∷ IsNotLike ∷ [])) (bare (isLiteralOrId t) x ++ (32 ∷ (word o ++ (32 ∷ bare false y))))
+    (bare (isLiteralOrId t) x ++ (32 ∷ (word o ++ (32 ∷ bare (isLiteralOrId u) y))))))))
+
+-- The text; an Interval has none of its own, its ends are written by the operator above it.
+unfoldable mutual
+  pub text : Settings → Tree → List ℕ
+  text g null = nullText
+  text g unbounded = unboundedText
+  text g (bool b) = boolText b
+  text g (num m s) = numText m s
+  text g (str f s) = strText (g .ci) (g .ai) (g .cai) f s
+  text g (date y m d) = dateText y m d
+  text g (timestamp y m d h i s) = timestampText y m d h i s
+  text g (spatial n s) = spatialText n s
+  text g (id s) = s
+  text g (monadic o t) = monadicText g o t (text g t) (children g t)
+  text g (dyadic o t u) = dyadicText g o t u (text g t) (text g u) (children g t) (children g u)
+  text g (function n ts) = n ++ bare false (joined (texts g ts))
+  text g (array ts) = bare false (joined (texts g ts))
+  text g (interval t u) = []
+
+  -- the texts of a node's operands, items or ends
+  pub children : Settings → Tree → List (List ℕ)
+  children g null = []
+  children g unbounded = []
+  children g (bool b) = []
+  children g (num m s) = []
+  children g (str f s) = []
+  children g (date y m d) = []
+  children g (timestamp y m d h i s) = []
+  children g (spatial n s) = []
+  children g (id s) = []
+  children g (monadic o t) = text g t ∷ []
+  children g (dyadic o t u) = text g t ∷ text g u ∷ []
+  children g (function n ts) = texts g ts
+  children g (array ts) = texts g ts
+  children g (interval t u) = text g t ∷ text g u ∷ []
+
+  pub texts : Settings → Trees → List (List ℕ)
+  texts g none = []
+  texts g (t then ts) = text g t ∷ texts g ts

@@ -1,0 +1,1 @@
+// Definitions and one proof alone (specs/): the sixteen sheets of document 01.

@@ -1,0 +1,60 @@
+-- A run of bytes that grows by one, and a text laid behind what a template holds.
+use mathlib.Core.Path.{_≡_, refl, ap, sym, _∙_}
+use mathlib.Core.List.{List, [], _∷_, _++_, append-assoc}
+use Prim.Native.Nat.{ℕ, suc, _+_, _-_, _≤_, _<_, min}
+use mathlib.Core.Logic.{⊎-elim}
+use native.Mathlib.Nat.{eq-zero-or-pos}
+use native.Mathlib.Numerals.{add-one}
+use native.Mathlib.Omega.{arith}
+use lib.ListN.{length, take, getD, set}
+use lib.Seq.{take-suc, take-suc-set, take-all}
+use mathlib.Core.Bool.{Bool, true, false}
+use Rattle.choice.specs.Choice.{pick}
+use Rattle.sql.specs.Condition.{Cond, and, or, isNotNull, notNull, brackets, print, checkId, checkIds}
+use Rattle.sql.specs.Template.{templateOf, guardedText, guardedBothText, checkIdText, checkIdsText, eitherText}
+
+pub grow : (b b₀ s : List ℕ) (n k : ℕ) → n + k < length b → k < length s → take (n + k) b ≡ take n b₀ ++ take k s
+    → take (n + (k + 1)) (set b (n + k) (getD s k 0)) ≡ take n b₀ ++ take (k + 1) s
+grow b b₀ s n k h l e =
+    let z : n + (k + 1) ≡ suc (n + k) = omega arith in
+    rw (z, add-one) (take-suc-set b (n + k) (getD s k 0) h
+    ∙ ap (λ (x : List ℕ). x ++ (getD s k 0 ∷ [])) e
+    ∙ append-assoc (take n b₀) (take k s) (getD s k 0 ∷ [])
+    ∙ ap (λ (x : List ℕ). take n b₀ ++ x) (sym (take-suc s k 0 l)))
+
+-- bytes pushed behind what is known
+pub then : {x y z : List ℕ} (c : List ℕ) → x ≡ y ++ c → y ≡ z → x ≡ z ++ c
+then c p q = p ∙ ap (λ (l : List ℕ). l ++ c) q
+
+-- guards on texts are the guards of the condition
+pub one-guard : (column : ℕ → Bool) (i : ℕ) (base : Cond) → checkIdText (column i) (48 + i) (templateOf base) ≡ templateOf (checkId column i base)
+unfolding checkId print checkIdText guardedText
+one-guard column i base = go (column i)
+  where
+    go : (b : Bool) → checkIdText b (48 + i) (templateOf base) ≡ templateOf (pick b (and (isNotNull i) (brackets base)) base)
+    go true = refl
+    go false = refl
+
+pub two-guards : (column : ℕ → Bool) (i j : ℕ) (base : Cond)
+    → checkIdsText (column i) (column j) (48 + i) (48 + j) (templateOf base) ≡ templateOf (checkIds column i j base)
+unfolding checkIds print checkIdsText checkIdText guardedText guardedBothText
+two-guards column i j base = go (column i) (column j)
+  where
+    go : (b d : Bool) → checkIdsText b d (48 + i) (48 + j) (templateOf base)
+        ≡ templateOf (pick b (pick d (and (and (isNotNull i) (notNull j)) (brackets base)) (and (isNotNull i) (brackets base))) (pick d (and (isNotNull j) (brackets base)) base))
+    go true true = refl
+    go true false = refl
+    go false true = refl
+    go false false = refl
+
+pub either-or : (c d : Cond) → eitherText (templateOf c) (templateOf d) ≡ templateOf (or (brackets c) (brackets d))
+unfolding print eitherText
+either-or c d = ap (λ (l : List ℕ). 40 ∷ l) (sym (append-assoc (templateOf c) (41 ∷ []) (32 ∷ 79 ∷ 82 ∷ 32 ∷ 40 ∷ (templateOf d ++ (41 ∷ [])))))
+
+-- no more than there is
+pub least-take : (s : List ℕ) (n : ℕ) → n ≡ min 96 (length s) → take n s ≡ take 96 s
+least-take s n e =
+    ⊎-elim
+    (λ (z : 96 - length s ≡ 0). let u : n ≡ 96 = omega arith in rw u)
+    (λ (z : 0 < 96 - length s). take-all n s (omega arith) ∙ sym (take-all 96 s (omega arith)))
+    (eq-zero-or-pos (96 - length s))

@@ -1,0 +1,56 @@
+use native.Mathlib.Omega.{arith}
+use mathlib.Core.Path.{_≡_, refl, ap, sym, _∙_}
+use Rattle.sql.proofs.Laws.{then, one-guard, two-guards, either-or}
+use Rattle.sql.specs.Ends.{isColumn, columns}
+use Rattle.sql.specs.Condition.{test, lt, gt, eq, ne, print, checkId, checkIds}
+use Rattle.sql.specs.Template.{guardedText, guardedBothText, checkIdText, checkIdsText, eitherText, templateOf, held}
+use Rattle.sql.specs.Translators.{tAfter, tBefore, tContains, tDisjoint, tDuring, tEquals, tFinishedBy, tFinishes, tIntersects, tMeets, tMetBy, tOverlappedBy, tOverlaps, tStartedBy, tStarts, translate}
+use borrow.Author.Needs.{needs}
+use Rattle.sql.proofs.check_ids.Statement.{statement}
+use Rattle.sql.proofs.check_ids.Tie as tie
+use Rattle.sql.proofs.check_ids.Reads as reads
+use Rattle.sql.proofs.check_ids.Lts as lts
+use Rattle.sql.proofs.check_id.Reads as check-id-reads
+use Rattle.sql.proofs.guarded.Reads as guarded-reads
+use Rattle.sql.proofs.guarded_both.Reads as guarded-both-reads
+use Rattle.sql.proofs.is_column.Reads as is-column-reads
+
+is-column-requires : tie.Need-is-column-requires
+is-column-requires c κs = search needs
+
+is-column-requires-2 : tie.Need-is-column-requires-2
+is-column-requires-2 c κs = search needs
+
+guarded-both-requires : tie.Need-guarded-both-requires
+guarded-both-requires c κs = search needs
+
+guarded-requires : tie.Need-guarded-requires
+guarded-requires c κs = search needs
+
+check-id-requires : tie.Need-check-id-requires
+check-id-requires c κs = search needs
+
+returns : tie.Need-returns
+unfolding checkIdsText
+returns c = rw (sym (c .before .before .before .before .is-column .ensures) ∙ c .before .before .before .if1 .taken, sym (c .before .before .is-column2 .ensures) ∙ c .before .if2 .taken) (c .guarded-both .ensures .0, omega arith)
+
+returns-2 : tie.Need-returns-2
+unfolding checkIdsText
+returns-2 c = rw (sym (c .before .before .before .before .is-column .ensures) ∙ c .before .before .before .if1 .taken, sym (c .before .before .is-column2 .ensures) ∙ c .before .if2 .left) (c .guarded .ensures .0, omega arith)
+
+returns-3 : tie.Need-returns-3
+unfolding checkIdsText
+returns-3 c = rw (sym (c .before .before .is-column .ensures) ∙ c .before .if1 .left) (c .check-id .ensures .0, omega arith)
+
+pub check-ids-spec : {M : Type 1} → statement M
+check-ids-spec =
+    tie.close
+    (tie.spec
+    is-column-requires
+    is-column-requires-2
+    guarded-both-requires
+    guarded-requires
+    check-id-requires
+    returns
+    returns-2
+    returns-3)

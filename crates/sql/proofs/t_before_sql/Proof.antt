@@ -1,0 +1,80 @@
+use native.Mathlib.Omega.{arith}
+use mathlib.Core.Path.{_≡_, refl, ap, sym, _∙_}
+use Rattle.sql.proofs.Laws.{then, one-guard, two-guards, either-or}
+use Rattle.sql.specs.Ends.{isColumn, columns}
+use Rattle.sql.specs.Condition.{test, lt, gt, eq, ne, print, checkId, checkIds}
+use Rattle.sql.specs.Template.{guardedText, guardedBothText, checkIdText, checkIdsText, eitherText, templateOf, held}
+use Rattle.sql.specs.Translators.{tAfter, tBefore, tContains, tDisjoint, tDuring, tEquals, tFinishedBy, tFinishes, tIntersects, tMeets, tMetBy, tOverlappedBy, tOverlaps, tStartedBy, tStarts, translate}
+use borrow.Author.Needs.{needs}
+use Rattle.sql.proofs.t_before_sql.Statement.{statement}
+use Rattle.sql.proofs.t_before_sql.Tie as tie
+use Rattle.sql.proofs.t_before_sql.Reads as reads
+use Rattle.sql.proofs.t_before_sql.Lts as lts
+use Rattle.sql.proofs.check_id.Reads as check-id-reads
+use Rattle.sql.proofs.check_ids.Reads as check-ids-reads
+use Rattle.sql.proofs.sql.Reads as sql-reads
+
+array-copy-out-e0 : tie.Need-array-copy-out-e0
+array-copy-out-e0 c = search needs
+
+array-copy-out-e3 : tie.Need-array-copy-out-e3
+array-copy-out-e3 c = search needs
+
+slice-aggregate-check-ids : tie.Need-slice-aggregate-check-ids
+slice-aggregate-check-ids c = search needs
+
+check-ids-requires : tie.Need-check-ids-requires
+check-ids-requires c κs = search needs
+
+returns : tie.Need-returns
+unfolding tBefore print
+returns c = rw (c .before .before .before .if1 .taken, c .before .before .if2 .taken) (c .check-ids .ensures .0 ∙ two-guards (columns (c .before .before .before .before .before .before .args .t3)) 0 3 (test 1 lt 2), omega arith)
+
+slice-aggregate-check-id : tie.Need-slice-aggregate-check-id
+slice-aggregate-check-id c = search needs
+
+check-id-requires : tie.Need-check-id-requires
+check-id-requires c κs = search needs
+
+returns-2 : tie.Need-returns-2
+unfolding tBefore print
+returns-2 c = rw (c .before .before .before .if1 .taken, c .before .before .if2 .left) (c .check-id .ensures .0 ∙ one-guard (columns (c .before .before .before .before .before .before .args .t3)) 0 (test 1 lt 2), omega arith)
+
+slice-aggregate-check-id-2 : tie.Need-slice-aggregate-check-id-2
+slice-aggregate-check-id-2 c = search needs
+
+check-id-requires-2 : tie.Need-check-id-requires-2
+check-id-requires-2 c κs = search needs
+
+returns-3 : tie.Need-returns-3
+unfolding tBefore print
+returns-3 c = rw (c .before .before .before .if1 .left, c .before .before .if3 .taken) (c .check-id2 .ensures .0 ∙ one-guard (columns (c .before .before .before .before .before .before .args .t3)) 3 (test 0 lt 2), omega arith)
+
+slice-aggregate-sql : tie.Need-slice-aggregate-sql
+slice-aggregate-sql c = search needs
+
+sql-requires : tie.Need-sql-requires
+sql-requires c κs = search needs
+
+returns-4 : tie.Need-returns-4
+unfolding tBefore print
+returns-4 c = rw (c .before .before .before .if1 .left, c .before .before .if3 .left) (c .sql .ensures .0, omega arith)
+
+pub t-before-sql-spec : {M : Type 1} → statement M
+t-before-sql-spec =
+    tie.close
+    (tie.spec
+    array-copy-out-e0
+    array-copy-out-e3
+    slice-aggregate-check-ids
+    check-ids-requires
+    returns
+    slice-aggregate-check-id
+    check-id-requires
+    returns-2
+    slice-aggregate-check-id-2
+    check-id-requires-2
+    returns-3
+    slice-aggregate-sql
+    sql-requires
+    returns-4)

@@ -1,0 +1,39 @@
+use native.Mathlib.Omega.{arith}
+use mathlib.Core.Path.{_≡_, refl, ap, sym, _∙_}
+use Rattle.sql.proofs.Laws.{then, one-guard, two-guards, either-or}
+use Rattle.sql.specs.Ends.{isColumn, columns}
+use Rattle.sql.specs.Condition.{test, lt, gt, eq, ne, print, checkId, checkIds}
+use Rattle.sql.specs.Template.{guardedText, guardedBothText, checkIdText, checkIdsText, eitherText, templateOf, held}
+use Rattle.sql.specs.Translators.{tAfter, tBefore, tContains, tDisjoint, tDuring, tEquals, tFinishedBy, tFinishes, tIntersects, tMeets, tMetBy, tOverlappedBy, tOverlaps, tStartedBy, tStarts, translate}
+use borrow.Author.Needs.{needs}
+use Rattle.sql.proofs.t_met_by_sql.Statement.{statement}
+use Rattle.sql.proofs.t_met_by_sql.Tie as tie
+use Rattle.sql.proofs.t_met_by_sql.Reads as reads
+use Rattle.sql.proofs.t_met_by_sql.Lts as lts
+use Rattle.sql.proofs.check_ids.Reads as check-ids-reads
+
+array-copy-out-e1 : tie.Need-array-copy-out-e1
+array-copy-out-e1 c = search needs
+
+array-copy-out-e2 : tie.Need-array-copy-out-e2
+array-copy-out-e2 c = search needs
+
+slice-aggregate-check-ids : tie.Need-slice-aggregate-check-ids
+slice-aggregate-check-ids c = search needs
+
+check-ids-requires : tie.Need-check-ids-requires
+check-ids-requires c κs = search needs
+
+returns : tie.Need-returns
+unfolding tMetBy print
+returns c = (c .check-ids .ensures .0 ∙ two-guards (columns (c .before .before .before .before .args .t3)) 1 2 (test 0 eq 3), omega arith)
+
+pub t-met-by-sql-spec : {M : Type 1} → statement M
+t-met-by-sql-spec =
+    tie.close
+    (tie.spec
+    array-copy-out-e1
+    array-copy-out-e2
+    slice-aggregate-check-ids
+    check-ids-requires
+    returns)

@@ -1,0 +1,5 @@
+pub mod Condition
+pub mod Ends
+pub mod Template
+pub mod Translators
+pub mod TemplateLaws

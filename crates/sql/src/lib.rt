@@ -1,0 +1,357 @@
+// Operands, the four ends and the conditions of the temporal operators (src/ds/sql.rs and the fifteen `t_…_sql` of src/ds/gpkg.rs).
+ghost use mathlib.Core.Path.{_≡_};
+ghost use mathlib.Core.List.{List, [], _∷_, _++_};
+ghost use mathlib.Core.Bool.{Bool, true, false};
+ghost use Prim.Native.Nat.{ℕ, _+_, _≤_, _<_, min};
+ghost use lib.ListN.{length, take};
+ghost use Rattle.sql.specs.Condition.{checkId, checkIds};
+ghost use Rattle.sql.specs.Ends.{isColumn, isInterval, columns, startOf, stopOf, unfoldExpressions};
+ghost use Rattle.sql.specs.Template.{held, templateOf, guardedText, guardedBothText, checkIdText, checkIdsText, eitherText};
+ghost use Rattle.sql.specs.Translators.{tAfter, tBefore, tContains, tDisjoint, tDuring, tEquals, tFinishedBy, tFinishes, tIntersects, tMeets, tMetBy, tOverlappedBy, tOverlaps, tStartedBy, tStarts, translate};
+
+// An end of an operand: the record that holds it lies from the first offset to the second in the tree.
+pub enum End {
+    Column(usize, usize),
+    // A date or a timestamp.
+    Instant(usize, usize),
+    // Any other tree.
+    Other(usize, usize),
+    // An open end, `..`.
+    Open,
+    Null,
+}
+
+// An operand of a temporal operator.
+pub enum Operand {
+    Single(End),
+    Interval(End, End),
+}
+
+// A condition in which the digits 0 to 3 stand for the ends.
+pub struct Template {
+    pub bytes: [u8; 96],
+    pub len: usize,
+}
+
+fn is_column(e: End) -> bool
+    ensures { λ r. ⌜ r ≡ isColumn e ⌝ }
+{
+    match e {
+        End::Column(_, _) => true,
+        End::Instant(_, _) => false,
+        End::Other(_, _) => false,
+        End::Open => false,
+        End::Null => false,
+    }
+}
+
+// A template with some bytes behind it.
+fn push(t: Template, s: &[u8]) -> Template
+    requires { ⌜ t .len + length (now s) ≤ 96 ⌝ }
+    ensures { λ r. ⌜ (held r ≡ held t ++ now (s .entry)) × (r .len ≡ t .len + length (now (s .entry))) ⌝ }
+{
+    let mut bytes = t.bytes;
+    let n = t.len;
+    let mut k = 0;
+    while k < s.len() {
+        bytes[n + k] = s[k];
+        k += 1;
+    }
+    Template { bytes, len: n + k }
+}
+
+// The template of some bytes.
+fn sql(s: &[u8]) -> Template
+    requires { ⌜ length (now s) ≤ 96 ⌝ }
+    ensures { λ r. ⌜ (held r ≡ now (s .entry)) × (r .len ≡ length (now (s .entry))) ⌝ }
+{
+    let bytes = [0u8; 96];
+    push(Template { bytes, len: 0 }, s)
+}
+
+fn least(a: usize, b: usize) -> usize
+    ensures { λ r. ⌜ r ≡ min a b ⌝ }
+{
+    if a <= b { a } else { b }
+}
+
+// The template of a node's text, as far as there is room: no text of a node is longer.
+pub fn plain(s: &[u8]) -> Template
+    ensures { λ r. ⌜ (held r ≡ take 96 (now (s .entry))) × (r .len ≤ 96) ⌝ }
+{
+    let n = least(96, s.len());
+    sql(&s[..n])
+}
+
+// `("i" IS NOT NULL AND (base))` without its outer brackets, i a digit.
+fn guarded(i: u8, base: &[u8]) -> Template
+    requires { ⌜ length (now base) ≤ 5 ⌝ }
+    ensures { λ r. ⌜ (held r ≡ guardedText i (now (base .entry))) × (r .len ≡ 22 + length (now (base .entry))) ⌝ }
+{
+    let quoted = [b'"', i, b'"'];
+    let t = push(sql(&quoted), b" IS NOT NULL AND (");
+    push(push(t, base), b")")
+}
+
+// `"i" IS NOT NULL AND "j" NOT NULL AND (base)`, i and j digits.
+fn guarded_both(i: u8, j: u8, base: &[u8]) -> Template
+    requires { ⌜ length (now base) ≤ 5 ⌝ }
+    ensures { λ r. ⌜ (held r ≡ guardedBothText i j (now (base .entry))) × (r .len ≡ 39 + length (now (base .entry))) ⌝ }
+{
+    let first = [b'"', i, b'"'];
+    let second = [b'"', j, b'"'];
+    let t = push(push(sql(&first), b" IS NOT NULL AND "), &second);
+    push(push(push(t, b" NOT NULL AND ("), base), b")")
+}
+
+// Guards the base by a column.
+fn check_id(e: End, i: u8, base: &[u8]) -> Template
+    requires { ⌜ length (now base) ≤ 5 ⌝ }
+    ensures { λ r. ⌜ (held r ≡ checkIdText (isColumn e) i (now (base .entry))) × (r .len ≤ 44) ⌝ }
+{
+    if is_column(e) {
+        guarded(i, base)
+    } else {
+        sql(base)
+    }
+}
+
+// Guards the base by two columns, in argument order.
+fn check_ids(e: End, i: u8, f: End, j: u8, base: &[u8]) -> Template
+    requires { ⌜ length (now base) ≤ 5 ⌝ }
+    ensures { λ r. ⌜ (held r ≡ checkIdsText (isColumn e) (isColumn f) i j (now (base .entry))) × (r .len ≤ 44) ⌝ }
+{
+    if is_column(e) {
+        if is_column(f) {
+            guarded_both(i, j, base)
+        } else {
+            guarded(i, base)
+        }
+    } else {
+        check_id(f, j, base)
+    }
+}
+
+// `(t) OR (u)`
+fn either(t: Template, u: Template) -> Template
+    requires { ⌜ (t .len ≤ 44) × (u .len ≤ 44) ⌝ }
+    ensures { λ r. ⌜ (held r ≡ eitherText (held t) (held u)) × (r .len ≡ 8 + (t .len + u .len)) ⌝ }
+{
+    let a = t.bytes;
+    let n = t.len;
+    let b = u.bytes;
+    let m = u.len;
+    let x = push(push(sql(b"("), &a[..n]), b") OR (");
+    push(push(x, &b[..m]), b")")
+}
+
+// Mixed (instant and interval) arguments.
+
+pub fn t_after_sql(a: bool, b: bool, e: [End; 4]) -> Template
+    ensures { λ r. ⌜ (held r ≡ templateOf (tAfter a b (columns e))) × (r .len ≤ 96) ⌝ }
+{
+    let e1 = e[1];
+    let e2 = e[2];
+    if a {
+        if b {
+            return check_ids(e1, b'1', e2, b'2', b"0 > 3");
+        }
+        return check_id(e1, b'1', b"0 > 2");
+    }
+    if b {
+        return check_id(e2, b'2', b"0 > 3");
+    }
+    sql(b"0 > 2")
+}
+
+pub fn t_before_sql(a: bool, b: bool, e: [End; 4]) -> Template
+    ensures { λ r. ⌜ (held r ≡ templateOf (tBefore a b (columns e))) × (r .len ≤ 96) ⌝ }
+{
+    let e0 = e[0];
+    let e3 = e[3];
+    if a {
+        if b {
+            return check_ids(e0, b'0', e3, b'3', b"1 < 2");
+        }
+        return check_id(e0, b'0', b"1 < 2");
+    }
+    if b {
+        return check_id(e3, b'3', b"0 < 2");
+    }
+    sql(b"0 < 2")
+}
+
+pub fn t_disjoint_sql(a: bool, b: bool, e: [End; 4]) -> Template
+    ensures { λ r. ⌜ (held r ≡ templateOf (tDisjoint a b (columns e))) × (r .len ≤ 96) ⌝ }
+{
+    let e0 = e[0];
+    let e1 = e[1];
+    let e2 = e[2];
+    let e3 = e[3];
+    if a {
+        if b {
+            let before = check_ids(e0, b'0', e3, b'3', b"1 < 2");
+            return either(before, check_ids(e1, b'1', e2, b'2', b"0 > 3"));
+        }
+        let before = check_id(e0, b'0', b"1 < 2");
+        return either(before, check_id(e1, b'1', b"0 > 2"));
+    }
+    if b {
+        let before = check_id(e3, b'3', b"0 < 2");
+        return either(before, check_id(e2, b'2', b"0 > 3"));
+    }
+    sql(b"0 != 2")
+}
+
+pub fn t_equals_sql(a: bool, b: bool, e: [End; 4]) -> Template
+    ensures { λ r. ⌜ (held r ≡ templateOf (tEquals a b (columns e))) × (r .len ≤ 96) ⌝ }
+{
+    if a {
+        if b {
+            return sql(b"(0 = 2) AND (1 = 3)");
+        }
+        return sql(b"(0 = 2) AND (1 = 2)");
+    }
+    if b {
+        return sql(b"(0 = 2) AND (0 = 3)");
+    }
+    sql(b"0 = 2")
+}
+
+pub fn t_intersects_sql(a: bool, b: bool, e: [End; 4]) -> Template
+    ensures { λ r. ⌜ (held r ≡ templateOf (tIntersects a b (columns e))) × (r .len ≤ 96) ⌝ }
+{
+    if a {
+        if b {
+            return sql(b"NOT((1 < 2) OR (0 > 3))");
+        }
+        return sql(b"NOT((1 < 2) OR (0 > 2))");
+    }
+    if b {
+        return sql(b"NOT((0 < 2) OR (0 > 3))");
+    }
+    sql(b"0 = 2")
+}
+
+// Intervals only.
+
+pub fn t_contains_sql(a: bool, b: bool, e: [End; 4]) -> Template
+    ensures { λ r. ⌜ (held r ≡ templateOf (tContains a b (columns e))) × (r .len ≤ 96) ⌝ }
+{
+    sql(b"(0 < 2) AND (1 > 3)")
+}
+
+pub fn t_during_sql(a: bool, b: bool, e: [End; 4]) -> Template
+    ensures { λ r. ⌜ (held r ≡ templateOf (tDuring a b (columns e))) × (r .len ≤ 96) ⌝ }
+{
+    sql(b"(0 > 2) AND (1 < 3)")
+}
+
+pub fn t_finished_by_sql(a: bool, b: bool, e: [End; 4]) -> Template
+    ensures { λ r. ⌜ (held r ≡ templateOf (tFinishedBy a b (columns e))) × (r .len ≤ 96) ⌝ }
+{
+    sql(b"(0 < 2) AND (1 = 3)")
+}
+
+pub fn t_finishes_sql(a: bool, b: bool, e: [End; 4]) -> Template
+    ensures { λ r. ⌜ (held r ≡ templateOf (tFinishes a b (columns e))) × (r .len ≤ 96) ⌝ }
+{
+    sql(b"(0 > 2) AND (1 = 3)")
+}
+
+pub fn t_meets_sql(a: bool, b: bool, e: [End; 4]) -> Template
+    ensures { λ r. ⌜ (held r ≡ templateOf (tMeets a b (columns e))) × (r .len ≤ 96) ⌝ }
+{
+    let e0 = e[0];
+    let e3 = e[3];
+    check_ids(e0, b'0', e3, b'3', b"1 = 2")
+}
+
+pub fn t_met_by_sql(a: bool, b: bool, e: [End; 4]) -> Template
+    ensures { λ r. ⌜ (held r ≡ templateOf (tMetBy a b (columns e))) × (r .len ≤ 96) ⌝ }
+{
+    let e1 = e[1];
+    let e2 = e[2];
+    check_ids(e1, b'1', e2, b'2', b"0 = 3")
+}
+
+pub fn t_overlapped_by_sql(a: bool, b: bool, e: [End; 4]) -> Template
+    ensures { λ r. ⌜ (held r ≡ templateOf (tOverlappedBy a b (columns e))) × (r .len ≤ 96) ⌝ }
+{
+    sql(b"(0 > 2) AND (0 < 3) AND (1 > 3)")
+}
+
+pub fn t_overlaps_sql(a: bool, b: bool, e: [End; 4]) -> Template
+    ensures { λ r. ⌜ (held r ≡ templateOf (tOverlaps a b (columns e))) × (r .len ≤ 96) ⌝ }
+{
+    sql(b"(0 < 2) AND (1 > 2) AND (1 < 3)")
+}
+
+pub fn t_started_by_sql(a: bool, b: bool, e: [End; 4]) -> Template
+    ensures { λ r. ⌜ (held r ≡ templateOf (tStartedBy a b (columns e))) × (r .len ≤ 96) ⌝ }
+{
+    sql(b"(0 = 2) AND (1 > 3)")
+}
+
+pub fn t_starts_sql(a: bool, b: bool, e: [End; 4]) -> Template
+    ensures { λ r. ⌜ (held r ≡ templateOf (tStarts a b (columns e))) × (r .len ≤ 96) ⌝ }
+{
+    sql(b"(0 = 2) AND (1 < 3)")
+}
+
+// The template of a temporal operator, by the operator's number.
+pub fn temporal_sql(op: usize, a: bool, b: bool, e: [End; 4]) -> Template
+    ensures { λ r. ⌜ (held r ≡ templateOf (translate op a b (columns e))) × (r .len ≤ 96) ⌝ }
+{
+    match op {
+        26 => t_after_sql(a, b, e),
+        27 => t_before_sql(a, b, e),
+        28 => t_contains_sql(a, b, e),
+        29 => t_disjoint_sql(a, b, e),
+        30 => t_during_sql(a, b, e),
+        31 => t_equals_sql(a, b, e),
+        32 => t_finished_by_sql(a, b, e),
+        33 => t_finishes_sql(a, b, e),
+        34 => t_intersects_sql(a, b, e),
+        35 => t_meets_sql(a, b, e),
+        36 => t_met_by_sql(a, b, e),
+        37 => t_overlapped_by_sql(a, b, e),
+        38 => t_overlaps_sql(a, b, e),
+        39 => t_started_by_sql(a, b, e),
+        _ => t_starts_sql(a, b, e),
+    }
+}
+
+pub fn is_interval(a: Operand) -> bool
+    ensures { λ r. ⌜ r ≡ isInterval a ⌝ }
+{
+    match a {
+        Operand::Single(_) => false,
+        Operand::Interval(_, _) => true,
+    }
+}
+
+fn start(a: Operand) -> End
+    ensures { λ r. ⌜ r ≡ startOf a ⌝ }
+{
+    match a {
+        Operand::Single(e) => e,
+        Operand::Interval(e, _) => e,
+    }
+}
+
+fn stop(a: Operand) -> End
+    ensures { λ r. ⌜ r ≡ stopOf a ⌝ }
+{
+    match a {
+        Operand::Single(_) => End::Null,
+        Operand::Interval(_, f) => f,
+    }
+}
+
+// The four ends in order; an instant fills e0 or e2, and Null its partner.
+pub fn unfold_expressions(a: Operand, b: Operand) -> [End; 4]
+    ensures { λ r. ⌜ r ≡ unfoldExpressions a b ⌝ }
+{
+    [start(a), stop(a), start(b), stop(b)]
+}

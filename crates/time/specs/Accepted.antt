@@ -1,0 +1,27 @@
+-- An accepted filter with its text, and a row: the terms in which the theorems of demands 2 and 3 are stated (document 01, "Truth").
+use Prim.Native.Nat.{ℕ, _≤_}
+use mathlib.Core.Path.{_≡_}
+use mathlib.Core.List.{List}
+use lib.ListN.{length}
+use Rattle.tree.specs.Tree.{Tree, Settings}
+use Rattle.tree.specs.Parse.{Read, got}
+use Rattle.tree.specs.Accepted.{accepted}
+use Rattle.tree.specs.ByteLaws.{Bytes}
+use Rattle.gpkg.specs.Lowered.{lowering}
+use Rattle.row.specs.Row.{Column, rowOf, columns}
+use Rattle.truth.specs.Reading.{rowLimit}
+
+-- A filter is accepted if lowering answers a text: some settings, and records that hold the tree t, are lowered to the text x.
+pub record Lowers (t : Tree) (x : List ℕ) : Type 0 where
+  pub settings : List ℕ
+  pub tree : List ℕ
+  pub buffer : List ℕ
+  pub bytes : Bytes tree
+  pub holds : Settings
+  pub read : accepted settings tree ≡ got (holds, t)
+  pub lowered : lowering settings tree buffer ≡ got x
+
+-- A row that passes 10 and 11 has these columns.
+pub record IsRow (row : List ℕ) (cs : List Column) : Type 0 where
+  pub short : length row ≤ rowLimit
+  pub reads : rowOf row ≡ columns cs

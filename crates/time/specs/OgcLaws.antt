@@ -1,0 +1,370 @@
+-- A temporal predicate agrees with OGC 21-065r2 on a row of instants of one width: each end stands for a moment, bytes and moments are ordered
+-- alike, every guard passes, and so each condition of the fifteen translators comes to the formula over starts and ends.
+use Prim.Native.Nat.{ℕ, _-_}
+use mathlib.Core.Path.{_≡_, refl, ap, _∙_}
+use mathlib.Core.List.{List, [], _∷_}
+use mathlib.Core.Bool.{Bool, true, false, false≢true}
+use lib.Dec.{eqb}
+use Rattle.choice.specs.Choice.{pick, both, either, negated, some, same}
+use Rattle.choice.specs.ChoiceLaws.{both-true}
+use Rattle.civil.specs.Civil.{validDate, validTime}
+use Rattle.order.specs.Order.{order, below}
+use Rattle.order.specs.OrderLaws.{order-above}
+use Rattle.op.specs.declared.Op.{Op}
+use Rattle.op.specs.declared.Op.the-variants.{TAfter, TBefore, TContains, TDisjoint, TDuring, TEquals, TFinishedBy, TFinishes, TIntersects, TMeets, TMetBy, TOverlappedBy, TOverlaps, TStartedBy, TStarts}
+use Rattle.op.specs.Op.{opNumber, isTemporal, isInstantOrInterval}
+use Rattle.tree.specs.Tree.{Tree, null, unbounded, bool, num, str, date, timestamp, spatial, id, monadic, dyadic, function, array, interval}
+use Rattle.tree.specs.Placed.{isInterval, operands}
+use Rattle.tree.specs.Good.{Good}
+use Rattle.literal.specs.Literal as literal
+use Rattle.sql.specs.Condition.{Cond, test, lt, gt, eq, checkId, checkIds}
+use Rattle.sql.specs.Translators.{translate, tAfter, tBefore, tContains, tDisjoint, tDuring, tEquals, tFinishedBy, tFinishes, tIntersects, tMeets, tMetBy, tOverlappedBy, tOverlaps, tStartedBy, tStarts}
+use Rattle.gpkg.specs.Text.{startOf, stopOf, endsOf, columnsOf}
+use Rattle.row.specs.Row.{Value, val, Column, Found, has, look}
+use Rattle.row.specs.Row as row
+use Rattle.truth.specs.declared.Truth.{Truth}
+use Rattle.truth.specs.Lex.{LT, GT, EQ, NE}
+use Rattle.truth.specs.Grammar.{not3, and3, or3, truthOf, compared}
+use Rattle.truth.specs.Grammar as grammar
+use Rattle.time.specs.Filter.{found, holds}
+use Rattle.time.specs.FilterTruth.{valueOn, condTruth, endValues, temporalTruth, isValue}
+use Rattle.time.specs.Ogc.{Moment, openStart, moment, earlier, sameMoment, ogc, Width, ten, nineteen, isInstant, fields, isInstantValue, instants, isTen, isPoint, isStart, ogcOperand, momentOf, momentOn, ogcOn}
+use Rattle.time.specs.OperatorLaws.{done, _also_, of-temporal}
+use Rattle.time.specs.TruthLaws.{and3-known, or3-known, not3-known, orders, gt-lt, guard, guard-passes, check-id, check-ids}
+use Rattle.time.specs.ComplementLaws.{ne-eq}
+use Rattle.time.specs.InstantLaws.{fields-order, open-below, date-instant, date-fields, timestamp-instant, timestamp-fields}
+
+-- A value and the moment that it stands for.
+data Stands (w : Width) : Found → Moment → Type 0 where
+  opens : Stands w (has (val literal.openEnd)) openStart
+  at : {x : List ℕ} → isInstant w x ≡ true → Stands w (has (val x)) (moment (fields w x))
+
+-- A truth that is the answer of a test.
+record Known (a : Truth) (p : Bool) : Type 0 where
+  is : a ≡ truthOf p
+
+and-known : {a b : Truth} {p q : Bool} → Known a p → Known b q → Known (and3 a b) (both p q)
+and-known {p = p} {q = q} h k = record { is = rw (h .is, k .is) (and3-known p q) }
+
+or-known : {a b : Truth} {p q : Bool} → Known a p → Known b q → Known (or3 a b) (either p q)
+or-known {p = p} {q = q} h k = record { is = rw (h .is, k .is) (or3-known p q) }
+
+not-known : {a : Truth} {p : Bool} → Known a p → Known (not3 a) (negated p)
+not-known {p = p} h = record { is = rw (h .is) (not3-known p) }
+
+known-as : {a : Truth} {p q : Bool} → p ≡ q → Known a p → Known a q
+known-as e h = record { is = h .is ∙ ap truthOf e }
+
+known-is : {a b : Truth} {p : Bool} → a ≡ b → Known b p → Known a p
+known-is e h = record { is = e ∙ h .is }
+
+-- Comparing values is comparing moments.
+lt-known : {w : Width} {x y : Found} {m n : Moment} → Stands w x m → Stands w y n → Known (compared LT x y) (earlier m n)
+unfolding grammar.holds order below literal.openEnd earlier
+lt-known opens opens = record { is = refl }
+lt-known {w = w} opens (at {x = y} k) = record { is = rw (open-below w y k) }
+lt-known {w = w} (at {x = x} h) opens = record { is = rw (order-above literal.openEnd x (open-below w x h)) }
+lt-known {w = w} (at {x = x} h) (at {x = y} k) = record { is = rw (fields-order w x y h k) }
+
+eq-known : {w : Width} {x y : Found} {m n : Moment} → Stands w x m → Stands w y n → Known (compared EQ x y) (sameMoment m n)
+unfolding grammar.holds order literal.openEnd sameMoment
+eq-known opens opens = record { is = refl }
+eq-known {w = w} opens (at {x = y} k) = record { is = rw (open-below w y k) }
+eq-known {w = w} (at {x = x} h) opens = record { is = rw (order-above literal.openEnd x (open-below w x h)) }
+eq-known {w = w} (at {x = x} h) (at {x = y} k) = record { is = rw (fields-order w x y h k) }
+
+gt-known : {w : Width} {x y : Found} {m n : Moment} → Stands w x m → Stands w y n → Known (compared GT x y) (earlier n m)
+gt-known {x = x} {y = y} h k = known-is (gt-lt x y) (lt-known k h)
+
+-- of two moments one is earlier or they are the same
+same-or : (m n : Moment) → sameMoment m n ≡ negated (either (earlier m n) (earlier n m))
+unfolding sameMoment earlier below
+same-or openStart openStart = refl
+same-or openStart (moment y) = refl
+same-or (moment x) openStart = refl
+same-or (moment x) (moment y) = orders (λ i j. eqb i 1 ≡ negated (either (eqb i 0) (eqb j 0))) refl refl refl x y
+
+negated-twice : (p : Bool) → negated (negated p) ≡ p
+negated-twice true = refl
+negated-twice false = refl
+
+both-same : (p : Bool) → p ≡ both p p
+both-same true = refl
+both-same false = refl
+
+both-assoc : (p q r : Bool) → both (both p q) r ≡ both p (both q r)
+both-assoc true q r = refl
+both-assoc false q r = refl
+
+ne-known : {w : Width} {x y : Found} {m n : Moment} → Stands w x m → Stands w y n → Known (compared NE x y) (either (earlier m n) (earlier n m))
+ne-known {x = x} {y = y} {m = m} {n = n} h k =
+    known-is (ne-eq x y)
+    (known-as (ap negated (same-or m n) ∙ negated-twice (either (earlier m n) (earlier n m))) (not-known (eq-known h k)))
+
+-- an end that stands for a moment has a value
+valued : {w : Width} {x : Found} {m : Moment} → Stands w x m → isValue x ≡ true
+unfolding isValue
+valued opens = refl
+valued (at h) = refl
+
+-- The fifteen, by whether each operand is an interval.
+module _ (w : Width) (v : ℕ → Found) (c : ℕ → Bool) (m0 m1 m2 m3 : Moment) (s0 : Stands w (v 0) m0) (s2 : Stands w (v 2) m2) where
+  one-guard : (i : ℕ) (m : Moment) (base : Cond) {p : Bool} → Stands w (v i) m → Known (condTruth v base) p → Known (condTruth v (checkId c i base)) p
+  one-guard i m base s h = known-is (check-id v c i base ∙ guard-passes (c i) (v i) (condTruth v base) (valued s)) h
+
+  two-guards : (i j : ℕ) (m n : Moment) (base : Cond) {p : Bool} → Stands w (v i) m → Stands w (v j) n → Known (condTruth v base) p
+      → Known (condTruth v (checkIds c i j base)) p
+  two-guards i j m n base s r h =
+      known-is
+      (check-ids v c i j base ∙ guard-passes (c i) (v i) (guard (c j) (v j) (condTruth v base)) (valued s)
+      ∙ guard-passes (c j) (v j) (condTruth v base) (valued r))
+      h
+
+  -- the formula over starts and ends; of an instant both are the instant
+  abbrev formula : Op → Bool → Bool → Bool
+  formula o a b = ogc o m0 (pick a m1 m0) m2 (pick b m3 m2)
+
+  abbrev End1 : Type 0
+  End1 = Stands w (v 1) m1
+
+  abbrev End3 : Type 0
+  End3 = Stands w (v 3) m3
+
+  after-known : (a b : Bool) → (a ≡ true → End1) → (b ≡ true → End3) → Known (condTruth v (tAfter a b c)) (formula TAfter a b)
+  unfolding tAfter condTruth ogc some
+  after-known false false f g = gt-known s0 s2
+  after-known false true f g = one-guard 2 m2 (test 0 gt 3) s2 (gt-known s0 (g refl))
+  after-known true false f g = one-guard 1 m1 (test 0 gt 2) (f refl) (gt-known s0 s2)
+  after-known true true f g = two-guards 1 2 m1 m2 (test 0 gt 3) (f refl) s2 (gt-known s0 (g refl))
+
+  before-known : (a b : Bool) → (a ≡ true → End1) → (b ≡ true → End3) → Known (condTruth v (tBefore a b c)) (formula TBefore a b)
+  unfolding tBefore condTruth ogc some
+  before-known false false f g = lt-known s0 s2
+  before-known false true f g = one-guard 3 m3 (test 0 lt 2) (g refl) (lt-known s0 s2)
+  before-known true false f g = one-guard 0 m0 (test 1 lt 2) s0 (lt-known (f refl) s2)
+  before-known true true f g = two-guards 0 3 m0 m3 (test 1 lt 2) s0 (g refl) (lt-known (f refl) s2)
+
+  disjoint-known : (a b : Bool) → (a ≡ true → End1) → (b ≡ true → End3) → Known (condTruth v (tDisjoint a b c)) (formula TDisjoint a b)
+  unfolding tDisjoint tBefore tAfter condTruth ogc some
+  disjoint-known false false f g = ne-known s0 s2
+  disjoint-known false true f g = or-known (before-known false true f g) (after-known false true f g)
+  disjoint-known true false f g = or-known (before-known true false f g) (after-known true false f g)
+  disjoint-known true true f g = or-known (before-known true true f g) (after-known true true f g)
+
+  equals-known : (a b : Bool) → (a ≡ true → End1) → (b ≡ true → End3) → Known (condTruth v (tEquals a b c)) (formula TEquals a b)
+  unfolding tEquals condTruth ogc some
+  equals-known false false f g = known-as (both-same (sameMoment m0 m2)) (eq-known s0 s2)
+  equals-known false true f g = and-known (eq-known s0 s2) (eq-known s0 (g refl))
+  equals-known true false f g = and-known (eq-known s0 s2) (eq-known (f refl) s2)
+  equals-known true true f g = and-known (eq-known s0 s2) (eq-known (f refl) (g refl))
+
+  intersects-known : (a b : Bool) → (a ≡ true → End1) → (b ≡ true → End3) → Known (condTruth v (tIntersects a b c)) (formula TIntersects a b)
+  unfolding tIntersects condTruth ogc some
+  intersects-known false false f g = known-as (same-or m0 m2) (eq-known s0 s2)
+  intersects-known false true f g = not-known (or-known (lt-known s0 s2) (gt-known s0 (g refl)))
+  intersects-known true false f g = not-known (or-known (lt-known (f refl) s2) (gt-known s0 s2))
+  intersects-known true true f g = not-known (or-known (lt-known (f refl) s2) (gt-known s0 (g refl)))
+
+  -- what is to be shown of an operator
+  abbrev Agrees : Op → Type 0
+  Agrees o =
+      (a b : Bool) → (a ≡ true → End1) → (b ≡ true → End3) → either (isInstantOrInterval o) (both a b) ≡ true
+      → Known (condTruth v (translate (opNumber o) a b c)) (formula o a b)
+
+  abbrev OnIntervals : Op → Type 0
+  OnIntervals o = End1 → End3 → Known (condTruth v (translate (opNumber o) true true c)) (formula o true true)
+
+  -- an operator that wants two intervals
+  intervals : (o : Op) → isInstantOrInterval o ≡ false → OnIntervals o → Agrees o
+  intervals o e h true true f g d = h (f refl) (g refl)
+  intervals o e h true false f g d = absurd (false≢true (rw e at d))
+  intervals o e h false b f g d = absurd (false≢true (rw e at d))
+
+  contains-known : OnIntervals TContains
+  unfolding translate tContains condTruth ogc some
+  contains-known s1 s3 = and-known (lt-known s0 s2) (gt-known s1 s3)
+
+  during-known : OnIntervals TDuring
+  unfolding translate tDuring condTruth ogc some
+  during-known s1 s3 = and-known (gt-known s0 s2) (lt-known s1 s3)
+
+  finished-known : OnIntervals TFinishedBy
+  unfolding translate tFinishedBy condTruth ogc some
+  finished-known s1 s3 = and-known (lt-known s0 s2) (eq-known s1 s3)
+
+  finishes-known : OnIntervals TFinishes
+  unfolding translate tFinishes condTruth ogc some
+  finishes-known s1 s3 = and-known (gt-known s0 s2) (eq-known s1 s3)
+
+  meets-known : OnIntervals TMeets
+  unfolding translate tMeets condTruth ogc some
+  meets-known s1 s3 = two-guards 0 3 m0 m3 (test 1 eq 2) s0 s3 (eq-known s1 s2)
+
+  met-known : OnIntervals TMetBy
+  unfolding translate tMetBy condTruth ogc some
+  met-known s1 s3 = two-guards 1 2 m1 m2 (test 0 eq 3) s1 s2 (eq-known s0 s3)
+
+  overlapped-known : OnIntervals TOverlappedBy
+  unfolding translate tOverlappedBy condTruth ogc some
+  overlapped-known s1 s3 = known-as (both-assoc (earlier m2 m0) (earlier m0 m3) (earlier m3 m1)) (and-known (and-known (gt-known s0 s2) (lt-known s0 s3)) (gt-known s1 s3))
+
+  overlaps-known : OnIntervals TOverlaps
+  unfolding translate tOverlaps condTruth ogc some
+  overlaps-known s1 s3 = known-as (both-assoc (earlier m0 m2) (earlier m2 m1) (earlier m1 m3)) (and-known (and-known (lt-known s0 s2) (gt-known s1 s2)) (lt-known s1 s3))
+
+  started-known : OnIntervals TStartedBy
+  unfolding translate tStartedBy condTruth ogc some
+  started-known s1 s3 = and-known (eq-known s0 s2) (gt-known s1 s3)
+
+  starts-known : OnIntervals TStarts
+  unfolding translate tStarts condTruth ogc some
+  starts-known s1 s3 = and-known (eq-known s0 s2) (lt-known s1 s3)
+
+  agrees : (o : Op) → isTemporal o ≡ true → Agrees o
+  unfolding translate isInstantOrInterval some
+  agrees =
+      of-temporal Agrees
+      ((λ a b f g e. after-known a b f g)
+      also (λ a b f g e. before-known a b f g)
+      also intervals TContains refl contains-known
+      also (λ a b f g e. disjoint-known a b f g)
+      also intervals TDuring refl during-known
+      also (λ a b f g e. equals-known a b f g)
+      also intervals TFinishedBy refl finished-known
+      also intervals TFinishes refl finishes-known
+      also (λ a b f g e. intersects-known a b f g)
+      also intervals TMeets refl meets-known
+      also intervals TMetBy refl met-known
+      also intervals TOverlappedBy refl overlapped-known
+      also intervals TOverlaps refl overlaps-known
+      also intervals TStartedBy refl started-known
+      also intervals TStarts refl starts-known
+      also done)
+
+-- The ends of an operand stand for moments.
+
+column-stands : (w : Width) (v : Value) → isInstantValue w v ≡ true → Stands w (has v) (momentOf w (has v))
+column-stands w row.null e = absurd (false≢true e)
+column-stands w (val x) e = at e
+
+look-stands : (w : Width) (s : List ℕ) (cs : List Column) → instants w cs ≡ true → found (look s cs) ≡ true
+    → Stands w (look s cs) (momentOf w (look s cs))
+unfolding look instants
+look-stands w s [] e f = absurd (false≢true f)
+look-stands w s (c ∷ cs) e f =
+    let h = both-true (isInstantValue w (c .holds)) (instants w cs) e in
+    go (same s (c .called)) f (column-stands w (c .holds) (h .0)) (λ g. look-stands w s cs (h .1) g)
+  where
+    go : (b : Bool) → found (pick b (has (c .holds)) (look s cs)) ≡ true → Stands w (has (c .holds)) (momentOf w (has (c .holds)))
+        → (found (look s cs) ≡ true → Stands w (look s cs) (momentOf w (look s cs)))
+        → Stands w (pick b (has (c .holds)) (look s cs)) (momentOf w (pick b (has (c .holds)) (look s cs)))
+    go true g k r = k
+    go false g k r = r g
+
+date-stands : (w : Width) (y m d : ℕ) → validDate y m d ≡ true → isTen w ≡ true → Stands w (has (val (literal.date y m d))) (moment (y ∷ m ∷ d ∷ []))
+date-stands ten y m d e f =
+    let k : Stands ten (has (val (literal.date y m d))) (moment (fields ten (literal.date y m d))) = at (date-instant y m d e) in
+    rw (date-fields y m d e) at k
+date-stands nineteen y m d e f = absurd (false≢true f)
+
+timestamp-stands : (w : Width) (y m d h i s : ℕ) → validDate y m d ≡ true → validTime h i s ≡ true → negated (isTen w) ≡ true
+    → Stands w (has (val (literal.timestamp y m d h i s))) (moment (y ∷ m ∷ d ∷ h ∷ i ∷ s ∷ []))
+timestamp-stands ten y m d h i s e f g = absurd (false≢true g)
+timestamp-stands nineteen y m d h i s e f g =
+    let k : Stands nineteen (has (val (literal.timestamp y m d h i s))) (moment (fields nineteen (literal.timestamp y m d h i s))) =
+    at (timestamp-instant y m d h i s e f) in
+    rw (timestamp-fields y m d h i s e f) at k
+
+module _ (w : Width) (cs : List Column) (e : instants w cs ≡ true) where
+  start-stands : (t : Tree) (n : ℕ) → Good t n → holds cs t ≡ true → isStart w t ≡ true → Stands w (valueOn cs t) (momentOn w cs t)
+  unfolding Good holds isStart valueOn momentOn
+  start-stands null k g p f = absurd (false≢true f)
+  start-stands unbounded k g p f = opens
+  start-stands (bool b) k g p f = absurd (false≢true f)
+  start-stands (num m s) k g p f = absurd (false≢true f)
+  start-stands (str l s) k g p f = absurd (false≢true f)
+  start-stands (date y m d) k g p f = date-stands w y m d (g .1) f
+  start-stands (timestamp y m d h i s) k g p f = timestamp-stands w y m d h i s (g .1) (g .2) f
+  start-stands (spatial n s) k g p f = absurd (false≢true f)
+  start-stands (id s) k g p f = look-stands w s cs e p
+  start-stands (monadic o t) k g p f = absurd (false≢true f)
+  start-stands (dyadic o t u) k g p f = absurd (false≢true f)
+  start-stands (function n ts) k g p f = absurd (false≢true f)
+  start-stands (array ts) k g p f = absurd (false≢true f)
+  start-stands (interval t u) k g p f = absurd (false≢true f)
+
+  -- a point is a start that is not open
+  point-start : (t : Tree) → isPoint w t ≡ true → isStart w t ≡ true
+  unfolding isPoint isStart
+  point-start null f = absurd (false≢true f)
+  point-start unbounded f = absurd (false≢true f)
+  point-start (bool b) f = absurd (false≢true f)
+  point-start (num m s) f = absurd (false≢true f)
+  point-start (str l s) f = absurd (false≢true f)
+  point-start (date y m d) f = f
+  point-start (timestamp y m d h i s) f = f
+  point-start (spatial n s) f = absurd (false≢true f)
+  point-start (id s) f = f
+  point-start (monadic o t) f = absurd (false≢true f)
+  point-start (dyadic o t u) f = absurd (false≢true f)
+  point-start (function n ts) f = absurd (false≢true f)
+  point-start (array ts) f = absurd (false≢true f)
+  point-start (interval t u) f = absurd (false≢true f)
+
+  first-stands : (t : Tree) (n : ℕ) → Good t n → holds cs t ≡ true → ogcOperand w t ≡ true → Stands w (valueOn cs (startOf t)) (momentOn w cs (startOf t))
+  unfolding Good holds ogcOperand isStart startOf
+  first-stands null k g p f = absurd (false≢true f)
+  first-stands unbounded k g p f = absurd (false≢true f)
+  first-stands (bool b) k g p f = absurd (false≢true f)
+  first-stands (num m s) k g p f = absurd (false≢true f)
+  first-stands (str l s) k g p f = absurd (false≢true f)
+  first-stands (date y m d) k g p f = start-stands (date y m d) k g p f
+  first-stands (timestamp y m d h i s) k g p f = start-stands (timestamp y m d h i s) k g p f
+  first-stands (spatial n s) k g p f = absurd (false≢true f)
+  first-stands (id s) k g p f = start-stands (id s) k g p f
+  first-stands (monadic o t) k g p f = absurd (false≢true f)
+  first-stands (dyadic o t u) k g p f = absurd (false≢true f)
+  first-stands (function n ts) k g p f = absurd (false≢true f)
+  first-stands (array ts) k g p f = absurd (false≢true f)
+  first-stands (interval t u) k g p f = start-stands t (k - 1) (g .1) (both-true (holds cs t) (holds cs u) p .0) (both-true (isStart w t) (isPoint w u) f .0)
+
+  last-stands : (t : Tree) (n : ℕ) → Good t n → holds cs t ≡ true → ogcOperand w t ≡ true → isInterval t ≡ true
+      → Stands w (valueOn cs (stopOf t)) (momentOn w cs (stopOf t))
+  unfolding Good holds ogcOperand isInterval stopOf
+  last-stands null k g p f q = absurd (false≢true q)
+  last-stands unbounded k g p f q = absurd (false≢true q)
+  last-stands (bool b) k g p f q = absurd (false≢true q)
+  last-stands (num m s) k g p f q = absurd (false≢true q)
+  last-stands (str l s) k g p f q = absurd (false≢true q)
+  last-stands (date y m d) k g p f q = absurd (false≢true q)
+  last-stands (timestamp y m d h i s) k g p f q = absurd (false≢true q)
+  last-stands (spatial n s) k g p f q = absurd (false≢true q)
+  last-stands (id s) k g p f q = absurd (false≢true q)
+  last-stands (monadic o t) k g p f q = absurd (false≢true q)
+  last-stands (dyadic o t u) k g p f q = absurd (false≢true q)
+  last-stands (function n ts) k g p f q = absurd (false≢true q)
+  last-stands (array ts) k g p f q = absurd (false≢true q)
+  last-stands (interval t u) k g p f q = start-stands u (k - 1) (g .2) (both-true (holds cs t) (holds cs u) p .1) (point-start u (both-true (isStart w t) (isPoint w u) f .1))
+
+-- the moment of an end that is chosen
+chosen : (w : Width) (cs : List Column) (b : Bool) (t u : Tree) → pick b (momentOn w cs t) (momentOn w cs u) ≡ momentOn w cs (pick b t u)
+chosen w cs true t u = refl
+chosen w cs false t u = refl
+
+-- On a row without NULL, all of its values valid ten-byte dates or all valid 19-byte timestamps, the written instants of that width, `..` only as an
+-- interval's start and no NULL literal, a temporal predicate is true if the predicate of 21-065r2 holds, and false if not.
+pub ogc-agrees : (w : Width) (cs : List Column) (o : Op) (t u : Tree) (n m : ℕ) → isTemporal o ≡ true → operands o t u ≡ true → Good t n → Good u m
+    → instants w cs ≡ true → holds cs t ≡ true → holds cs u ≡ true → ogcOperand w t ≡ true → ogcOperand w u ≡ true
+    → temporalTruth cs o t u ≡ truthOf (ogcOn w cs o t u)
+unfolding temporalTruth ogcOn endsOf operands
+ogc-agrees w cs o t u n m e f p q r ht hu ot ou =
+    let d : either (isInstantOrInterval o) (both (isInterval t) (isInterval u)) ≡ true = rw e at f in
+    let k =
+    agrees w (endValues cs t u) (columnsOf t u) (momentOn w cs (startOf t)) (momentOn w cs (stopOf t)) (momentOn w cs (startOf u)) (momentOn w cs (stopOf u))
+    (first-stands w cs r t n p ht ot) (first-stands w cs r u m q hu ou) o e (isInterval t) (isInterval u)
+    (last-stands w cs r t n p ht ot) (last-stands w cs r u m q hu ou) d in
+    k .is
+    ∙ ap (λ a. truthOf (ogc o (momentOn w cs (startOf t)) a (momentOn w cs (startOf u)) (pick (isInterval u) (momentOn w cs (stopOf u)) (momentOn w cs (startOf u)))))
+    (chosen w cs (isInterval t) (stopOf t) (startOf t))
+    ∙ ap (λ b. truthOf (ogc o (momentOn w cs (startOf t)) (momentOn w cs (pick (isInterval t) (stopOf t) (startOf t))) (momentOn w cs (startOf u)) b))
+    (chosen w cs (isInterval u) (stopOf u) (startOf u))

@@ -1,0 +1,268 @@
+-- Demand 2: the truth read from a time filter's text on a row holding its columns equals the three-valued definition over the tree.
+-- The text reads back as the filter's condition (FilterReads.antt), within 34 of the 64 brackets, and no column of it is missing.
+use Prim.Native.Nat.{ℕ, zero, suc, _≤_, _<_}
+use mathlib.Core.Path.{_≡_, refl, sym, ap, _∙_, subst}
+use mathlib.Core.List.{List, [], _∷_}
+use mathlib.Core.Bool.{Bool, true, false, false≢true}
+use mathlib.Core.Logic.{_⊎_, ⊎-elim}
+use native.Mathlib.Omega.{arith}
+use lib.Dec.{ltb}
+use lib.ListN.{length, getD}
+use borrow.Author.Tests.{le-ltb, ltb-false}
+use Rattle.choice.specs.Choice.{pick, both, either}
+use Rattle.choice.specs.ChoiceLaws.{both-true}
+use Rattle.refusal.specs.declared.Refusal.{Refusal}
+use Rattle.refusal.specs.declared.Refusal.the-variants.{TreeTooLong, BadOperand, TextTooLong, BufferTooShort}
+use Rattle.op.specs.Op.{opNumber, oneOf}
+use Rattle.op.specs.declared.Op.the-variants.{IsNull}
+use Rattle.tree.specs.Tree.{Tree, Trees, Settings, null, unbounded, bool, num, str, date, timestamp, spatial, id, monadic, dyadic, function, array, interval}
+use Rattle.order.specs.Order.{order}
+use Rattle.tree.specs.Limits.{depthLimit, treeLimit}
+use Rattle.tree.specs.Parse.{Read, refused, got, also, parse}
+use Rattle.tree.specs.ParseLaws.{split, also-got, not-got, parse-good}
+use Rattle.tree.specs.Good.{Good}
+use Rattle.tree.specs.Placed.{placed, isInterval}
+use Rattle.tree.specs.Accepted.{settings, accepted}
+use Rattle.sql.specs.Condition as sql
+use Rattle.sql.specs.Translators.{translate}
+use Rattle.gpkg.specs.Text as gpkg
+use Rattle.gpkg.specs.Text.{startOf, stopOf, endsOf, columnsOf}
+use Rattle.gpkg.specs.Lowered.{lengthLimit, fitted, lowering}
+use Rattle.row.specs.Row.{Column, Found, absent, has, val, look, rowOf, columns}
+use Rattle.row.specs.Row as row
+use Rattle.truth.specs.declared.Truth.{Truth}
+use Rattle.truth.specs.declared.Truth.the-variants.{True, False, Unknown, Missing}
+use Rattle.truth.specs.declared.Reading.{Reading}
+use Rattle.truth.specs.declared.Reading.the-variants.{Refused}
+use Rattle.truth.specs.Grammar.{not3, and3, or3, truthOf, compared, nullity, eval}
+use Rattle.truth.specs.Grammar as grammar
+use Rattle.truth.specs.Lex.{kind}
+use Rattle.truth.specs.Reading.{textLimit, rowLimit, bracketLimit, answered, readingOf}
+use Rattle.truth.specs.Reading as reading
+use Rattle.time.specs.Filter.{isNeg, isAnd, isOr, compares, timeFilter, holds, found}
+use Rattle.time.specs.FilterTruth.{valueOn, signOf, condTruth, endValues, temporalTruth, comparison, truthOn}
+use Rattle.time.specs.Accepted.{Lowers, IsRow}
+use Rattle.time.specs.ReadBack.{Prints, parses-back, lift}
+use Rattle.time.specs.FilterReads.{filterAst, filter-eval, filter-shown, room, deeper}
+
+-- What an accepted filter is.
+pub record Parts (t : Tree) (x : List ℕ) : Type 0 where
+  pub with : Settings
+  pub text-is : x ≡ gpkg.text with t
+  pub short : length x ≤ lengthLimit
+  pub good : Good t depthLimit
+  pub in-place : placed t ≡ true
+
+fitted-is : (out x y : List ℕ) → fitted out x ≡ got y → (x ≡ y) × (length x ≤ lengthLimit)
+unfolding fitted
+fitted-is out x y e = go (ltb lengthLimit (length x)) (ltb (length out) (length x)) refl e
+  where
+    go : (b c : Bool) → ltb lengthLimit (length x) ≡ b → pick b (refused TextTooLong) (pick c (refused BufferTooShort) (got x)) ≡ got y → (x ≡ y) × (length x ≤ lengthLimit)
+    go true c p q = not-got TextTooLong y q
+    go false true p q = not-got BufferTooShort y q
+    go false false p q = (cc, ltb-false lengthLimit (length x) p)
+
+placed-is : (g : Settings) (s : List ℕ) (p : Settings × Tree)
+    → also (parse s) (λ t. pick (placed t) (got (g, t)) (refused BadOperand)) ≡ got p → (parse s ≡ got (p .1)) × (placed (p .1) ≡ true)
+placed-is g s p e =
+    let h = also-got (parse s) (λ t. pick (placed t) (got (g, t)) (refused BadOperand)) p e in
+    go (h .0) (h .1) (placed (h .0)) refl (h .2)
+  where
+    go : (t : Tree) → parse s ≡ got t → (b : Bool) → placed t ≡ b → pick b (got (g, t)) (refused BadOperand) ≡ got p → (parse s ≡ got (p .1)) × (placed (p .1) ≡ true)
+    go t q true r w = let v : _≡_ {A = Settings × Tree} (g, t) p = cc in (q ∙ ap (λ (z : Settings × Tree). got (z .1)) v, sym (ap (λ (z : Settings × Tree). placed (z .1)) v) ∙ r)
+    go t q false r w = not-got BadOperand p w
+
+accepted-is : (c s : List ℕ) (p : Settings × Tree) → accepted c s ≡ got p → (parse s ≡ got (p .1)) × (placed (p .1) ≡ true)
+unfolding accepted
+accepted-is c s p e =
+    let h = also-got (settings c) (λ g. pick (ltb treeLimit (length s)) (refused TreeTooLong) (also (parse s) (λ t. pick (placed t) (got (g, t)) (refused BadOperand)))) p e in
+    go (h .0) (ltb treeLimit (length s)) (h .2)
+  where
+    go : (g : Settings) (b : Bool) → pick b (refused TreeTooLong) (also (parse s) (λ t. pick (placed t) (got (g, t)) (refused BadOperand))) ≡ got p
+        → (parse s ≡ got (p .1)) × (placed (p .1) ≡ true)
+    go g true q = not-got TreeTooLong p q
+    go g false q = placed-is g s p q
+
+pub parts : {t : Tree} {x : List ℕ} → Lowers t x → Parts t x
+unfolding lowering also
+parts {t} {x} L =
+    let a = accepted-is (L .settings) (L .tree) (L .holds, t) (L .read) in
+    let e : fitted (L .buffer) (gpkg.text (L .holds) t) ≡ got x = rw (L .read) at (L .lowered) in
+    let f = fitted-is (L .buffer) (gpkg.text (L .holds) t) x e in
+    record {
+      with = L .holds;
+      text-is = sym (f .0);
+      short = omega (arith, ap length (f .0), f .1);
+      good = parse-good (L .tree) t (L .bytes) (a .0);
+      in-place = a .1;
+    }
+
+-- No name is missing.
+
+abbrev pub known : Truth → Bool
+known True = true
+known False = true
+known Unknown = true
+known Missing = false
+
+known-not : (a : Truth) → known a ≡ true → known (not3 a) ≡ true
+known-not True e = refl
+known-not False e = refl
+known-not Unknown e = refl
+known-not Missing e = e
+
+known-and : (a b : Truth) → known a ≡ true → known b ≡ true → known (and3 a b) ≡ true
+known-and True b e f = f
+known-and False True e f = refl
+known-and False False e f = refl
+known-and False Unknown e f = refl
+known-and False Missing e f = f
+known-and Unknown True e f = refl
+known-and Unknown False e f = refl
+known-and Unknown Unknown e f = refl
+known-and Unknown Missing e f = f
+known-and Missing b e f = e
+
+known-or : (a b : Truth) → known a ≡ true → known b ≡ true → known (or3 a b) ≡ true
+known-or False b e f = f
+known-or True True e f = refl
+known-or True False e f = refl
+known-or True Unknown e f = refl
+known-or True Missing e f = f
+known-or Unknown True e f = refl
+known-or Unknown False e f = refl
+known-or Unknown Unknown e f = refl
+known-or Unknown Missing e f = f
+known-or Missing b e f = e
+
+known-bool : (b : Bool) → known (truthOf b) ≡ true
+known-bool true = refl
+known-bool false = refl
+
+known-compared : (o : ℕ) (x y : Found) → found x ≡ true → found y ≡ true → known (compared o x y) ≡ true
+known-compared o absent y e f = absurd (false≢true e)
+known-compared o (has x) absent e f = absurd (false≢true f)
+known-compared o (has row.null) (has y) e f = refl
+known-compared o (has (val x)) (has row.null) e f = refl
+known-compared o (has (val x)) (has (val y)) e f = known-bool (grammar.holds o (order x y))
+
+known-null : (x : Found) → found x ≡ true → known (nullity x) ≡ true
+known-null absent e = absurd (false≢true e)
+known-null (has row.null) e = refl
+known-null (has (val x)) e = refl
+
+known-cond : (v : ℕ → Found) → ((j : ℕ) → found (v j) ≡ true) → (c : sql.Cond) → known (condTruth v c) ≡ true
+unfolding condTruth
+known-cond v h (sql.test i s j) = known-compared (signOf s) (v i) (v j) (h i) (h j)
+known-cond v h (sql.isNotNull i) = known-not (nullity (v i)) (known-null (v i) (h i))
+known-cond v h (sql.notNull i) = known-not (nullity (v i)) (known-null (v i) (h i))
+known-cond v h (sql.and c d) = known-and (condTruth v c) (condTruth v d) (known-cond v h c) (known-cond v h d)
+known-cond v h (sql.or c d) = known-or (condTruth v c) (condTruth v d) (known-cond v h c) (known-cond v h d)
+known-cond v h (sql.not c) = known-not (condTruth v c) (known-cond v h c)
+known-cond v h (sql.brackets c) = known-cond v h c
+
+-- a value on a row that holds the tree's columns
+value-found : (cs : List Column) (t : Tree) → holds cs t ≡ true → found (valueOn cs t) ≡ true
+unfolding holds valueOn
+value-found cs null e = refl
+value-found cs unbounded e = refl
+value-found cs (bool b) e = refl
+value-found cs (num m s) e = refl
+value-found cs (str f s) e = refl
+value-found cs (date y m d) e = refl
+value-found cs (timestamp y m d h i s) e = refl
+value-found cs (spatial n s) e = refl
+value-found cs (id s) e = e
+value-found cs (monadic o t) e = refl
+value-found cs (dyadic o t u) e = refl
+value-found cs (function n ts) e = refl
+value-found cs (array ts) e = refl
+value-found cs (interval t u) e = refl
+
+start-held : (cs : List Column) (t : Tree) → holds cs t ≡ true → holds cs (startOf t) ≡ true
+unfolding holds startOf
+start-held cs null e = e
+start-held cs unbounded e = e
+start-held cs (bool b) e = e
+start-held cs (num m s) e = e
+start-held cs (str f s) e = e
+start-held cs (date y m d) e = e
+start-held cs (timestamp y m d h i s) e = e
+start-held cs (spatial n s) e = e
+start-held cs (id s) e = e
+start-held cs (monadic o t) e = e
+start-held cs (dyadic o t u) e = e
+start-held cs (function n ts) e = e
+start-held cs (array ts) e = e
+start-held cs (interval t u) e = both-true (holds cs t) (holds cs u) e .0
+
+stop-held : (cs : List Column) (t : Tree) → holds cs t ≡ true → holds cs (stopOf t) ≡ true
+unfolding holds stopOf
+stop-held cs null e = refl
+stop-held cs unbounded e = refl
+stop-held cs (bool b) e = refl
+stop-held cs (num m s) e = refl
+stop-held cs (str f s) e = refl
+stop-held cs (date y m d) e = refl
+stop-held cs (timestamp y m d h i s) e = refl
+stop-held cs (spatial n s) e = refl
+stop-held cs (id s) e = refl
+stop-held cs (monadic o t) e = refl
+stop-held cs (dyadic o t u) e = refl
+stop-held cs (function n ts) e = refl
+stop-held cs (array ts) e = refl
+stop-held cs (interval t u) e = both-true (holds cs t) (holds cs u) e .1
+
+ends-found : (cs : List Column) (t u : Tree) → holds cs t ≡ true → holds cs u ≡ true → (j : ℕ) → found (endValues cs t u j) ≡ true
+unfolding endsOf valueOn
+ends-found cs t u e f zero = value-found cs (startOf t) (start-held cs t e)
+ends-found cs t u e f (suc zero) = value-found cs (stopOf t) (stop-held cs t e)
+ends-found cs t u e f (suc (suc zero)) = value-found cs (startOf u) (start-held cs u f)
+ends-found cs t u e f (suc (suc (suc zero))) = value-found cs (stopOf u) (stop-held cs u f)
+ends-found cs t u e f (suc (suc (suc (suc j)))) = refl
+
+pick-known : (b : Bool) (p q : Truth) → known p ≡ true → known q ≡ true → known (pick b p q) ≡ true
+pick-known true p q e f = e
+pick-known false p q e f = f
+
+pub truth-known : (cs : List Column) (t : Tree) → holds cs t ≡ true → known (truthOn cs t) ≡ true
+unfolding truthOn temporalTruth holds
+truth-known cs null e = refl
+truth-known cs unbounded e = refl
+truth-known cs (bool b) e = known-bool b
+truth-known cs (num m s) e = refl
+truth-known cs (str f s) e = refl
+truth-known cs (date y m d) e = refl
+truth-known cs (timestamp y m d h i s) e = refl
+truth-known cs (spatial n s) e = refl
+truth-known cs (id s) e = refl
+truth-known cs (monadic o t) e =
+    pick-known (isNeg o) _ _ (known-not (truthOn cs t) (truth-known cs t e))
+    (pick-known (oneOf o (IsNull ∷ [])) _ _ (known-null (valueOn cs t) (value-found cs t e)) (known-not (nullity (valueOn cs t)) (known-null (valueOn cs t) (value-found cs t e))))
+truth-known cs (dyadic o t u) e =
+    let h = both-true (holds cs t) (holds cs u) e in
+    pick-known (isAnd o) _ _ (known-and (truthOn cs t) (truthOn cs u) (truth-known cs t (h .0)) (truth-known cs u (h .1)))
+    (pick-known (isOr o) _ _ (known-or (truthOn cs t) (truthOn cs u) (truth-known cs t (h .0)) (truth-known cs u (h .1)))
+    (pick-known (compares o) _ _ (known-compared (comparison o) (valueOn cs t) (valueOn cs u) (value-found cs t (h .0)) (value-found cs u (h .1)))
+    (known-cond (endValues cs t u) (ends-found cs t u (h .0) (h .1)) (translate (opNumber o) (isInterval t) (isInterval u) (columnsOf t u)))))
+truth-known cs (function n ts) e = refl
+truth-known cs (array ts) e = refl
+truth-known cs (interval t u) e = refl
+
+-- The theorem.
+
+abbrev more : ℕ → ℕ → ℕ
+more zero d = d
+more (suc n) d = suc (more n d)
+
+up : {l : ℕ} {s : List ℕ} {x : grammar.Ast} (n : ℕ) {d : ℕ} → Prints d l s x → Prints (more n d) l s x
+up zero p = p
+up (suc n) p = deeper (up n p)
+
+pub reads-truth : {t : Tree} {x row : List ℕ} {cs : List Column} → Lowers t x → timeFilter t ≡ true → IsRow row cs → holds cs t ≡ true
+    → (readingOf x row ≡ answered (truthOn cs t)) × (known (truthOn cs t) ≡ true)
+unfolding readingOf kind
+reads-truth {t} {x} {row} {cs} L f R h =
+    let p = parts L in
+    let q : reading.parse x ≡ grammar.got (filterAst t) [] = parses-back 3 x (filterAst t) (omega arith) (rw (p .text-is) (up 30 (filter-shown (p .with) depthLimit t f (p .good)))) in
+    (rw (le-ltb textLimit (length x) (p .short), le-ltb rowLimit (length row) (R .short), R .reads, q) (ap answered (filter-eval cs t)), truth-known cs t h)

@@ -1,0 +1,5 @@
+pub mod TokenLaws
+pub mod IndexLaws
+pub mod Steps
+pub mod Simple
+pub mod Guarded
