@@ -8,3 +8,4 @@ pub mod Good
 pub mod ByteLaws
 pub mod ParseLaws
 pub mod EncodeLaws
+pub mod AcceptedLaws
