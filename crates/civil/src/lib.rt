@@ -1,0 +1,76 @@
+ghost use mathlib.Core.Path.{_≡_};
+ghost use Prim.Native.Nat.{_%_};
+ghost use lib.Dec.{eqb, leb};
+ghost use Rattle.choice.specs.Choice.{between};
+ghost use Rattle.civil.specs.Civil.{leap, daysIn, validDate, validTime};
+
+const YEAR_LIMIT: usize = 9999;
+
+fn is_leap(y: usize) -> bool
+    ensures { λ r. ⌜ r ≡ leap y ⌝ }
+{
+    if y % 4 == 0 {
+        if y % 100 == 0 {
+            return y % 400 == 0;
+        }
+        return true;
+    }
+    false
+}
+
+fn days_in(y: usize, m: usize) -> usize
+    ensures { λ r. ⌜ r ≡ daysIn y m ⌝ }
+{
+    if m == 2 {
+        if is_leap(y) {
+            return 29;
+        }
+        return 28;
+    }
+    if m == 4 {
+        return 30;
+    }
+    if m == 6 {
+        return 30;
+    }
+    if m == 9 {
+        return 30;
+    }
+    if m == 11 {
+        return 30;
+    }
+    31
+}
+
+fn within(lo: usize, n: usize, hi: usize) -> bool
+    ensures { λ r. ⌜ r ≡ between lo n hi ⌝ }
+{
+    if lo <= n {
+        return n <= hi;
+    }
+    false
+}
+
+// A date of the Gregorian calendar, from the year 1 to 9999.
+pub fn valid_date(y: usize, m: usize, d: usize) -> bool
+    ensures { λ r. ⌜ r ≡ validDate y m d ⌝ }
+{
+    if within(1, y, YEAR_LIMIT) {
+        if within(1, m, 12) {
+            return within(1, d, days_in(y, m));
+        }
+    }
+    false
+}
+
+// A time of day, without leap seconds.
+pub fn valid_time(h: usize, m: usize, s: usize) -> bool
+    ensures { λ r. ⌜ r ≡ validTime h m s ⌝ }
+{
+    if h <= 23 {
+        if m <= 59 {
+            return s <= 59;
+        }
+    }
+    false
+}

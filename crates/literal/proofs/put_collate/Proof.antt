@@ -1,0 +1,57 @@
+-- `literal::put_collate` meets its contract: the word, then the name behind it.
+use native.Mathlib.Omega.{arith}
+use mathlib.Core.Path.{sym}
+use borrow.Author.Needs.{needs}
+use Rattle.literal.specs.Literal.{collate}
+use Rattle.literal.specs.LiteralLaws.{length-collate}
+use Rattle.literal.proofs.Laws.{no-room, room, both-placed}
+use Rattle.literal.specs.PlacedLaws.{wrote, wrote-then}
+use Rattle.literal.proofs.put_collate.Statement.{statement}
+use Rattle.literal.proofs.put_collate.Tie as tie
+
+add-lacks-room : tie.Need-add-lacks-room
+add-lacks-room c = search needs
+
+lacks-room-requires : tie.Need-lacks-room-requires
+lacks-room-requires c κs = search needs
+
+returns : tie.Need-returns
+returns c =
+    let i = c .before .before .before .before .args in
+    no-room (i .out .now) (i .at) (collate (i .name .now)) (sym (length-collate (i .name .now))) (c .before .lacks-room .ensures) (c .if1 .taken)
+
+slice-aggregate-put : tie.Need-slice-aggregate-put
+slice-aggregate-put c = search needs
+
+put-requires : tie.Need-put-requires
+put-requires c κs = search needs
+
+put-requires-2 : tie.Need-put-requires-2
+put-requires-2 c κs = search needs
+
+same-length : tie.Need-same-length
+same-length c = search needs
+
+returns-2 : tie.Need-returns-2
+unfolding collate
+returns-2 c =
+    let i = c .before .before .before .before .before .before .before .before .before .before .before .before .before .args in
+    let name = i .name .now in
+    let n = length-collate name in
+    let g = room (i .out .now) (i .at) (collate name) (sym n) (c .before .before .before .before .before .before .before .before .before .before .lacks-room .ensures) (c .before .before .before .before .before .before .before .before .before .if1 .left) in
+    let one = wrote (omega arith) (c .before .before .before .before .before .before .put .ensures .0) (c .before .before .before .before .before .before .put .ensures .1) in
+    let two = wrote-then name (omega arith) one (c .before .before .put2 .ensures .0) (c .before .before .put2 .ensures .1) in
+    both-placed g two
+
+pub put-collate-spec : {M : Type 1} → statement M
+put-collate-spec =
+    tie.close
+    (tie.spec
+    add-lacks-room
+    lacks-room-requires
+    returns
+    slice-aggregate-put
+    put-requires
+    put-requires-2
+    same-length
+    returns-2)

@@ -1,0 +1,32 @@
+-- `literal::put_date` meets its contract: the ten bytes in quotes.
+use mathlib.Core.Path.{ap, _∙_}
+use mathlib.Core.List.{List}
+use Prim.Native.Nat.{ℕ}
+use borrow.Author.Needs.{needs}
+use Rattle.literal.specs.Literal.{quoted}
+use Rattle.literal.specs.Placed.{placed, placedEnd}
+use Rattle.literal.proofs.put_date.Statement.{statement}
+use Rattle.literal.proofs.put_date.Tie as tie
+
+date-of-requires : tie.Need-date-of-requires
+date-of-requires c κs = search needs
+
+slice-aggregate-put-quoted : tie.Need-slice-aggregate-put-quoted
+slice-aggregate-put-quoted c = search needs
+
+put-quoted-requires : tie.Need-put-quoted-requires
+put-quoted-requires c κs = search needs
+
+same-length : tie.Need-same-length
+same-length c = search needs
+
+returns : tie.Need-returns
+returns c =
+    let i = c .before .before .before .before .before .before .before .args in
+    let e = ap quoted (c .before .before .before .before .before .date-of .ensures) in
+    (c .before .before .put-quoted .ensures .0 ∙ ap (λ (x : List ℕ). placed (i .out .now) (i .at) x) e, c .before .before .put-quoted .ensures .1 ∙ ap (λ (x : List ℕ). placedEnd (i .out .now) (i .at) x) e)
+
+pub put-date-spec : {M : Type 1} → statement M
+put-date-spec =
+    tie.close
+    (tie.spec date-of-requires slice-aggregate-put-quoted put-quoted-requires same-length returns)

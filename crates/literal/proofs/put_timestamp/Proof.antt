@@ -1,0 +1,110 @@
+-- `literal::put_timestamp` meets its contract: a quotation mark, the date, a T, the time of day, a quotation mark.
+use native.Mathlib.Omega.{arith}
+use mathlib.Core.Path.{_≡_, ap, sym, _∙_}
+use mathlib.Core.List.{List, [], _∷_, _++_, append-assoc}
+use Prim.Native.Nat.{ℕ}
+use lib.ListN.{length, length-append}
+use borrow.Author.Needs.{needs}
+use Rattle.literal.specs.Literal.{quoted, date, clock, timestamp, timestampText}
+use Rattle.literal.specs.LiteralLaws.{date-ten, clock-eight, length-timestamp}
+use Rattle.literal.specs.PlacedLaws.{wrote, wrote-then, wrote-same}
+use Rattle.literal.proofs.Laws.{no-room, room, both-placed}
+use Rattle.literal.proofs.put_timestamp.Statement.{statement}
+use Rattle.literal.proofs.put_timestamp.Tie as tie
+
+-- the five texts, with the date and the time of day by their other names
+regroup : (day time a b : List ℕ) → day ≡ a → time ≡ b → ((((39 ∷ []) ++ day) ++ (84 ∷ [])) ++ time) ++ (39 ∷ []) ≡ quoted (a ++ (84 ∷ b))
+unfolding quoted
+regroup day time a b e f =
+    ap (λ (x : List ℕ). 39 ∷ x)
+    (append-assoc (day ++ (84 ∷ [])) time (39 ∷ [])
+    ∙ append-assoc day (84 ∷ []) (time ++ (39 ∷ []))
+    ∙ sym (append-assoc day (84 ∷ time) (39 ∷ [])))
+    ∙ ap (λ (x : List ℕ). quoted (x ++ (84 ∷ time))) e
+    ∙ ap (λ (x : List ℕ). quoted (a ++ (84 ∷ x))) f
+
+lacks-room-requires : tie.Need-lacks-room-requires
+lacks-room-requires c κs = search needs
+
+returns : tie.Need-returns
+returns c =
+    let i = c .before .before .before .args in
+    let n = length-timestamp (i .y) (i .m) (i .d) (i .hour) (i .minute) (i .second) in
+    no-room (i .out .now) (i .at) (timestampText (i .y) (i .m) (i .d) (i .hour) (i .minute) (i .second)) (sym n) (c .before .lacks-room .ensures) (c .if1 .taken)
+
+date-of-requires : tie.Need-date-of-requires
+date-of-requires c κs = search needs
+
+clock-of-requires : tie.Need-clock-of-requires
+clock-of-requires c κs = search needs
+
+slice-aggregate-put : tie.Need-slice-aggregate-put
+slice-aggregate-put c = search needs
+
+put-requires : tie.Need-put-requires
+put-requires c κs = search needs
+
+slice-aggregate-put-2 : tie.Need-slice-aggregate-put-2
+slice-aggregate-put-2 c = search needs
+
+put-requires-2 : tie.Need-put-requires-2
+put-requires-2 c κs = search needs
+
+slice-aggregate-put-3 : tie.Need-slice-aggregate-put-3
+slice-aggregate-put-3 c = search needs
+
+put-requires-3 : tie.Need-put-requires-3
+put-requires-3 c κs = search needs
+
+slice-aggregate-put-4 : tie.Need-slice-aggregate-put-4
+slice-aggregate-put-4 c = search needs
+
+put-requires-4 : tie.Need-put-requires-4
+put-requires-4 c κs = search needs
+
+slice-aggregate-put-5 : tie.Need-slice-aggregate-put-5
+slice-aggregate-put-5 c = search needs
+
+put-requires-5 : tie.Need-put-requires-5
+put-requires-5 c κs = search needs
+
+same-length : tie.Need-same-length
+same-length c = search needs
+
+returns-2 : tie.Need-returns-2
+unfolding timestamp
+returns-2 c =
+    let i = c .before .before .before .before .before .before .before .before .before .before .before .before .before .before .before .before .before .before .before .before .before .before .before .before .before .before .before .before .before .before .args in
+    let n = length-timestamp (i .y) (i .m) (i .d) (i .hour) (i .minute) (i .second) in
+    let g = room (i .out .now) (i .at) (timestampText (i .y) (i .m) (i .d) (i .hour) (i .minute) (i .second)) (sym n) (c .before .before .before .before .before .before .before .before .before .before .before .before .before .before .before .before .before .before .before .before .before .before .before .before .before .before .before .before .lacks-room .ensures) (c .before .before .before .before .before .before .before .before .before .before .before .before .before .before .before .before .before .before .before .before .before .before .before .before .before .before .before .if1 .left) in
+    let day = c .before .before .before .before .before .before .before .before .before .before .before .before .before .before .before .before .before .before .before .before .before .before .before .before .before .before .date-of .result in
+    let time = c .before .before .before .before .before .before .before .before .before .before .before .before .before .before .before .before .before .before .before .before .before .before .before .before .before .clock-of .result in
+    let d : length day ≡ 10 = ap length (c .before .before .before .before .before .before .before .before .before .before .before .before .before .before .before .before .before .before .before .before .before .before .before .before .before .before .date-of .ensures) ∙ date-ten (i .y) (i .m) (i .d) in
+    let t : length time ≡ 8 = ap length (c .before .before .before .before .before .before .before .before .before .before .before .before .before .before .before .before .before .before .before .before .before .before .before .before .before .clock-of .ensures) ∙ clock-eight (i .hour) (i .minute) (i .second) in
+    let one = wrote (omega arith) (c .before .before .before .before .before .before .before .before .before .before .before .before .before .before .before .before .before .before .before .before .before .before .put .ensures .0) (c .before .before .before .before .before .before .before .before .before .before .before .before .before .before .before .before .before .before .before .before .before .before .put .ensures .1) in
+    let two = wrote-then day (omega arith) one (c .before .before .before .before .before .before .before .before .before .before .before .before .before .before .before .before .before .put2 .ensures .0) (c .before .before .before .before .before .before .before .before .before .before .before .before .before .before .before .before .before .put2 .ensures .1) in
+    let three = wrote-then (84 ∷ []) (simp length-append (omega arith)) two (c .before .before .before .before .before .before .before .before .before .before .before .before .put3 .ensures .0) (c .before .before .before .before .before .before .before .before .before .before .before .before .put3 .ensures .1) in
+    let four = wrote-then time (simp length-append (omega arith)) three (c .before .before .before .before .before .before .before .put4 .ensures .0) (c .before .before .before .before .before .before .before .put4 .ensures .1) in
+    let five = wrote-then (39 ∷ []) (simp length-append (omega arith)) four (c .before .before .put5 .ensures .0) (c .before .before .put5 .ensures .1) in
+    both-placed g (wrote-same (regroup day time (date (i .y) (i .m) (i .d)) (clock (i .hour) (i .minute) (i .second)) (c .before .before .before .before .before .before .before .before .before .before .before .before .before .before .before .before .before .before .before .before .before .before .before .before .before .before .date-of .ensures) (c .before .before .before .before .before .before .before .before .before .before .before .before .before .before .before .before .before .before .before .before .before .before .before .before .before .clock-of .ensures)) five)
+
+pub put-timestamp-spec : {M : Type 1} → statement M
+put-timestamp-spec =
+    tie.close
+    (tie.spec
+    lacks-room-requires
+    returns
+    date-of-requires
+    clock-of-requires
+    slice-aggregate-put
+    put-requires
+    slice-aggregate-put-2
+    put-requires-2
+    slice-aggregate-put-3
+    put-requires-3
+    slice-aggregate-put-4
+    put-requires-4
+    slice-aggregate-put-5
+    put-requires-5
+    same-length
+    returns-2)

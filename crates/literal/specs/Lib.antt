@@ -1,0 +1,4 @@
+pub mod Literal
+pub mod Placed
+pub mod PlacedLaws
+pub mod LiteralLaws

@@ -1,0 +1,10 @@
+pub mod Limits
+pub mod Tree
+pub mod Parse
+pub mod Placed
+pub mod Accepted
+pub mod Walk
+pub mod Good
+pub mod ByteLaws
+pub mod ParseLaws
+pub mod EncodeLaws

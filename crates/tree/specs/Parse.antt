@@ -1,0 +1,206 @@
+-- What bytes mean as a tree, with refusals 3 to 6 in reading order: document 01, "Records" and "What a caller hears".
+use Prim.Native.Nat.{ℕ, zero, suc, _+_, _-_, _*_}
+use mathlib.Core.List.{List, [], _∷_}
+use mathlib.Core.Bool.{Bool, true, false}
+use lib.IntN.{ℤ, pos, negsuc, natAbs}
+use lib.ListN.{length, getD, take, drop}
+use lib.Dec.{ltb, leb, eqb}
+use Rattle.choice.specs.Choice.{pick, both, either, negated, between, all}
+use Rattle.refusal.specs.declared.Refusal.{Refusal}
+use Rattle.refusal.specs.declared.Refusal.the-variants.{BadFrame, TooDeep, BadKindOrOperator, BadField}
+use Rattle.record.specs.declared.Frame.{Frame}
+use Rattle.record.specs.declared.Frame.the-variants.{Broken, Whole}
+use Rattle.record.specs.Record.{le16, le32, frame}
+use Rattle.charset.specs.Charset.{name, strByte, spatialByte}
+use Rattle.civil.specs.Civil.{validDate, validTime}
+use Rattle.op.specs.declared.Op.{Op}
+use Rattle.op.specs.declared.Op.the-variants.{Minus, Neg, CaseI, AccentI, IsNull, IsNotNull}
+use Rattle.op.specs.declared.Named.{Named}
+use Rattle.op.specs.declared.Named.the-variants.{Is, NoOp}
+use Rattle.op.specs.Op.{opOf, oneOf}
+use Rattle.tree.specs.Limits.{depthLimit, mantissaLimit, scaleLimit, flagsLimit, textLimit}
+use Rattle.tree.specs.Tree.{Tree, Trees, null, unbounded, bool, num, str, date, timestamp, spatial, id, monadic, dyadic, function, array, interval, none, _then_}
+
+-- what reading gives: a refusal, or a value
+pub data Read (A : Type 0) : Type 0 where
+  refused : Refusal → Read A
+  got : A → Read A
+
+-- f of the value, unless it is refused
+unfoldable pub also : {A B : Type 0} → Read A → (A → Read B) → Read B
+also (refused n) f = refused n
+also (got a) f = f a
+
+-- what a record's kind and body mean
+abbrev pub Body : Type 0
+Body = ℕ → List ℕ → Read Tree
+
+-- Records.
+
+-- the record at the front of s, whose frame is given, and the records that `more` reads from what follows it
+unfoldable pub cons : Body → List ℕ → Frame → (List ℕ → Read Trees) → Read Trees
+cons body s Broken more = refused BadFrame
+cons body s (Whole k e) more =
+    also (body k (take (e - 6) (drop 6 s))) (λ t. also (more (drop e s)) (λ ts. got (t then ts)))
+
+-- no byte may be left
+unfoldable pub end : List ℕ → Read Trees
+end [] = got none
+end (x ∷ s) = refused BadFrame
+
+-- n records and no more
+unfoldable pub exactly : Body → ℕ → List ℕ → Read Trees
+exactly body zero s = end s
+exactly body (suc n) s = cons body s (frame s) (λ rest. exactly body n rest)
+
+-- records to the end; `fuel` is as long as s, or longer
+unfoldable pub many : Body → ℕ → List ℕ → Read Trees
+many body zero s = end s
+many body (suc fuel) [] = got none
+many body (suc fuel) (x ∷ s) = cons body (x ∷ s) (frame (x ∷ s)) (λ rest. many body fuel rest)
+
+-- a body of records alone
+abbrev pub items : Body → List ℕ → Read Trees
+items body s = many body (length s) s
+
+unfoldable pub first : Trees → Tree
+first none = null
+first (t then ts) = t
+
+unfoldable pub second : Trees → Tree
+second none = null
+second (t then ts) = first ts
+
+-- Fields.
+
+-- eight bytes at i, the low one first
+abbrev pub le64 : List ℕ → ℕ → ℕ
+le64 s i = le32 s i + le32 s (i + 4) * 4294967296
+
+-- two's complement of 64 bits: below 2^63 the number itself, else the number less 2^64
+unfoldable pub signed : ℕ → ℤ
+signed n = pick (ltb n 9223372036854775808) (pos n) (negsuc (18446744073709551615 - n))
+
+abbrev pub mantissa : List ℕ → ℕ → ℤ
+mantissa s i = signed (le64 s i)
+
+-- a date in the four bytes at 0
+abbrev pub dateAt : List ℕ → Bool
+dateAt s = validDate (le16 s 0) (getD s 2 0) (getD s 3 0)
+
+-- the name behind the length byte at i, as far as there are bytes; and where it ends
+abbrev pub nameAt : List ℕ → ℕ → List ℕ
+nameAt s i = take (getD s i 0) (drop (i + 1) s)
+
+abbrev pub past : List ℕ → ℕ → ℕ
+past s i = i + 1 + getD s i 0
+
+-- length byte and name at i are whole, and it is a name
+unfoldable pub namedAt : List ℕ → ℕ → Bool
+namedAt s i = both (leb (past s i) (length s)) (name (nameAt s i))
+
+-- Bodies without records: which are right.
+
+unfoldable pub emptyBody : List ℕ → Bool
+emptyBody s = eqb (length s) 0
+
+unfoldable pub boolBody : List ℕ → Bool
+boolBody s = both (eqb (length s) 1) (leb (getD s 0 0) 1)
+
+unfoldable pub numBody : List ℕ → Bool
+numBody s = both (eqb (length s) 9) (both (leb (natAbs (mantissa s 0)) mantissaLimit) (leb (getD s 8 0) scaleLimit))
+
+unfoldable pub strBody : List ℕ → Bool
+strBody s = both (between 1 (length s) (1 + textLimit)) (both (leb (getD s 0 0) flagsLimit) (all strByte (drop 1 s)))
+
+unfoldable pub dateBody : List ℕ → Bool
+dateBody s = both (eqb (length s) 4) (dateAt s)
+
+unfoldable pub timestampBody : List ℕ → Bool
+timestampBody s = both (eqb (length s) 7) (both (dateAt s) (validTime (getD s 4 0) (getD s 5 0) (getD s 6 0)))
+
+unfoldable pub spatialBody : List ℕ → Bool
+spatialBody s = both (between 5 (length s) (4 + textLimit)) (all spatialByte (drop 4 s))
+
+-- Kinds. `below` is what the records of a body mean.
+
+-- a body without records: the tree if the body is right
+abbrev pub leaf : (List ℕ → Bool) → (List ℕ → Tree) → List ℕ → Read Tree
+leaf right make s = pick (right s) (got (make s)) (refused BadField)
+
+unfoldable pub takesOne : Op → Bool
+takesOne o = oneOf o (Minus ∷ Neg ∷ CaseI ∷ AccentI ∷ IsNull ∷ IsNotNull ∷ [])
+
+-- all others, and Minus
+unfoldable pub takesTwo : Op → Bool
+takesTwo o = either (negated (takesOne o)) (oneOf o (Minus ∷ []))
+
+-- what f makes of an operator that is allowed
+unfoldable pub allowed : {A : Type 0} → (Op → Bool) → (Op → Read A) → Named → Read A
+allowed test f NoOp = refused BadKindOrOperator
+allowed test f (Is o) = pick (test o) (f o) (refused BadKindOrOperator)
+
+-- an operator, two bytes, and then n records
+unfoldable pub operated : (Op → Bool) → (Op → Trees → Tree) → ℕ → Body → List ℕ → Read Tree
+operated test make n below s =
+    pick (ltb (length s) 2) (refused BadField)
+    (allowed test (λ o. also (exactly below n (drop 2 s)) (λ ts. got (make o ts))) (opOf (le16 s 0)))
+
+abbrev pub readMonadic : Body → List ℕ → Read Tree
+readMonadic = operated takesOne (λ o ts. monadic o (first ts)) 1
+
+abbrev pub readDyadic : Body → List ℕ → Read Tree
+readDyadic = operated takesTwo (λ o ts. dyadic o (first ts) (second ts)) 2
+
+unfoldable pub readFunction : Body → List ℕ → Read Tree
+readFunction below s =
+    pick (namedAt s 0) (also (items below (drop (past s 0) s)) (λ ts. got (function (nameAt s 0) ts)))
+    (refused BadField)
+
+abbrev pub readArray : Body → List ℕ → Read Tree
+readArray below s = also (items below s) (λ ts. got (array ts))
+
+abbrev pub readInterval : Body → List ℕ → Read Tree
+readInterval below s = also (exactly below 2 s) (λ ts. got (interval (first ts) (second ts)))
+
+-- a kind's number, and what its body means
+abbrev pub Row : Type 0
+Row = record { kind : ℕ; read : List ℕ → Read Tree }
+
+abbrev pub row : ℕ → (List ℕ → Read Tree) → Row
+row k f = record { kind = k; read = f }
+
+unfoldable pub choose : ℕ → List ℕ → List Row → Read Tree
+choose k s [] = refused BadKindOrOperator
+choose k s (r ∷ rs) = pick (eqb k (r .kind)) (r .read s) (choose k s rs)
+
+-- the table of kinds
+unfoldable pub kinds : Body → List Row
+kinds below =
+    row 0 (leaf emptyBody (λ s. null))
+    ∷ row 1 (leaf emptyBody (λ s. unbounded))
+    ∷ row 2 (leaf boolBody (λ s. bool (eqb (getD s 0 0) 1)))
+    ∷ row 3 (leaf numBody (λ s. num (mantissa s 0) (getD s 8 0)))
+    ∷ row 4 (leaf strBody (λ s. str (getD s 0 0) (drop 1 s)))
+    ∷ row 5 (leaf dateBody (λ s. date (le16 s 0) (getD s 2 0) (getD s 3 0)))
+    ∷ row 6 (leaf timestampBody (λ s. timestamp (le16 s 0) (getD s 2 0) (getD s 3 0) (getD s 4 0) (getD s 5 0) (getD s 6 0)))
+    ∷ row 7 (leaf spatialBody (λ s. spatial (le32 s 0) (drop 4 s)))
+    ∷ row 8 (leaf name (λ s. id s))
+    ∷ row 9 (readMonadic below)
+    ∷ row 10 (readDyadic below)
+    ∷ row 11 (readFunction below)
+    ∷ row 12 (readArray below)
+    ∷ row 13 (readInterval below)
+    ∷ []
+
+abbrev pub readKind : Body → Body
+readKind below k s = choose k s (kinds below)
+
+-- what a record means that may be `levels` deep
+unfoldable pub node : ℕ → ℕ → List ℕ → Read Tree
+node zero k s = refused TooDeep
+node (suc levels) k s = readKind (λ j b. node levels j b) k s
+
+-- a tree is exactly one record
+unfoldable pub parse : List ℕ → Read Tree
+parse s = also (exactly (node depthLimit) 1 s) (λ ts. got (first ts))

@@ -1,0 +1,640 @@
+ghost use mathlib.Core.Path.{_≡_};
+ghost use Prim.Native.Nat.{_+_, _-_, _*_, _≤_, _<_};
+ghost use lib.IntN.{natAbs};
+ghost use lib.Dec.{leb};
+ghost use lib.ListN.{length, getD, take, drop};
+ghost use Rattle.choice.specs.Choice.{pick, both};
+ghost use Rattle.record.specs.Record.{le16, le32};
+ghost use Rattle.tree.specs.Limits.{mantissaLimit};
+ghost use Rattle.tree.specs.Parse.{le64, signed, mantissa, namedAt, emptyBody, boolBody, numBody, strBody, dateBody, timestampBody, spatialBody, takesOne, takesTwo, readMonadic, readDyadic, readFunction, node, exactly, items};
+ghost use Rattle.tree.specs.Placed.{isBetween};
+ghost use Rattle.tree.specs.Accepted.{settingsBody, isSettings, accepted};
+ghost use Rattle.tree.specs.Walk.{verdict, seen, seenOne, seenTwo, seenAll, firstOf, taken, plainShape, pairShape, intervalShape, soundShape, fits, orMisplaced, leafOne, monadicOne, dyadicOne, functionOne, arrayOne, intervalOne};
+use op::Named;
+use op::Op;
+use record::Frame;
+use refusal::Refusal;
+
+// Document 01's limits.
+const TREE_LIMIT: usize = 32768;
+
+const DEPTH_LIMIT: usize = 32;
+
+const MANTISSA_LIMIT: usize = 999999999999999;
+
+const SCALE_LIMIT: usize = 9;
+
+const FLAGS_LIMIT: usize = 3;
+
+const TEXT_LIMIT: usize = 4096;
+
+const PRECISION_LIMIT: usize = 15;
+
+const SETTINGS_KIND: usize = 100;
+
+// What a caller hears of settings and a tree.
+pub enum Checked {
+    Valid,
+    Refused(Refusal),
+}
+
+// What the record above has to know of a tree to decide refusal 7: an Interval, an Array of exactly two, any other tree,
+// or a tree with something out of its place in it.
+enum Shape {
+    Interval,
+    Pair,
+    Other,
+    Misplaced,
+}
+
+enum One {
+    OneBad(Refusal),
+    OneIs(Shape),
+}
+
+enum Two {
+    TwoBad(Refusal),
+    TwoAre(Shape, Shape),
+}
+
+// Records to the end: whether each may stand where no Interval may, and how many there are.
+enum Items {
+    ItemsBad(Refusal),
+    ItemsAre { plain: bool, count: usize },
+}
+
+// The record at the front of some bytes: where it ends.
+enum First {
+    Stop(Refusal),
+    Next(usize, Shape),
+}
+
+// The operator at the front of a body.
+enum Taken {
+    Takes(Op),
+    Refuses(Refusal),
+}
+
+fn wide(x: u8) -> usize
+    ensures { λ r. ⌜ (r ≡ x) × (r < 256) ⌝ }
+{
+    x as usize
+}
+
+fn word_in(s: &[u8], at: usize) -> usize
+    requires { ⌜ at + 2 ≤ length (now s) ⌝ }
+    ensures { λ r. ⌜ (r ≡ le16 (now (s .entry)) at) × (r < 65536) ⌝ }
+{
+    wide(s[at]) + wide(s[at + 1]) * 256
+}
+
+fn dword_in(s: &[u8], at: usize) -> usize
+    requires { ⌜ at + 4 ≤ length (now s) ⌝ }
+    ensures { λ r. ⌜ (r ≡ le32 (now (s .entry)) at) × (r < 4294967296) ⌝ }
+{
+    word_in(s, at) + word_in(s, at + 2) * 65536
+}
+
+fn qword_in(s: &[u8], at: usize) -> usize
+    requires { ⌜ at + 8 ≤ length (now s) ⌝ }
+    ensures { λ r. ⌜ (r ≡ le64 (now (s .entry)) at) × (r < 18446744073709551616) ⌝ }
+{
+    dword_in(s, at) + dword_in(s, at + 4) * 4294967296
+}
+
+// The reads below take any place: a byte past the end counts as 0.
+
+pub fn byte_at(s: &[u8], at: usize) -> usize
+    ensures { λ r. ⌜ (r ≡ getD (now (s .entry)) at 0) × (r < 256) ⌝ }
+{
+    if at < s.len() { wide(s[at]) } else { 0 }
+}
+
+pub fn word_at(s: &[u8], at: usize) -> usize
+    ensures { λ r. ⌜ (r ≡ le16 (now (s .entry)) at) × (r < 65536) ⌝ }
+{
+    if at < s.len() {
+        byte_at(s, at) + byte_at(s, at + 1) * 256
+    } else {
+        0
+    }
+}
+
+pub fn dword_at(s: &[u8], at: usize) -> usize
+    ensures { λ r. ⌜ (r ≡ le32 (now (s .entry)) at) × (r < 4294967296) ⌝ }
+{
+    if s.len() < 2 {
+        return word_at(s, at);
+    }
+    if s.len() - 2 < at {
+        return word_at(s, at);
+    }
+    word_at(s, at) + word_at(s, at + 2) * 65536
+}
+
+fn qword_at(s: &[u8], at: usize) -> usize
+    ensures { λ r. ⌜ (r ≡ le64 (now (s .entry)) at) × (r < 18446744073709551616) ⌝ }
+{
+    if s.len() < 4 {
+        return dword_at(s, at);
+    }
+    if s.len() - 4 < at {
+        return dword_at(s, at);
+    }
+    dword_at(s, at) + dword_at(s, at + 4) * 4294967296
+}
+
+// Two's complement without a wrapping step: n less 2^64 is −1 less what n lacks of 2^64 − 1, and that fits.
+fn signed_of(n: usize) -> i64
+    ensures { λ r. ⌜ r ≡ signed n ⌝ }
+{
+    if n < 9223372036854775808 {
+        n as i64
+    } else {
+        -1 - ((18446744073709551615 - n) as i64)
+    }
+}
+
+// The mantissa of a Num whose eight bytes begin at `at`.
+pub fn mantissa_at(s: &[u8], at: usize) -> i64
+    ensures { λ r. ⌜ r ≡ mantissa (now (s .entry)) at ⌝ }
+{
+    signed_of(qword_at(s, at))
+}
+
+// A length byte at i and as many bytes after it that are a name.
+fn named_at(s: &[u8], i: usize) -> bool
+    ensures { λ r. ⌜ r ≡ namedAt (now (s .entry)) i ⌝ }
+{
+    if i < s.len() {
+        let n = wide(s[i]);
+        if n < s.len() - i {
+            let from = i + 1;
+            let to = from + n;
+            return charset::is_name(&s[from..to]);
+        }
+    }
+    false
+}
+
+fn bool_body(s: &[u8]) -> bool
+    ensures { λ r. ⌜ r ≡ boolBody (now (s .entry)) ⌝ }
+{
+    if s.len() == 1 { wide(s[0]) <= 1 } else { false }
+}
+
+// The bytes of a mantissa as a number: at most the limit, or the complement of a negative one.
+fn within_limit(n: usize) -> bool
+    ensures { λ r. ⌜ r ≡ leb (natAbs (signed n)) mantissaLimit ⌝ }
+{
+    if n <= MANTISSA_LIMIT {
+        return true;
+    }
+    18446744073709551615 - MANTISSA_LIMIT < n
+}
+
+fn num_body(s: &[u8]) -> bool
+    ensures { λ r. ⌜ r ≡ numBody (now (s .entry)) ⌝ }
+{
+    if s.len() == 9 {
+        if within_limit(qword_in(s, 0)) {
+            return wide(s[8]) <= SCALE_LIMIT;
+        }
+    }
+    false
+}
+
+fn str_body(s: &[u8]) -> bool
+    ensures { λ r. ⌜ r ≡ strBody (now (s .entry)) ⌝ }
+{
+    if 1 <= s.len() {
+        if s.len() <= 1 + TEXT_LIMIT {
+            if wide(s[0]) <= FLAGS_LIMIT {
+                return charset::is_str_text(&s[1..]);
+            }
+        }
+    }
+    false
+}
+
+fn date_body(s: &[u8]) -> bool
+    ensures { λ r. ⌜ r ≡ dateBody (now (s .entry)) ⌝ }
+{
+    if s.len() == 4 {
+        civil::valid_date(word_in(s, 0), wide(s[2]), wide(s[3]))
+    } else {
+        false
+    }
+}
+
+fn timestamp_body(s: &[u8]) -> bool
+    ensures { λ r. ⌜ r ≡ timestampBody (now (s .entry)) ⌝ }
+{
+    if s.len() == 7 {
+        if civil::valid_date(word_in(s, 0), wide(s[2]), wide(s[3])) {
+            return civil::valid_time(wide(s[4]), wide(s[5]), wide(s[6]));
+        }
+    }
+    false
+}
+
+fn spatial_body(s: &[u8]) -> bool
+    ensures { λ r. ⌜ r ≡ spatialBody (now (s .entry)) ⌝ }
+{
+    if 5 <= s.len() {
+        if s.len() <= 4 + TEXT_LIMIT {
+            return charset::is_spatial_text(&s[4..]);
+        }
+    }
+    false
+}
+
+fn takes_one(o: Op) -> bool
+    ensures { λ r. ⌜ r ≡ takesOne o ⌝ }
+{
+    let n = op::op_number(o);
+    if n == 1 {
+        return true;
+    }
+    if n == 7 {
+        return true;
+    }
+    if n == 16 {
+        return true;
+    }
+    if n == 17 {
+        return true;
+    }
+    if n == 51 {
+        return true;
+    }
+    if n == 52 {
+        return true;
+    }
+    false
+}
+
+// All operators but those of one operand, and Minus, which has either.
+fn takes_two(o: Op) -> bool
+    ensures { λ r. ⌜ r ≡ takesTwo o ⌝ }
+{
+    if takes_one(o) {
+        op::op_number(o) == 1
+    } else {
+        true
+    }
+}
+
+fn is_between(o: Op) -> bool
+    ensures { λ r. ⌜ r ≡ isBetween o ⌝ }
+{
+    let n = op::op_number(o);
+    if n == 47 {
+        return true;
+    }
+    if n == 48 {
+        return true;
+    }
+    false
+}
+
+fn takes(two: bool, o: Op) -> bool
+    ensures { λ r. ⌜ r ≡ pick two (takesTwo o) (takesOne o) ⌝ }
+{
+    if two { takes_two(o) } else { takes_one(o) }
+}
+
+// The operator of a Dyadic (`two`) or of a Monadic. A body too short for it is 6, an operator that the kind does not take 5.
+fn operator_in(two: bool, s: &[u8]) -> Taken
+    ensures { λ r. ⌜ r ≡ taken (λ o. pick two (takesTwo o) (takesOne o)) (now (s .entry)) ⌝ }
+{
+    if s.len() < 2 {
+        return Taken::Refuses(Refusal::BadField);
+    }
+    match op::op_of(word_in(s, 0)) {
+        Named::NoOp => Taken::Refuses(Refusal::BadKindOrOperator),
+        Named::Is(o) => {
+            if takes(two, o) {
+                Taken::Takes(o)
+            } else {
+                Taken::Refuses(Refusal::BadKindOrOperator)
+            }
+        }
+    }
+}
+
+fn plain_shape(a: Shape) -> bool
+    ensures { λ r. ⌜ r ≡ plainShape a ⌝ }
+{
+    match a {
+        Shape::Interval => false,
+        Shape::Pair => true,
+        Shape::Other => true,
+        Shape::Misplaced => false,
+    }
+}
+
+fn pair_shape(a: Shape) -> bool
+    ensures { λ r. ⌜ r ≡ pairShape a ⌝ }
+{
+    match a {
+        Shape::Interval => false,
+        Shape::Pair => true,
+        Shape::Other => false,
+        Shape::Misplaced => false,
+    }
+}
+
+fn interval_shape(a: Shape) -> bool
+    ensures { λ r. ⌜ r ≡ intervalShape a ⌝ }
+{
+    match a {
+        Shape::Interval => true,
+        Shape::Pair => false,
+        Shape::Other => false,
+        Shape::Misplaced => false,
+    }
+}
+
+fn sound_shape(a: Shape) -> bool
+    ensures { λ r. ⌜ r ≡ soundShape a ⌝ }
+{
+    match a {
+        Shape::Interval => true,
+        Shape::Pair => true,
+        Shape::Other => true,
+        Shape::Misplaced => false,
+    }
+}
+
+fn and(a: bool, b: bool) -> bool
+    ensures { λ r. ⌜ r ≡ both a b ⌝ }
+{
+    if a { b } else { false }
+}
+
+// Whether an operator may have these two sides: what refusal 7 asks.
+fn fit(o: Op, a: Shape, b: Shape) -> bool
+    ensures { λ r. ⌜ r ≡ fits o a b ⌝ }
+{
+    if op::temporal(o) {
+        if op::instant_or_interval(o) {
+            return and(sound_shape(a), sound_shape(b));
+        }
+        return and(interval_shape(a), interval_shape(b));
+    }
+    if is_between(o) {
+        return and(plain_shape(a), pair_shape(b));
+    }
+    and(plain_shape(a), plain_shape(b))
+}
+
+fn or_misplaced(placed: bool, a: Shape) -> Shape
+    ensures { λ r. ⌜ r ≡ orMisplaced placed a ⌝ }
+{
+    if placed { a } else { Shape::Misplaced }
+}
+
+// What the answers below a record make of the record: one function for each kind.
+
+fn leaf_one(right: bool) -> One
+    ensures { λ r. ⌜ r ≡ leafOne right ⌝ }
+{
+    if right {
+        One::OneIs(Shape::Other)
+    } else {
+        One::OneBad(Refusal::BadField)
+    }
+}
+
+fn monadic_one(a: One) -> One
+    ensures { λ r. ⌜ r ≡ monadicOne a ⌝ }
+{
+    match a {
+        One::OneBad(e) => One::OneBad(e),
+        One::OneIs(a) => One::OneIs(or_misplaced(plain_shape(a), Shape::Other)),
+    }
+}
+
+fn dyadic_one(o: Op, t: Two) -> One
+    ensures { λ r. ⌜ r ≡ dyadicOne o t ⌝ }
+{
+    match t {
+        Two::TwoBad(e) => One::OneBad(e),
+        Two::TwoAre(a, b) => One::OneIs(or_misplaced(fit(o, a, b), Shape::Other)),
+    }
+}
+
+fn function_one(i: Items) -> One
+    ensures { λ r. ⌜ r ≡ functionOne i ⌝ }
+{
+    match i {
+        Items::ItemsBad(e) => One::OneBad(e),
+        Items::ItemsAre { plain, count: _ } => One::OneIs(or_misplaced(plain, Shape::Other)),
+    }
+}
+
+fn array_one(i: Items) -> One
+    ensures { λ r. ⌜ r ≡ arrayOne i ⌝ }
+{
+    match i {
+        Items::ItemsBad(e) => One::OneBad(e),
+        Items::ItemsAre { plain, count } => {
+            if count == 2 {
+                One::OneIs(or_misplaced(plain, Shape::Pair))
+            } else {
+                One::OneIs(or_misplaced(plain, Shape::Other))
+            }
+        }
+    }
+}
+
+fn interval_one(t: Two) -> One
+    ensures { λ r. ⌜ r ≡ intervalOne t ⌝ }
+{
+    match t {
+        Two::TwoBad(e) => One::OneBad(e),
+        Two::TwoAre(a, b) => {
+            let placed = and(plain_shape(a), plain_shape(b));
+            One::OneIs(or_misplaced(placed, Shape::Interval))
+        }
+    }
+}
+
+// An operator of one operand, and one record.
+fn check_monadic(s: &[u8], levels: usize) -> One
+    ensures { λ r. ⌜ r ≡ seen (readMonadic (node levels) (now (s .entry))) ⌝ }
+{
+    match operator_in(false, s) {
+        Taken::Refuses(e) => One::OneBad(e),
+        Taken::Takes(_) => monadic_one(check_one(&s[2..], levels)),
+    }
+}
+
+// An operator of two operands, and two records.
+fn check_dyadic(s: &[u8], levels: usize) -> One
+    ensures { λ r. ⌜ r ≡ seen (readDyadic (node levels) (now (s .entry))) ⌝ }
+{
+    match operator_in(true, s) {
+        Taken::Refuses(e) => One::OneBad(e),
+        Taken::Takes(o) => dyadic_one(o, check_two(&s[2..], levels)),
+    }
+}
+
+// A name behind its length byte, and records to the end.
+fn check_function(s: &[u8], levels: usize) -> One
+    ensures { λ r. ⌜ r ≡ seen (readFunction (node levels) (now (s .entry))) ⌝ }
+{
+    if named_at(s, 0) {
+        let from = 1 + wide(s[0]);
+        function_one(check_many(&s[from..], levels))
+    } else {
+        One::OneBad(Refusal::BadField)
+    }
+}
+
+// What a record of this kind with the body s is; it and what is below it may be `levels` deep.
+fn check_node(kind: usize, s: &[u8], levels: usize) -> One
+    ensures { λ r. ⌜ r ≡ seen (node levels kind (now (s .entry))) ⌝ }
+{
+    if levels == 0 {
+        return One::OneBad(Refusal::TooDeep);
+    }
+    match kind {
+        0 => leaf_one(s.len() == 0),
+        1 => leaf_one(s.len() == 0),
+        2 => leaf_one(bool_body(s)),
+        3 => leaf_one(num_body(s)),
+        4 => leaf_one(str_body(s)),
+        5 => leaf_one(date_body(s)),
+        6 => leaf_one(timestamp_body(s)),
+        7 => leaf_one(spatial_body(s)),
+        8 => leaf_one(charset::is_name(s)),
+        9 => check_monadic(s, levels - 1),
+        10 => check_dyadic(s, levels - 1),
+        11 => check_function(s, levels - 1),
+        12 => array_one(check_many(s, levels - 1)),
+        13 => interval_one(check_two(s, levels - 1)),
+        _ => One::OneBad(Refusal::BadKindOrOperator),
+    }
+}
+
+fn check_first(s: &[u8], levels: usize) -> First
+    ensures { λ r. ⌜ r ≡ firstOf (node levels) (now (s .entry)) ⌝ }
+{
+    match record::frame_at(s) {
+        Frame::Broken => First::Stop(Refusal::BadFrame),
+        Frame::Whole { kind, end } => match check_node(kind, &s[6..end], levels) {
+            One::OneBad(e) => First::Stop(e),
+            One::OneIs(a) => First::Next(end, a),
+        },
+    }
+}
+
+// One record and no more.
+fn check_one(s: &[u8], levels: usize) -> One
+    ensures { λ r. ⌜ r ≡ seenOne (exactly (node levels) 1 (now (s .entry))) ⌝ }
+{
+    match check_first(s, levels) {
+        First::Stop(e) => One::OneBad(e),
+        First::Next(n, a) => {
+            if n == s.len() {
+                One::OneIs(a)
+            } else {
+                One::OneBad(Refusal::BadFrame)
+            }
+        }
+    }
+}
+
+// Two records and no more.
+fn check_two(s: &[u8], levels: usize) -> Two
+    ensures { λ r. ⌜ r ≡ seenTwo (exactly (node levels) 2 (now (s .entry))) ⌝ }
+{
+    match check_first(s, levels) {
+        First::Stop(e) => Two::TwoBad(e),
+        First::Next(n, a) => match check_one(&s[n..], levels) {
+            One::OneBad(e) => Two::TwoBad(e),
+            One::OneIs(b) => Two::TwoAre(a, b),
+        },
+    }
+}
+
+// Records to the end.
+fn check_many(s: &[u8], levels: usize) -> Items
+    ensures { λ r. ⌜ r ≡ seenAll (items (node levels) (now (s .entry))) ⌝ }
+{
+    let mut at = 0;
+    let mut plain = true;
+    let mut count = 0;
+    while at < s.len() {
+        match check_first(&s[at..], levels) {
+            First::Stop(e) => return Items::ItemsBad(e),
+            First::Next(n, a) => {
+                at += n;
+                plain = and(plain, plain_shape(a));
+                count += 1;
+            }
+        }
+    }
+    Items::ItemsAre { plain, count }
+}
+
+// Past the frame: a precision, three names, and nothing more.
+fn settings_body(s: &[u8]) -> bool
+    requires { ⌜ 6 ≤ length (now s) ⌝ }
+    ensures { λ r. ⌜ r ≡ settingsBody (now (s .entry)) ⌝ }
+{
+    if PRECISION_LIMIT < byte_at(s, 6) {
+        return false;
+    }
+    if named_at(s, 7) {
+        let ai = 8 + byte_at(s, 7);
+        if named_at(s, ai) {
+            let cai = ai + 1 + byte_at(s, ai);
+            if named_at(s, cai) {
+                return cai + 1 + byte_at(s, cai) == s.len();
+            }
+        }
+    }
+    false
+}
+
+fn is_settings(s: &[u8]) -> bool
+    ensures { λ r. ⌜ r ≡ isSettings (now (s .entry)) ⌝ }
+{
+    match record::frame_at(s) {
+        Frame::Broken => false,
+        Frame::Whole { kind, end } => {
+            if kind == SETTINGS_KIND {
+                if end == s.len() {
+                    return settings_body(s);
+                }
+            }
+            false
+        }
+    }
+}
+
+// Whether the settings and the tree are accepted; else the refusal that comes first.
+pub fn check(settings: &[u8], tree: &[u8]) -> Checked
+    ensures { λ r. ⌜ r ≡ verdict (accepted (now (settings .entry)) (now (tree .entry))) ⌝ }
+{
+    if is_settings(settings) {
+        if TREE_LIMIT < tree.len() {
+            return Checked::Refused(Refusal::TreeTooLong);
+        }
+        match check_one(tree, DEPTH_LIMIT) {
+            One::OneBad(e) => Checked::Refused(e),
+            One::OneIs(a) => {
+                if plain_shape(a) {
+                    Checked::Valid
+                } else {
+                    Checked::Refused(Refusal::BadOperand)
+                }
+            }
+        }
+    } else {
+        Checked::Refused(Refusal::BadSettings)
+    }
+}
