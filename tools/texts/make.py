@@ -226,6 +226,13 @@ def boundary_cases():
                 column(b'a', b"'"), column(b'a', b'\x1f'), column(b'a', b'\x7f'), column(b'a', b'\x80'), column(b'a', b'~'), column(b'a', b' '), column(b'a', b''), column(b'a', None), b'\x05\0\0\0\xc8\0\x01a\x02', b'\x06\0\0\0\xc8\0\x01a\0x', b'\x05\0\0\0\xc8\0\x02a\x01', b'\x02\0\0\0\xc8\0', b'\x03\0\0\0\xc8\0\0', b'\x04\0\0\0\xc8\0\x01a', b'\x01\0\0\0\xc8\0\x01a\0', b'\0\0\0\0\xc8\0', b'\xff\xff\xff\xff\xc8\0\x01a\0', b'\x05\0\0\x01\xc8\0\x01a\0']:
         add(b"a = 'x'", row)
         add(b'TRUE', row)
+    # the texts of document 01's sheets I, J and K, on rows with and without NULL
+    day = [None, b'2024-01-01', b'2024-01-02', b'2024-02-29']
+    for text in [b'"b" IS NOT NULL AND "c" NOT NULL AND (a > d)', b'("c" IS NOT NULL AND (a < b)) OR ("b" IS NOT NULL AND (a > c))', b"NOT(('2024-02-29' < '-2021-01-01') OR ('2024-02-29' > c))"]:
+        for a in day:
+            for b in day:
+                add(text, row_of([(b'a', a), (b'b', b), (b'c', day[1]), (b'd', day[2])]))
+                add(text, row_of([(b'a', day[2]), (b'b', a), (b'c', b), (b'd', b)]))
     wide = filled(2900)
     add(b' OR '.join(n + b'=' + n for n, _ in wide[::2]), row_of(wide))
     add(b' AND '.join(b'"' + n + b'" IS NULL' for n, _ in wide), row_of(wide))

@@ -1,3 +1,4 @@
+// The order of byte strings, byte by byte.
 ghost use mathlib.Core.Path.{_≡_};
 ghost use Rattle.order.specs.Order.{order};
 

@@ -3,3 +3,4 @@ pub mod IndexLaws
 pub mod Steps
 pub mod Simple
 pub mod Guarded
+pub mod Examples

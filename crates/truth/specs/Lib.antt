@@ -4,5 +4,6 @@ pub mod Grammar
 pub mod GrammarLaws
 pub mod BackLaws
 pub mod PrintLaws
+pub mod MissingLaws
 pub mod Reading
 pub mod Places
