@@ -25,11 +25,12 @@ use Rattle.row.specs.Row.{Value, val, Column, look}
 use Rattle.row.specs.Row as row
 use Rattle.truth.specs.declared.Truth.the-variants.{True, False, Unknown, Missing}
 use Rattle.truth.specs.declared.Reading.{Reading}
-use Rattle.truth.specs.declared.Reading.the-variants.{True as SaysTrue}
+use Rattle.refusal.specs.declared.Refusal.the-variants.{BadText}
+use Rattle.truth.specs.declared.Reading.the-variants.{True as SaysTrue, Refused}
 use Rattle.truth.specs.Lex as lex
 use Rattle.truth.specs.Grammar.{not3, truthOf}
 use Rattle.truth.specs.Grammar as grammar
-use Rattle.truth.specs.Reading.{parse, verdict, refused}
+use Rattle.truth.specs.Reading.{parse, verdict}
 use Rattle.time.specs.Filter.{isOperand, isEnd, timeFilter, holds}
 use Rattle.time.specs.FilterTruth.{valueOn, condTruth, temporalTruth, truthOn, isValue, columnsNonNull, liesBelow, proper}
 use Rattle.time.specs.Converse.{converse, Turned, turn, in-both, in-neg}
@@ -111,7 +112,7 @@ abbrev negated-end : Tree
 negated-end = dyadic TAfter (monadic Neg a) b
 
 no-filter :
-    (timeFilter negated-end ≡ false) × (reads days negated-end ≡ SaysTrue) × (reads days (dyadic TBefore b (monadic Neg a)) ≡ refused 12)
+    (timeFilter negated-end ≡ false) × (reads days negated-end ≡ SaysTrue) × (reads days (dyadic TBefore b (monadic Neg a)) ≡ Refused BadText)
     × (truthOn days negated-end ≡ Unknown)
 unfolding timeFilter isOperand op.isTemporal op.isNullable op.isSpatial op.isArray some same truthOn temporalTruth condTruth translators.translate translators.tAfter translators.tBefore isInterval gpkg.isId gpkg.isLiteral gpkg.isLiteralOrId gpkg.startOf gpkg.stopOf gpkg.endsOf gpkg.text gpkg.monadicText gpkg.dyadicText gpkg.spelledAs spelling.spellingIn spelling.inside sql.print placed.isBetween valueOn look order grammar.holds grammar.value grammar.eval grammar.atomOf grammar.notNull grammar.nullTest grammar.fromAtom grammar.simple grammar.orE parse lex.run lex.wordKind lex.signKind lex.signMore lex.quoteKind lex.lexeme lex.cut lex.tokensIn lex.tokens lex.kind lex.body lex.rest charset.letter charset.digit charset.nameStart charset.nameByte charset.upper charset.reservedWords charset.reserved charset.name charset.strByte choice.all literal.date literal.low
 no-filter = (refl, refl, refl, refl)
