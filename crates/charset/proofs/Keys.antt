@@ -13,7 +13,7 @@ use borrow.Author.Tests.{eq-eqb, ne-eqb, ltb-true, leb-true}
 use Rattle.choice.specs.Choice.{pick, both, all, some, same}
 use Rattle.choice.specs.ChoiceLaws.{same-refl, same-true, both-true}
 use Rattle.charset.specs.Charset.{upper, uppers, reservedWords, reserved}
-use Rattle.charset.specs.WordKey.{keyOf, Bytes}
+use Rattle.charset.specs.WordKey.{keyOf, Bytes, begins}
 
 one-up : (s : List ℕ) → 1 ≤ keyOf s
 one-up [] = omega arith
@@ -166,3 +166,46 @@ keyed-none k h =
       ne-eqb k _ (h .0 .1),
       ne-eqb k _ (h .1),
     )
+
+-- A word that begins with no reserved word's letter is none, and neither is one of a single byte.
+
+other-head : (b : ℕ) (s w : List ℕ) → eqb b (getD w 0 0) ≡ false → same (b ∷ s) w ≡ false
+unfolding same
+other-head b s [] e = refl
+other-head b s (c ∷ w) e = rw e
+
+by-heads : (b : ℕ) (s : List ℕ) (ws : List (List ℕ)) → some (λ w. eqb b (getD w 0 0)) ws ≡ false → some (same (b ∷ s)) ws ≡ false
+unfolding some
+by-heads b s [] e = refl
+by-heads b s (w ∷ ws) e = go (eqb b (getD w 0 0)) refl e (λ q. by-heads b s ws q)
+  where
+    go : (c : Bool) → eqb b (getD w 0 0) ≡ c → pick c true (some (λ v. eqb b (getD v 0 0)) ws) ≡ false
+        → (some (λ v. eqb b (getD v 0 0)) ws ≡ false → some (same (b ∷ s)) ws ≡ false) → pick (same (b ∷ s) w) true (some (same (b ∷ s)) ws) ≡ false
+    go true p q k = let z : _≡_ {A = ℕ} 0 1 = cc in absurd (omega arith)
+    go false p q k = rw (other-head b s w p) (k q)
+
+pub reserved-head : (s : List ℕ) → 2 ≤ length s → begins (upper (getD s 0 0)) ≡ false → reserved s ≡ false
+unfolding reserved begins
+reserved-head [] h e = absurd (omega arith)
+reserved-head (b ∷ s) h e = by-heads (upper b) (uppers s) reservedWords e
+
+shorter : (u w : List ℕ) → length u < length w → same u w ≡ false
+shorter u w h = go (same u w) refl
+  where
+    go : (b : Bool) → same u w ≡ b → same u w ≡ false
+    go true e = absurd (let q = ap length (same-true u w e) in omega arith)
+    go false e = e
+
+-- each word has two bytes or more
+abbrev LongWords : List (List ℕ) → Type 0
+LongWords [] = Unit {0}
+LongWords (w ∷ ws) = (2 ≤ length w) × LongWords ws
+
+too-short : (u : List ℕ) → length u < 2 → (ws : List (List ℕ)) → LongWords ws → some (same u) ws ≡ false
+unfolding some
+too-short u h [] q = refl
+too-short u h (w ∷ ws) q = let k = q .0 in simp (shorter u w (omega arith)) (too-short u h ws (q .1))
+
+pub reserved-short : (s : List ℕ) → length s < 2 → reserved s ≡ false
+unfolding reserved reservedWords
+reserved-short s h = too-short (uppers s) (omega (arith, uppers-length s)) reservedWords (omega arith)

@@ -3,7 +3,7 @@ ghost use Prim.Native.Nat.{_≤_, _<_};
 ghost use lib.ListN.{length};
 ghost use Rattle.choice.specs.Choice.{between, all};
 ghost use Rattle.charset.specs.Charset.{letter, digit, nameStart, nameByte, upper, uppers, reserved, name, strByte, spatialByte};
-ghost use Rattle.charset.specs.WordKey.{keyOf, Bytes};
+ghost use Rattle.charset.specs.WordKey.{keyOf, Bytes, begins};
 
 fn within(lo: u8, b: u8, hi: u8) -> bool
     ensures { λ r. ⌜ r ≡ between lo b hi ⌝ }
@@ -145,12 +145,10 @@ fn word_key(s: &[u8]) -> u64
     key
 }
 
-fn is_reserved(s: &[u8]) -> bool
+fn is_reserved_key(s: &[u8]) -> bool
+    requires { ⌜ length (now s) ≤ 7 ⌝ }
     ensures { λ r. ⌜ r ≡ reserved (now (s .entry)) ⌝ }
 {
-    if 7 < s.len() {
-        return false;
-    }
     let key = word_key(s);
     match key {
         21253697 => true, // AND
@@ -169,6 +167,59 @@ fn is_reserved(s: &[u8]) -> bool
         5458186836 => true, // TRUE
         _ => false,
     }
+}
+
+// The fourteen words begin with ten letters, so most names are told from them by the first byte.
+fn begins_reserved(b: u8) -> bool
+    ensures { λ r. ⌜ r ≡ begins (upper b) ⌝ }
+{
+    let u = upper_of(b);
+    if u == 65 {
+        return true;
+    }
+    if u == 66 {
+        return true;
+    }
+    if u == 67 {
+        return true;
+    }
+    if u == 68 {
+        return true;
+    }
+    if u == 70 {
+        return true;
+    }
+    if u == 73 {
+        return true;
+    }
+    if u == 76 {
+        return true;
+    }
+    if u == 78 {
+        return true;
+    }
+    if u == 79 {
+        return true;
+    }
+    if u == 84 {
+        return true;
+    }
+    false
+}
+
+fn is_reserved(s: &[u8]) -> bool
+    ensures { λ r. ⌜ r ≡ reserved (now (s .entry)) ⌝ }
+{
+    if s.len() < 2 {
+        return false;
+    }
+    if 7 < s.len() {
+        return false;
+    }
+    if begins_reserved(s[0]) {
+        return is_reserved_key(s);
+    }
+    false
 }
 
 // A name that the settings, a tree, a row or an SQL text may hold.

@@ -2,5 +2,4 @@ pub mod TokenLaws
 pub mod IndexLaws
 pub mod Steps
 pub mod Simple
-pub mod Guarded
 pub mod Examples

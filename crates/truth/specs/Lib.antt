@@ -2,8 +2,6 @@ pub mod Lex
 pub mod LexLaws
 pub mod Grammar
 pub mod GrammarLaws
-pub mod BackLaws
-pub mod PrintLaws
 pub mod MissingLaws
 pub mod Reading
 pub mod Places

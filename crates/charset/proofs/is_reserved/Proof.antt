@@ -1,100 +1,43 @@
--- `charset::is_reserved` meets its contract: a word is reserved exactly if its key is one of the fourteen.
-use mathlib.Core.Path.{_≡_, sym, ap, _∙_}
-use borrow.Author.Tests.{ne-eqb}
-use Rattle.choice.specs.Choice.{some}
-use Rattle.charset.specs.Charset.{reservedWords}
-use Rattle.charset.proofs.Keys.{keyed, keyed-none, reserved-by-key, reserved-long}
+-- `charset::is_reserved` meets its contract: a word of one byte, of more than seven, or with another first letter is none of the fourteen.
+use mathlib.Core.Path.{_≡_, sym, _∙_}
+use Rattle.charset.proofs.Keys.{reserved-short, reserved-long, reserved-head}
 use borrow.Author.Needs.{needs}
 use Rattle.charset.proofs.is_reserved.Statement.{statement}
 use Rattle.charset.proofs.is_reserved.Tie as tie
 use Rattle.charset.proofs.is_reserved.Reads as reads
 use Rattle.charset.proofs.is_reserved.Lts as lts
-use Rattle.charset.proofs.word_key.Reads as word-key-reads
+use Rattle.charset.proofs.begins_reserved.Reads as begins-reserved-reads
+use Rattle.charset.proofs.is_reserved_key.Reads as is-reserved-key-reads
 
 returns : tie.Need-returns
-returns c = sym (reserved-long _ (c .if1 .taken))
-
-word-key-requires : tie.Need-word-key-requires
-word-key-requires c κs = search needs
+returns c = sym (reserved-short _ (c .if1 .taken))
 
 returns-2 : tie.Need-returns-2
-unfolding keyed some reservedWords
-returns-2 c = sym (reserved-by-key _ _ (c .before .word-key .ensures .0) (c .before .word-key .ensures .1) ∙ ap keyed (c .match .keys1))
+returns-2 c = sym (reserved-long _ (c .if2 .taken))
+
+shared-slice-read-begins-reserved : tie.Need-shared-slice-read-begins-reserved
+shared-slice-read-begins-reserved c = search needs
+
+begins-reserved-requires : tie.Need-begins-reserved-requires
+begins-reserved-requires c κs = search needs
+
+is-reserved-key-requires : tie.Need-is-reserved-key-requires
+is-reserved-key-requires c κs = search needs
 
 returns-3 : tie.Need-returns-3
-unfolding keyed some reservedWords
-returns-3 c = sym (reserved-by-key _ _ (c .before .word-key .ensures .0) (c .before .word-key .ensures .1) ∙ ap keyed (c .match .keys2))
+returns-3 c = c .is-reserved-key .ensures
 
 returns-4 : tie.Need-returns-4
-unfolding keyed some reservedWords
-returns-4 c = sym (reserved-by-key _ _ (c .before .word-key .ensures .0) (c .before .word-key .ensures .1) ∙ ap keyed (c .match .keys3))
-
-returns-5 : tie.Need-returns-5
-unfolding keyed some reservedWords
-returns-5 c = sym (reserved-by-key _ _ (c .before .word-key .ensures .0) (c .before .word-key .ensures .1) ∙ ap keyed (c .match .keys4))
-
-returns-6 : tie.Need-returns-6
-unfolding keyed some reservedWords
-returns-6 c = sym (reserved-by-key _ _ (c .before .word-key .ensures .0) (c .before .word-key .ensures .1) ∙ ap keyed (c .match .keys5))
-
-returns-7 : tie.Need-returns-7
-unfolding keyed some reservedWords
-returns-7 c = sym (reserved-by-key _ _ (c .before .word-key .ensures .0) (c .before .word-key .ensures .1) ∙ ap keyed (c .match .keys6))
-
-returns-8 : tie.Need-returns-8
-unfolding keyed some reservedWords
-returns-8 c = sym (reserved-by-key _ _ (c .before .word-key .ensures .0) (c .before .word-key .ensures .1) ∙ ap keyed (c .match .keys7))
-
-returns-9 : tie.Need-returns-9
-unfolding keyed some reservedWords
-returns-9 c = sym (reserved-by-key _ _ (c .before .word-key .ensures .0) (c .before .word-key .ensures .1) ∙ ap keyed (c .match .keys8))
-
-returns-10 : tie.Need-returns-10
-unfolding keyed some reservedWords
-returns-10 c = sym (reserved-by-key _ _ (c .before .word-key .ensures .0) (c .before .word-key .ensures .1) ∙ ap keyed (c .match .keys9))
-
-returns-11 : tie.Need-returns-11
-unfolding keyed some reservedWords
-returns-11 c = sym (reserved-by-key _ _ (c .before .word-key .ensures .0) (c .before .word-key .ensures .1) ∙ ap keyed (c .match .keys10))
-
-returns-12 : tie.Need-returns-12
-unfolding keyed some reservedWords
-returns-12 c = sym (reserved-by-key _ _ (c .before .word-key .ensures .0) (c .before .word-key .ensures .1) ∙ ap keyed (c .match .keys11))
-
-returns-13 : tie.Need-returns-13
-unfolding keyed some reservedWords
-returns-13 c = sym (reserved-by-key _ _ (c .before .word-key .ensures .0) (c .before .word-key .ensures .1) ∙ ap keyed (c .match .keys12))
-
-returns-14 : tie.Need-returns-14
-unfolding keyed some reservedWords
-returns-14 c = sym (reserved-by-key _ _ (c .before .word-key .ensures .0) (c .before .word-key .ensures .1) ∙ ap keyed (c .match .keys13))
-
-returns-15 : tie.Need-returns-15
-unfolding keyed some reservedWords
-returns-15 c = sym (reserved-by-key _ _ (c .before .word-key .ensures .0) (c .before .word-key .ensures .1) ∙ ap keyed (c .match .keys14))
-
-returns-16 : tie.Need-returns-16
-unfolding reservedWords
-returns-16 c = sym (reserved-by-key _ _ (c .before .word-key .ensures .0) (c .before .word-key .ensures .1) ∙ keyed-none _ (c .match .rest))
+returns-4 c = sym (reserved-head _ (c .before .before .before .before .if1 .left) (sym (c .before .begins-reserved .ensures) ∙ c .if3 .left))
 
 pub is-reserved-spec : {M : Type 1} → statement M
 is-reserved-spec =
     tie.close
     (tie.spec
     returns
-    word-key-requires
     returns-2
+    shared-slice-read-begins-reserved
+    begins-reserved-requires
+    is-reserved-key-requires
     returns-3
-    returns-4
-    returns-5
-    returns-6
-    returns-7
-    returns-8
-    returns-9
-    returns-10
-    returns-11
-    returns-12
-    returns-13
-    returns-14
-    returns-15
-    returns-16)
+    returns-4)
