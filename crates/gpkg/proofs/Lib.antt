@@ -10,3 +10,4 @@ pub mod Twin
 pub mod Sorts
 pub mod Walk
 pub mod Leaves
+pub mod Accept

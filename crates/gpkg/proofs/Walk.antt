@@ -160,6 +160,7 @@ plain-piece g w {s} {es} {xs} a b f e = outer (between 48 b 57) e
     inner : (c : Bool) → ltb (b - 48) 4 ≡ c → pick c (endPiece (getD es (b - 48) (Column 0 0))) (pieces.Plain (Slot (b - 48))) ≡ pieces.Plain f → pick c (text g (getD xs (b - 48) null)) (wordText g w (b - 48)) ≡ flatText g w f
     inner true q z = plain-end g w (getD es (b - 48) (Column 0 0)) (getD xs (b - 48) null) f (end-is g w a (b - 48) (ltb-true (b - 48) 4 q)) z
     inner false q z = let y : f ≡ Slot (b - 48) = cc in ap (flatText g w) (sym y)
+
     outer : (c : Bool) → pick c (pick (ltb (b - 48) 4) (endPiece (getD es (b - 48) (Column 0 0))) (pieces.Plain (Slot (b - 48)))) (pieces.Plain (Byte b)) ≡ pieces.Plain f → pick c (slot g w xs (b - 48)) (b ∷ []) ++ [] ≡ flatText g w f
     outer true z = append-nil (slot g w xs (b - 48)) ∙ inner (ltb (b - 48) 4) refl z
     outer false z = let y : f ≡ Byte b = cc in ap (flatText g w) (sym y)
@@ -182,6 +183,7 @@ node-piece g w {s} {es} {xs} a b p z e = outer (between 48 b 57) e
         let n = node-end (getD es (b - 48) (Column 0 0)) (getD xs (b - 48) null) p z i y in
         record { x = getD xs (b - 48) null; inside = n .0; bytes = n .1; fit = i .fit; filled = append-nil (text g (getD xs (b - 48) null)) }
     inner false q y = never (cc)
+
     outer : (c : Bool) → pick c (pick (ltb (b - 48) 4) (endPiece (getD es (b - 48) (Column 0 0))) (pieces.Plain (Slot (b - 48)))) (pieces.Plain (Byte b)) ≡ pieces.Node p z → Child g s p z (pick c (slot g w xs (b - 48)) (b ∷ []) ++ [])
     outer true y = inner (ltb (b - 48) 4) refl y
     outer false y = never (cc)
@@ -214,16 +216,17 @@ unfolding sound
 both-sides s o t u m e f n =
     let d = sides s o t u e in
     let l : length s ≡ 8 + (length (encode t) + length (encode u)) = ap length e ∙ size-of (dyadic o t u) ∙ (let z : 6 + suc (suc (length (encode t ++ encode u))) ≡ 8 + (length (encode t) + length (encode u)) = rw length-append (omega arith) in z) in
-    let mm : m ≡ 8 + length (encode t) = n .exact t (encode u) d in
-    (record { rest = encode u; there = d; past = mm; starts = omega arith; inside = omega arith; fit = both-first (sound t) (sound u) f },
-    record {
-      rest = [];
-      there = ap (λ (y : ℕ). drop y s) mm ∙ beyond s 8 t (encode u) d ∙ sym (append-nil (encode u));
-      past = omega arith;
-      starts = omega arith;
-      inside = omega arith;
-      fit = both-second (sound t) (sound u) f;
-    })
+    let mm : m ≡ 8 + length (encode t) = n .exact t (encode u) d in (
+      record { rest = encode u; there = d; past = mm; starts = omega arith; inside = omega arith; fit = both-first (sound t) (sound u) f },
+      record {
+        rest = [];
+        there = ap (λ (y : ℕ). drop y s) mm ∙ beyond s 8 t (encode u) d ∙ sym (append-nil (encode u));
+        past = omega arith;
+        starts = omega arith;
+        inside = omega arith;
+        fit = both-second (sound t) (sound u) f;
+      },
+    )
 
 pub node-of : (s : List ℕ) (kind op m : ℕ) (t : Tree) → s ≡ encode t → sound t ≡ true → kind ≡ le16 s 4 → op ≡ le16 s 6 → EndOf s 8 m → 9 ≤ kind → kind < 11 → Node s kind op m t
 unfolding sound
@@ -269,7 +272,7 @@ function-listed g s from to n ts e f a b =
     let z : drop (7 + length n) s ≡ encodes ts = sym (drop-drop (length n) 7 s) ∙ ap (λ (l : List ℕ). drop (length n) l) d ∙ drop-at n (encodes ts) (length n) refl in
     let l : length (drop (7 + length n) s) ≤ length s - (7 + length n) = rw length-drop (omega arith) in
     let k : take (to - from) (drop from s) ≡ n =
-        ap (λ (x : ℕ). take (to - x) (drop x s)) b ∙ ap (λ (x : ℕ). take (x - 7) (drop 7 s)) a ∙ ap (λ (x : ℕ). take x (drop 7 s)) (add-sub-cancel-left 7 (length n)) ∙ ap (λ (x : List ℕ). take (length n) x) d ∙ take-at n (encodes ts) (length n) refl in
+    ap (λ (x : ℕ). take (to - x) (drop x s)) b ∙ ap (λ (x : ℕ). take (x - 7) (drop 7 s)) a ∙ ap (λ (x : ℕ). take x (drop 7 s)) (add-sub-cancel-left 7 (length n)) ∙ ap (λ (x : List ℕ). take (length n) x) d ∙ take-at n (encodes ts) (length n) refl in
     record {
       ts = ts;
       there = ap (λ (x : ℕ). take (length s - x) (drop x s)) a ∙ take-all (length s - (7 + length n)) (drop (7 + length n) s) l ∙ z;
