@@ -8,3 +8,6 @@ pub mod Nodes
 pub mod Operands
 pub mod Twin
 pub mod Sorts
+pub mod Walk
+pub mod Leaves
+pub mod Accept
