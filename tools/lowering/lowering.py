@@ -365,7 +365,7 @@ def sample(path, folder, out, count):
             t = ('array', [('str', 0, 'x' * 4096)] * 3)
             for _ in range(2):
                 t = ('dyadic', 'TEquals', t, ('interval', ('id', 'a'), ('id', 'b')))
-            filler = lambda k: ('dyadic', 'And', t, ('array', [('str', 0, 'y' * 3000)] * 4 + [('str', 0, 'y' * k)]))
+            filler = lambda k: ('dyadic', 'And', t, ('array', [('str', 0, 'y' * 3500)] * 4 + [('str', 0, 'y' * k)]))
             short = n - len(text(g, filler(0)))
             t = filler(short)
             x = text(g, t).encode()
