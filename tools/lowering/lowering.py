@@ -361,13 +361,15 @@ def sample(path, folder, out, count):
             f.write(case(h, t, len(x) + k % 7, b'\0' + x))
             if k % 10 == 0:
                 f.write(case(h, t, len(x) - 1, b'\x09'))
-        for n in (65535, 65536):    # 15 strings of 4,096 bytes and one that fills up
-            items = [('str', 0, 'x' * 4096)] * 7
-            twice = ('dyadic', 'TEquals', ('interval', ('array', items), ('array', items)), ('id', 'a'))
-            short = n - len(text(g, ('dyadic', 'And', twice, ('str', 0, ''))))
-            t = ('dyadic', 'And', twice, ('str', 0, 'y' * short))
+        for n in (65535, 65536):    # three strings of 4,096 bytes, written four times, and five that fill up
+            t = ('array', [('str', 0, 'x' * 4096)] * 3)
+            for _ in range(2):
+                t = ('dyadic', 'TEquals', t, ('interval', ('id', 'a'), ('id', 'b')))
+            filler = lambda k: ('dyadic', 'And', t, ('array', [('str', 0, 'y' * 3500)] * 4 + [('str', 0, 'y' * k)]))
+            short = n - len(text(g, filler(0)))
+            t = filler(short)
             x = text(g, t).encode()
-            assert len(x) == n and short <= 4096, (len(x), short)
+            assert len(x) == n and 0 <= short <= 4096 and len(encode(t)) <= 32768, (len(x), short)
             f.write(case(g, t, 65536, b'\0' + x if n == 65535 else b'\x08'))
             f.write(case(g, t, n - 1, b'\x09' if n == 65535 else b'\x08'))
         big = ('id', 'a')

@@ -47,3 +47,15 @@ lays-then {at} {t} {u} {l} {m} {n} {p} {r} x y = record {
       let a : m ≡ sets l at t = x .laid (omega arith) (omega arith) in
       y .laid (omega arith) (omega arith) ∙ rw (q, a) (sets-append t u l at);
 }
+
+empty : (t : List ℕ) (at : ℕ) → 65536 ≤ at → at + length t ≤ 65536 → t ≡ []
+empty [] at a h = refl
+empty (x ∷ t) at a h = absurd (let v : ⊥ = omega arith in v)
+
+-- past the limit
+pub lays-past : {at : ℕ} (t l : List ℕ) → 65536 ≤ at → Lays at t l l 65536
+lays-past {at} t l a = record {
+  place = omega arith;
+  kept = refl;
+  laid = λ h g. ap (λ (x : List ℕ). sets l at x) (sym (empty t at a g));
+}

@@ -17,6 +17,7 @@ use Rattle.gpkg.specs.Text.{text, texts, joined, word}
 use Rattle.gpkg.specs.Plan.{settingsIn, sound, sounds, slot, nodeOp, nodeEnds, leafText, pieceOf}
 use Rattle.gpkg.proofs.Walk.{Come, come-start, come-next, come-end, leaf-step, high-text, six, fourteen, listed, node-of, node-number, node-piece, plain-step, node-step, all-filled, items-fall, items-short}
 use borrow.Author.Tests.{not-true, not-false}
+use Rattle.gpkg.proofs.LaysLaws.{lays-past}
 use Prim.Native.Nat.{ℕ, _<_}
 use borrow.Fn.Kinds.{In}
 use borrow.Fn.PlainCycle.{Measures, is, falls, and}
@@ -236,6 +237,26 @@ write-items-returns : (t : ℕ) → write-items-lts.Need-returns (
 ) (write-items-at t) write-items.Post write-items-Inv-loop write-items-μ-loop
 write-items-returns t c = λ ts e f. come-end (omega arith) (c .before .loop .inv .1 ts e f)
 
+write-node-returns : (t : ℕ) → write-node-lts.Need-returns (
+  word-at-reads.Asked,
+  word-at-reads.Learnt,
+  put-leaf-reads.Asked,
+  put-leaf-reads.Learnt,
+  ended-reads.Asked,
+  ended-reads.Learnt,
+  write-operands-below t,
+  write-operands.Post,
+  items-at-reads.Asked,
+  items-at-reads.Learnt,
+  least-reads.Asked,
+  least-reads.Learnt,
+  put-reads.Asked,
+  put-reads.Learnt,
+  write-items-below t,
+  write-items.Post,
+) (write-node-at t) write-node.Post
+write-node-returns t c = λ t e f. lays-past _ _ (c .if1 .taken)
+
 write-node-word-at-requires : (t : ℕ) → write-node-lts.Need-word-at-requires (
   word-at-reads.Asked,
   word-at-reads.Learnt,
@@ -296,7 +317,7 @@ write-node-same-length : (t : ℕ) → write-node-lts.Need-same-length (
 ) (write-node-at t) write-node.Post
 write-node-same-length t c = search needs
 
-write-node-returns : (t : ℕ) → write-node-lts.Need-returns (
+write-node-returns-2 : (t : ℕ) → write-node-lts.Need-returns-2 (
   word-at-reads.Asked,
   word-at-reads.Learnt,
   put-leaf-reads.Asked,
@@ -314,7 +335,7 @@ write-node-returns : (t : ℕ) → write-node-lts.Need-returns (
   write-items-below t,
   write-items.Post,
 ) (write-node-at t) write-node.Post
-write-node-returns t c = λ t e f. lays-of (leaf-step (settingsIn (c .before .before .before .before .before .before .before .before .before .before .args .set .now)) (c .before .before .before .before .before .before .before .before .before .before .args .s .now) t (c .before .before .before .before .before .word-at .result) e f (c .before .before .before .before .before .word-at .ensures .0) (c .before .before .before .before .if1 .taken)) (c .before .before .put-leaf .ensures)
+write-node-returns-2 t c = λ t e f. lays-of (leaf-step (settingsIn (c .before .before .before .before .before .before .before .before .before .before .before .args .set .now)) (c .before .before .before .before .before .before .before .before .before .before .before .args .s .now) t (c .before .before .before .before .before .word-at .result) e f (c .before .before .before .before .before .word-at .ensures .0) (c .before .before .before .before .if2 .taken)) (c .before .before .put-leaf .ensures)
 
 write-node-ended-requires : (t : ℕ) → write-node-lts.Need-ended-requires (
   word-at-reads.Asked,
@@ -336,7 +357,7 @@ write-node-ended-requires : (t : ℕ) → write-node-lts.Need-ended-requires (
 ) (write-node-at t) write-node.Post
 write-node-ended-requires t c κs = search needs
 
-write-node-returns-2 : (t : ℕ) → write-node-lts.Need-returns-2 (
+write-node-returns-3 : (t : ℕ) → write-node-lts.Need-returns-3 (
   word-at-reads.Asked,
   word-at-reads.Learnt,
   put-leaf-reads.Asked,
@@ -354,7 +375,7 @@ write-node-returns-2 : (t : ℕ) → write-node-lts.Need-returns-2 (
   write-items-below t,
   write-items.Post,
 ) (write-node-at t) write-node.Post
-write-node-returns-2 t c = λ t e f. lays-of (high-text (settingsIn (c .before .before .before .before .before .before .before .before .args .set .now)) (c .before .before .before .before .before .before .before .before .args .s .now) t (c .before .before .before .word-at .result) e (c .before .before .before .word-at .ensures .0) (c .before .if2 .taken)) (lays-none (c .ended .ensures))
+write-node-returns-3 t c = λ t e f. lays-of (high-text (settingsIn (c .before .before .before .before .before .before .before .before .before .args .set .now)) (c .before .before .before .before .before .before .before .before .before .args .s .now) t (c .before .before .before .word-at .result) e (c .before .before .before .word-at .ensures .0) (c .before .if3 .taken)) (lays-none (c .ended .ensures))
 
 write-node-ended-requires-2 : (t : ℕ) → write-node-lts.Need-ended-requires-2 (
   word-at-reads.Asked,
@@ -376,7 +397,7 @@ write-node-ended-requires-2 : (t : ℕ) → write-node-lts.Need-ended-requires-2
 ) (write-node-at t) write-node.Post
 write-node-ended-requires-2 t c κs = search needs
 
-write-node-returns-3 : (t : ℕ) → write-node-lts.Need-returns-3 (
+write-node-returns-4 : (t : ℕ) → write-node-lts.Need-returns-4 (
   word-at-reads.Asked,
   word-at-reads.Learnt,
   put-leaf-reads.Asked,
@@ -394,7 +415,7 @@ write-node-returns-3 : (t : ℕ) → write-node-lts.Need-returns-3 (
   write-items-below t,
   write-items.Post,
 ) (write-node-at t) write-node.Post
-write-node-returns-3 t c = λ t e f. absurd (let h = six _ t e in let v : ⊥ = omega arith in v)
+write-node-returns-4 t c = λ t e f. absurd (let h = six _ t e in let v : ⊥ = omega arith in v)
 
 write-node-ended-requires-3 : (t : ℕ) → write-node-lts.Need-ended-requires-3 (
   word-at-reads.Asked,
@@ -416,7 +437,7 @@ write-node-ended-requires-3 : (t : ℕ) → write-node-lts.Need-ended-requires-3
 ) (write-node-at t) write-node.Post
 write-node-ended-requires-3 t c κs = search needs
 
-write-node-returns-4 : (t : ℕ) → write-node-lts.Need-returns-4 (
+write-node-returns-5 : (t : ℕ) → write-node-lts.Need-returns-5 (
   word-at-reads.Asked,
   word-at-reads.Learnt,
   put-leaf-reads.Asked,
@@ -434,7 +455,7 @@ write-node-returns-4 : (t : ℕ) → write-node-lts.Need-returns-4 (
   write-items-below t,
   write-items.Post,
 ) (write-node-at t) write-node.Post
-write-node-returns-4 t c = λ t e f. absurd (let h = fourteen _ t (c .before .before .before .before .before .before .word-at .result) e (c .before .before .before .before .before .before .word-at .ensures .0) (omega arith) (omega arith) in let v : ⊥ = omega arith in v)
+write-node-returns-5 t c = λ t e f. absurd (let h = fourteen _ t (c .before .before .before .before .before .before .word-at .result) e (c .before .before .before .before .before .before .word-at .ensures .0) (omega arith) (omega arith) in let v : ⊥ = omega arith in v)
 
 write-node-write-operands-requires : (t : ℕ) → write-node-lts.Need-write-operands-requires (
   word-at-reads.Asked,
@@ -454,7 +475,7 @@ write-node-write-operands-requires : (t : ℕ) → write-node-lts.Need-write-ope
   write-items-below t,
   write-items.Post,
 ) (write-node-at t) write-node.Post
-write-node-write-operands-requires t c κs = let m = c .before .before .before .before .before .before .before .before .before .before .before .pre in (omega arith, (omega arith, omega arith, m .1 .1))
+write-node-write-operands-requires t c κs = let m = c .before .before .before .before .before .before .before .before .before .before .before .before .pre in (omega arith, (omega arith, omega arith, m .1 .1))
 
 write-node-same-length-2 : (t : ℕ) → write-node-lts.Need-same-length-2 (
   word-at-reads.Asked,
@@ -476,7 +497,7 @@ write-node-same-length-2 : (t : ℕ) → write-node-lts.Need-same-length-2 (
 ) (write-node-at t) write-node.Post
 write-node-same-length-2 t c = search needs
 
-write-node-returns-5 : (t : ℕ) → write-node-lts.Need-returns-5 (
+write-node-returns-6 : (t : ℕ) → write-node-lts.Need-returns-6 (
   word-at-reads.Asked,
   word-at-reads.Learnt,
   put-leaf-reads.Asked,
@@ -494,7 +515,7 @@ write-node-returns-5 : (t : ℕ) → write-node-lts.Need-returns-5 (
   write-items-below t,
   write-items.Post,
 ) (write-node-at t) write-node.Post
-write-node-returns-5 t c = λ t e f. c .before .before .write-operands .ensures t e f (let q = c .before .before .before .before .before .before .before .before .before .word-at .ensures .0 in omega arith) (let q = c .before .before .before .before .before .before .before .before .before .word-at .ensures .0 in omega arith)
+write-node-returns-6 t c = λ t e f. c .before .before .write-operands .ensures t e f (let q = c .before .before .before .before .before .before .before .before .before .word-at .ensures .0 in omega arith) (let q = c .before .before .before .before .before .before .before .before .before .word-at .ensures .0 in omega arith)
 
 write-node-items-at-requires : (t : ℕ) → write-node-lts.Need-items-at-requires (
   word-at-reads.Asked,
@@ -734,7 +755,7 @@ write-node-write-items-requires : (t : ℕ) → write-node-lts.Need-write-items-
   write-items-below t,
   write-items.Post,
 ) (write-node-at t) write-node.Post
-write-node-write-items-requires t c κs = let m = c .before .before .before .before .before .before .before .before .before .before .before .before .before .before .before .before .before .before .before .before .before .before .before .pre in (items-fall (c .before .before .before .before .before .before .before .before .before .before .before .before .before .before .before .before .before .before .before .before .before .before .before .args .s .now) (c .before .before .before .before .before .before .before .before .before .before .before .before .before .items-at .result) _ (c .before .before .before .before .before .before .before .before .before .before .before .before .before .items-at .ensures .0) (c .before .before .before .before .before .before .before .before .before .before .before .before .before .items-at .ensures .1) (m .0), (items-short (c .before .before .before .before .before .before .before .before .before .before .before .before .before .before .before .before .before .before .before .before .before .before .before .args .s .now) (c .before .before .before .before .before .before .before .before .before .before .before .before .before .items-at .result) (c .before .before .before .before .before .before .before .before .before .before .before .before .before .items-at .ensures .1) (m .1 .0), m .1 .1))
+write-node-write-items-requires t c κs = let m = c .before .before .before .before .before .before .before .before .before .before .before .before .before .before .before .before .before .before .before .before .before .before .before .before .pre in (items-fall (c .before .before .before .before .before .before .before .before .before .before .before .before .before .before .before .before .before .before .before .before .before .before .before .before .args .s .now) (c .before .before .before .before .before .before .before .before .before .before .before .before .before .items-at .result) _ (c .before .before .before .before .before .before .before .before .before .before .before .before .before .items-at .ensures .0) (c .before .before .before .before .before .before .before .before .before .before .before .before .before .items-at .ensures .1) (m .0), (items-short (c .before .before .before .before .before .before .before .before .before .before .before .before .before .before .before .before .before .before .before .before .before .before .before .before .args .s .now) (c .before .before .before .before .before .before .before .before .before .before .before .before .before .items-at .result) (c .before .before .before .before .before .before .before .before .before .before .before .before .before .items-at .ensures .1) (m .1 .0), m .1 .1))
 
 write-node-slice-aggregate-put-2 : (t : ℕ) → write-node-lts.Need-slice-aggregate-put-2 (
   word-at-reads.Asked,
@@ -796,7 +817,7 @@ write-node-same-length-3 : (t : ℕ) → write-node-lts.Need-same-length-3 (
 ) (write-node-at t) write-node.Post
 write-node-same-length-3 t c = search needs
 
-write-node-returns-6 : (t : ℕ) → write-node-lts.Need-returns-6 (
+write-node-returns-7 : (t : ℕ) → write-node-lts.Need-returns-7 (
   word-at-reads.Asked,
   word-at-reads.Learnt,
   put-leaf-reads.Asked,
@@ -814,7 +835,7 @@ write-node-returns-6 : (t : ℕ) → write-node-lts.Need-returns-6 (
   write-items-below t,
   write-items.Post,
 ) (write-node-at t) write-node.Post
-write-node-returns-6 t c = λ t e f. let w = listed (settingsIn (c .before .before .before .before .before .before .before .before .before .before .before .before .before .before .before .before .before .before .before .before .before .before .before .before .before .before .before .before .before .before .before .args .set .now)) (c .before .before .before .before .before .before .before .before .before .before .before .before .before .before .before .before .before .before .before .before .before .before .before .before .before .before .before .before .before .before .before .args .s .now) (c .before .before .before .before .before .before .before .before .before .before .before .before .before .before .before .before .before .before .before .before .before .before .before .before .before .before .word-at .result) (c .before .before .before .before .before .before .before .before .before .before .before .before .before .before .before .before .before .before .before .before .least .result) (c .before .before .before .before .before .before .before .before .before .before .before .before .before .before .before .before .before .before .before .before .before .items-at .result) t e f (c .before .before .before .before .before .before .before .before .before .before .before .before .before .before .before .before .before .before .before .before .before .before .before .before .before .before .word-at .ensures .0) (omega arith) (omega arith) (c .before .before .before .before .before .before .before .before .before .before .before .before .before .before .before .before .before .before .before .before .before .items-at .ensures .2) (c .before .before .before .before .before .before .before .before .before .before .before .before .before .before .before .before .before .before .before .before .least .ensures) in lays-of (sym (w .whole)) (lays-then (c .before .before .before .before .before .before .before .before .before .before .before .before .before .before .before .before .before .put .ensures) (lays-then (c .before .before .before .before .before .before .before .before .before .before .before .before .put2 .ensures) (lays-then (c .before .before .before .before .before .before .before .write-items .ensures (w .ts) (w .there) (w .fit)) (c .before .before .put3 .ensures))))
+write-node-returns-7 t c = λ t e f. let w = listed (settingsIn (c .before .before .before .before .before .before .before .before .before .before .before .before .before .before .before .before .before .before .before .before .before .before .before .before .before .before .before .before .before .before .before .before .args .set .now)) (c .before .before .before .before .before .before .before .before .before .before .before .before .before .before .before .before .before .before .before .before .before .before .before .before .before .before .before .before .before .before .before .before .args .s .now) (c .before .before .before .before .before .before .before .before .before .before .before .before .before .before .before .before .before .before .before .before .before .before .before .before .before .before .word-at .result) (c .before .before .before .before .before .before .before .before .before .before .before .before .before .before .before .before .before .before .before .before .least .result) (c .before .before .before .before .before .before .before .before .before .before .before .before .before .before .before .before .before .before .before .before .before .items-at .result) t e f (c .before .before .before .before .before .before .before .before .before .before .before .before .before .before .before .before .before .before .before .before .before .before .before .before .before .before .word-at .ensures .0) (omega arith) (omega arith) (c .before .before .before .before .before .before .before .before .before .before .before .before .before .before .before .before .before .before .before .before .before .items-at .ensures .2) (c .before .before .before .before .before .before .before .before .before .before .before .before .before .before .before .before .before .before .before .before .least .ensures) in lays-of (sym (w .whole)) (lays-then (c .before .before .before .before .before .before .before .before .before .before .before .before .before .before .before .before .before .put .ensures) (lays-then (c .before .before .before .before .before .before .before .before .before .before .before .before .put2 .ensures) (lays-then (c .before .before .before .before .before .before .before .write-items .ensures (w .ts) (w .there) (w .fit)) (c .before .before .put3 .ensures))))
 
 abbrev write-operands-Inv-loop : write-operands-lts.InvT-loop
 write-operands-Inv-loop s set words out₀ at kind op m e bytes n here₀ k₀ out here k = (length out ≡ length out₀) × (k ≤ n) × ((t : Tree) → s ≡ encode t → sound t ≡ true → 9 ≤ le16 s 4 → le16 s 4 < 11 → Lays at (fill (slot (settingsIn set) (word (nodeOp t)) (nodeEnds t)) (take k (take n bytes))) out₀ out here)
@@ -1443,19 +1464,20 @@ pub +write-items+write-node+write-operands-spec : {M : Type 1} → statement M
     )
     (write-node-at t)
     write-node.Post
+    (write-node-returns t)
     (write-node-word-at-requires t)
     (write-node-put-leaf-requires t)
     (write-node-same-length t)
-    (write-node-returns t)
-    (write-node-ended-requires t)
     (write-node-returns-2 t)
-    (write-node-ended-requires-2 t)
+    (write-node-ended-requires t)
     (write-node-returns-3 t)
-    (write-node-ended-requires-3 t)
+    (write-node-ended-requires-2 t)
     (write-node-returns-4 t)
+    (write-node-ended-requires-3 t)
+    (write-node-returns-5 t)
     (write-node-write-operands-requires t)
     (write-node-same-length-2 t)
-    (write-node-returns-5 t)
+    (write-node-returns-6 t)
     (write-node-items-at-requires t)
     (write-node-least-requires t)
     (write-node-sub-put t)
@@ -1471,7 +1493,7 @@ pub +write-items+write-node+write-operands-spec : {M : Type 1} → statement M
     (write-node-slice-aggregate-put-2 t)
     (write-node-put-requires-3 t)
     (write-node-same-length-3 t)
-    (write-node-returns-6 t))
+    (write-node-returns-7 t))
     λ t. write-operands-lts.spec (
       word-at-reads.Asked,
       word-at-reads.Learnt,
