@@ -5,17 +5,21 @@ ghost use Prim.Native.Nat.{_≤_, _<_};
 ghost use lib.ListN.{length};
 use gpkg::Lowered;
 
+// The first n bytes, or all.
+fn first(s: &[u8], n: usize) -> &[u8] {
+    if n < s.len() {
+        return &s[..n];
+    }
+    s
+}
+
 // The bytes behind a length of four bytes at the front of s, as far as there are any.
 fn part(s: &[u8]) -> &[u8] {
     let n = tree::dword_at(s, 0);
     if s.len() < 4 {
         return &s[..0];
     }
-    let rest = &s[4..];
-    if n < rest.len() {
-        return &rest[..n];
-    }
-    rest
+    first(&s[4..], n)
 }
 
 // What follows that part.
@@ -31,13 +35,10 @@ fn behind(s: &[u8]) -> &[u8] {
     &s[..0]
 }
 
-fn answer(settings: &[u8], tree: &[u8]) {
-    let mut out = io::large_buffer();
-    match gpkg::to_sql(settings, tree, &mut out) {
+fn answer(settings: &[u8], tree: &[u8], out: &mut [u8]) {
+    match gpkg::to_sql(settings, tree, out) {
         Lowered::Text(n) => {
-            if n < 65536 {
-                io::write_all(libc::STDOUT_FILENO, &out[..n]);
-            }
+            io::write_all(libc::STDOUT_FILENO, first(out, n));
         }
         Lowered::Refused(r) => {
             io::write_all(libc::STDOUT_FILENO, b"refused ");
@@ -52,6 +53,7 @@ fn main() {
     let n = io::read_full(libc::STDIN_FILENO, &mut buffer);
     if n < 65536 {
         let input = &buffer[..n];
-        answer(part(input), part(behind(input)));
+        let mut out = io::large_buffer();
+        answer(part(input), part(behind(input)), &mut out);
     }
 }
