@@ -8,6 +8,7 @@ pub mod Claims
 pub mod Accepted
 pub mod ReadsTruth
 pub mod Theorems
+pub mod Instances
 pub mod Examples
 pub mod OperatorLaws
 pub mod TruthLaws
