@@ -7,6 +7,7 @@ use lib.Dec.{ltb}
 use Rattle.choice.specs.Choice.{pick}
 use Rattle.refusal.specs.declared.Refusal.{Refusal}
 use Rattle.refusal.specs.declared.Refusal.the-variants.{TextTooLong, BufferTooShort}
+use Rattle.refusal.specs.Number.{numberOf}
 use Rattle.tree.specs.Tree.{Tree, Settings}
 use Rattle.tree.specs.Parse.{Read, refused, got, also}
 use Rattle.tree.specs.Accepted.{accepted}
@@ -36,3 +37,12 @@ answer (got x) = Text (length x)
 unfoldable pub leaves : List ℕ → Read (List ℕ) → List ℕ
 leaves out (refused n) = out
 leaves out (got x) = x ++ drop (length x) out
+
+-- What a caller hears, in document 01's terms: a text of some length, or a refusal's number alone.
+pub data Heard : Type 0 where
+  written : ℕ → Heard
+  refusal : ℕ → Heard
+
+abbrev pub heard : lowered.Lowered → Heard
+heard (Text n) = written n
+heard (Refused n) = refusal (numberOf n)
