@@ -2,8 +2,8 @@
 """Trees, and the SQL text of a tree, written from document 01 and src/ds/gpkg.rs: an independent reference for crate gpkg.
 
   lowering.py compare ORACLE DIR [COUNT] [SEED]   makes COUNT accepted trees, runs the oracle on them in DIR and compares its texts with the reference
-  lowering.py sample ORACLE DIR OUT [COUNT]       the same, and writes a sample for the replay program to OUT
-A case for the replay program: settings, tree, buffer length and answer, each with a four-byte length or as four bytes, little-endian."""
+  lowering.py sample ORACLE DIR OUT [COUNT]       the same, and writes a sample of COUNT texts, with refusals, for crate gpkg_replay to OUT
+A case for the replay program: the lengths of settings, tree, buffer and answer, each as four bytes, little-endian; settings, tree, answer."""
 import random, struct, subprocess, sys, os
 
 NAMES = '''Plus Minus Mult Div IntDiv Mod Exp Neg Eq Neq Lt Gt Lte Gte And Or CaseI AccentI SIntersects SEquals SDisjoint STouches SWithin
@@ -345,11 +345,12 @@ def main():
         count = int(sys.argv[4]) if len(sys.argv) > 4 else 20000
         compare(path, folder, count, int(sys.argv[5]) if len(sys.argv) > 5 else 1)
     else:
-        sample(path, folder, sys.argv[4], int(sys.argv[5]) if len(sys.argv) > 5 else 1200)
+        sample(path, folder, sys.argv[4], int(sys.argv[5]) if len(sys.argv) > 5 else 1000)
 
 def case(g, t, room, answer):
     tree = t if isinstance(t, bytes) else encode(t)
-    return blob(settings_record(g)) + blob(tree) + struct.pack('<I', room) + blob(answer)
+    settings = settings_record(g)
+    return struct.pack('<4I', len(settings), len(tree), room, len(answer)) + settings + tree + answer
 
 def sample(path, folder, out, count):
     """answer: byte 0 and the text, or the refusal's number alone"""
@@ -369,6 +370,7 @@ def sample(path, folder, out, count):
             short = n - len(text(g, filler(0)))
             t = filler(short)
             x = text(g, t).encode()
+            assert oracle(path, folder, [(g, t)]) == [('T', x)]
             assert len(x) == n and 0 <= short <= 4096 and len(encode(t)) <= 32768, (len(x), short)
             f.write(case(g, t, 65536, b'\0' + x if n == 65535 else b'\x08'))
             f.write(case(g, t, n - 1, b'\x09' if n == 65535 else b'\x08'))
