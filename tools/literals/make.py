@@ -113,4 +113,5 @@ def main():
     print(len(cases), 'cases,', len(data), 'bytes')
 
 
-main()
+if __name__ == '__main__':
+    main()

@@ -308,4 +308,5 @@ def main():
         print('stored', len(keep))
 
 
-main()
+if __name__ == '__main__':
+    main()

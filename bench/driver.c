@@ -1,0 +1,240 @@
+/* Runs the library's two calls, the Rust's lowering and SQLite on the inputs that bench/run wrote: one process, one round of each after the other.
+
+   driver time INPUTS ROUNDS             a line for each input and side: input, side, answer, then nanoseconds a call, round by round
+   driver count INPUTS INPUT SIDE TIMES  only makes the calls, for callgrind to count
+
+   INPUTS: for each input a letter (L lowering, R reading), a byte (1: also the other sides), a count of cases in four bytes; for each case four
+   byte strings behind their lengths in four bytes: settings, tree, -, - or text, row, the SQL that makes the table, the query. */
+#define _GNU_SOURCE
+#include <sqlite3.h>
+#include <stdint.h>
+#include <stdio.h>
+#include <stdlib.h>
+#include <string.h>
+#include <time.h>
+
+int64_t wenduulig_to_sql(const uint8_t *, size_t, const uint8_t *, size_t, uint8_t *, size_t);
+int32_t wenduulig_read(const uint8_t *, size_t, const uint8_t *, size_t);
+void *rust_tree(const uint8_t *, size_t, const uint8_t *, size_t);
+uint64_t rust_lower(const void *, size_t);
+void rust_copy(const void *, size_t);
+uint64_t rust_decode_lower(const uint8_t *, size_t, const uint8_t *, size_t, size_t);
+size_t rust_text(const void *, uint8_t *, size_t);
+
+enum { OURS, RUST, RUST_DECODE, RUST_COPY, PREPARE_STEP, STEP };
+static const char *side_names[] = {"ours", "rust", "rust_decode", "rust_copy", "prepare_step", "step"};
+struct bytes { uint8_t *at; size_t n; };
+struct one { struct bytes part[4]; void *tree; sqlite3 *base; sqlite3_stmt *ready; };
+struct input { char kind; int versus; size_t count, copies; struct one *ones; };
+
+static struct input *inputs;
+static size_t input_count;
+static uint8_t out[65536], other[65536];
+
+/* The time of this thread alone: another program on the same core does not count. */
+uint64_t clock_ns(void)
+{
+    struct timespec t;
+    clock_gettime(CLOCK_THREAD_CPUTIME_ID, &t);
+    return (uint64_t)t.tv_sec * 1000000000u + (uint64_t)t.tv_nsec;
+}
+
+static void fail(const char *what)
+{
+    fprintf(stderr, "driver: %s\n", what);
+    exit(2);
+}
+
+static uint32_t number(FILE *f)
+{
+    uint32_t n;
+    if (fread(&n, 4, 1, f) != 1)
+        fail("the inputs end early");
+    return n;
+}
+
+static struct bytes part(FILE *f)
+{
+    struct bytes b = {NULL, number(f)};
+    b.at = malloc(b.n + 1);
+    if (fread(b.at, 1, b.n, f) != b.n)
+        fail("the inputs end early");
+    b.at[b.n] = 0;
+    return b;
+}
+
+static void prepare(struct one *o)
+{
+    if (sqlite3_open(":memory:", &o->base) || sqlite3_exec(o->base, (char *)o->part[2].at, NULL, NULL, NULL))
+        fail("SQLite takes no such table");
+    if (sqlite3_prepare_v2(o->base, (char *)o->part[3].at, (int)o->part[3].n, &o->ready, NULL))
+        fail(sqlite3_errmsg(o->base));
+}
+
+static void load(const char *path)
+{
+    FILE *f = fopen(path, "rb");
+    int c;
+    if (!f)
+        fail("no inputs");
+    while ((c = fgetc(f)) != EOF) {
+        inputs = realloc(inputs, (input_count + 1) * sizeof *inputs);
+        struct input *i = &inputs[input_count++];
+        i->kind = (char)c;
+        i->versus = fgetc(f);
+        i->count = number(f);
+        i->ones = calloc(i->count, sizeof *i->ones);
+        for (struct one *o = i->ones; o < i->ones + i->count; o++) {
+            for (int k = 0; k < 4; k++)
+                o->part[k] = part(f);
+            /* Copies of a small tree stay in the cache; of a large one only one is made at a time. */
+            i->copies = o->part[0].n + o->part[1].n < 2000 ? 32 : 1;
+#ifdef RUST_SIDE
+            if (i->versus && c == 'L')
+                o->tree = rust_tree(o->part[0].at, o->part[0].n, o->part[1].at, o->part[1].n);
+#endif
+            if (i->versus && c == 'R')
+                prepare(o);
+        }
+    }
+    fclose(f);
+}
+
+static int64_t ours(char kind, const struct one *o)
+{
+    const struct bytes *p = o->part;
+    if (kind == 'L')
+        return wenduulig_to_sql(p[0].at, p[0].n, p[1].at, p[1].n, out, sizeof out);
+    return wenduulig_read(p[0].at, p[0].n, p[1].at, p[1].n);
+}
+
+static void step(sqlite3_stmt *s)
+{
+    int r = sqlite3_step(s);
+    if (r != SQLITE_ROW && r != SQLITE_DONE)
+        fail("SQLite does not run the query");
+}
+
+static void prepare_step(const struct one *o)
+{
+    sqlite3_stmt *s;
+    if (sqlite3_prepare_v2(o->base, (char *)o->part[3].at, (int)o->part[3].n, &s, NULL))
+        fail("SQLite does not prepare the query");
+    step(s);
+    sqlite3_finalize(s);
+}
+
+/* Nanoseconds of i->copies calls on one case. */
+static uint64_t once(const struct input *i, const struct one *o, int side)
+{
+#ifdef RUST_SIDE
+    if (side == RUST)
+        return rust_lower(o->tree, i->copies);
+    if (side == RUST_DECODE)
+        return rust_decode_lower(o->part[0].at, o->part[0].n, o->part[1].at, o->part[1].n, i->copies);
+    if (side == RUST_COPY)
+        return rust_copy(o->tree, i->copies), 0;
+#endif
+    uint64_t start = clock_ns();
+    for (size_t k = 0; k < i->copies; k++) {
+        if (side == OURS)
+            ours(i->kind, o);
+        else if (side == PREPARE_STEP)
+            prepare_step(o);
+        else
+            step(o->ready), sqlite3_reset(o->ready);
+    }
+    return clock_ns() - start;
+}
+
+/* Nanoseconds a call, over so many passes over the input's cases. */
+static double passes(const struct input *i, int side, size_t times)
+{
+    uint64_t sum = 0;
+    for (size_t t = 0; t < times; t++)
+        for (size_t k = 0; k < i->count; k++)
+            sum += once(i, &i->ones[k], side);
+    return (double)sum / (double)(times * i->count * i->copies);
+}
+
+static int takes_part(const struct input *i, int side)
+{
+#ifdef RUST_SIDE
+    if (side == RUST || side == RUST_DECODE)
+        return i->versus && i->kind == 'L';
+#endif
+    if (side == PREPARE_STEP || side == STEP)
+        return i->versus && i->kind == 'R';
+    return side == OURS;
+}
+
+/* Both sides must give the same answer, or a ratio of their times says nothing. Returns the bytes of text, or the one answer of a reading. */
+static long long same(const struct input *i)
+{
+    long long total = 0;
+    for (struct one *o = i->ones; o < i->ones + i->count; o++) {
+        int64_t n = ours(i->kind, o);
+        total += n;
+#ifdef RUST_SIDE
+        if (o->tree && (n < 0 || rust_text(o->tree, other, sizeof other) != (size_t)n || memcmp(out, other, (size_t)n)))
+            fail("the Rust gives another text");
+#endif
+        if (o->ready) {
+            int r = sqlite3_step(o->ready);
+            sqlite3_reset(o->ready);
+            if (n < 0 || (r == SQLITE_ROW) != (n == 1))
+                fail("SQLite gives another answer");
+        }
+    }
+    return total;
+}
+
+static void measure(size_t rounds)
+{
+    static double got[64][6][256];
+    static size_t times[64][6];
+    if (input_count > 64 || rounds > 256)
+        fail("too many inputs or rounds");
+    for (size_t r = 0; r <= rounds; r++)    /* the round 0 only finds how many passes take two milliseconds */
+        for (size_t k = 0; k < input_count; k++)
+            for (int side = 0; side < 6; side++) {
+                struct input *i = &inputs[k];
+                if (!takes_part(i, side))
+                    continue;
+                if (r > 0) {
+                    got[k][side][r - 1] = passes(i, side, times[k][side]);
+                    continue;
+                }
+                double one = passes(i, side, 1) * (double)(i->count * i->copies);
+                times[k][side] = 1 + (size_t)(2e6 / (one + 1));
+            }
+    for (size_t k = 0; k < input_count; k++)
+        for (int side = 0; side < 6; side++) {
+            if (!takes_part(&inputs[k], side))
+                continue;
+            printf("%zu %s %lld", k, side_names[side], same(&inputs[k]));
+            for (size_t r = 0; r < rounds; r++)
+                printf(" %.2f", got[k][side][r]);
+            printf("\n");
+        }
+}
+
+int main(int argc, char **argv)
+{
+    if (argc == 4 && !strcmp(argv[1], "time")) {
+        load(argv[2]);
+        for (size_t k = 0; k < input_count; k++)
+            same(&inputs[k]);
+        measure((size_t)atol(argv[3]));
+        return 0;
+    }
+    if (argc != 6 || strcmp(argv[1], "count"))
+        fail("usage: driver time INPUTS ROUNDS | driver count INPUTS INPUT SIDE TIMES");
+    load(argv[2]);
+    struct input *i = &inputs[atol(argv[3])];
+    i->copies = 1;
+    for (int side = 0; side < 6; side++)
+        if (!strcmp(argv[4], side_names[side]) && atol(argv[5]) > 0)
+            passes(i, side, (size_t)atol(argv[5]));
+    return 0;
+}

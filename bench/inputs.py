@@ -1,0 +1,179 @@
+"""The inputs of bench/run: filters, texts and rows of a bench's log, larger ones of the same kind, and the worst known."""
+import os, random, struct, sys
+
+sys.path.insert(0, os.path.join(os.path.dirname(os.path.abspath(__file__)), '..', 'tools', 'lowering'))
+from lowering import encode, settings_record, text
+
+G = (7, 'NC', 'NA', 'NCA')
+SETTINGS = settings_record(G)
+LONGEST_TREE, LONGEST_TEXT = 32768, 65535
+
+
+def name(n): return ('id', n)
+def num(m, s=0): return ('num', m, s)
+def word(s, flags=0): return ('str', flags, s)
+def two(op, x, y): return ('dyadic', op, x, y)
+def one(op, x): return ('monadic', op, x)
+def span(x, y): return ('interval', x, y)
+def row(cells): return b''.join(cell(n, v) for n, v in cells)
+
+
+def cell(n, v):
+    body = bytes([len(n)]) + n.encode() + (b'\0' if v is None else b'\1' + v.encode())
+    return struct.pack('<IH', len(body) + 2, 200) + body
+
+
+ENTERED, EXITED, LABEL, MASS = map(name, ('entered', 'exited', 'label', 'mass'))
+OPEN, DAY = ('unbounded',), ('date', 2024, 2, 29)
+STAY, MONTH = span(ENTERED, EXITED), span(('date', 2024, 1, 1), ('date', 2024, 1, 31))
+POLYGON = ('spatial', 4326, 'POLYGON((-10 -10,10 -10,10 10,-10 10,-10 -10))')
+
+TIME_FILTERS = [
+    two('And', two('And', two('TAfter', STAY, MONTH), two('Eq', LABEL, word('bolt'))), one('IsNotNull', ENTERED)),
+    two('TDisjoint', DAY, STAY),
+    two('TIntersects', STAY, span(DAY, OPEN)),
+    two('Or', two('TDuring', STAY, MONTH), two('TMeets', STAY, MONTH)),
+    one('Neg', two('TBefore', ENTERED, ('timestamp', 2024, 2, 29, 10, 0, 0))),
+    two('And', two('Gte', ENTERED, word('2024-01-01')), two('Lt', EXITED, DAY)),
+    two('TOverlaps', STAY, MONTH),
+    two('TEquals', ENTERED, DAY)]
+
+MIXED_FILTERS = [
+    two('Or', two('And', two('TDisjoint', ENTERED, MONTH), two('Lte', MASS, num(1250, 2))), two('IsInList', name('shelf'), ('array', [num(n) for n in range(1, 5)]))),
+    two('And', two('And', two('Eq', name('road_class'), word('motorway')), two('IsBetween', name('depth'), ('array', [num(1000, 1), num(15055, 2)]))),
+        two('Or', two('SWithin', name('geom'), POLYGON), two('TAfter', STAY, span(('date', 1969, 7, 16), OPEN)))),
+    two('And', two('IsLike', one('CaseI', LABEL), word('bol%', 1)), two('IsNotInList', name('shelf'), ('array', [word('top'), word('left')]))),
+    two('And', two('Gt', ('function', 'avg', [MASS, num(15, 1)]), num(0)), one('Neg', one('IsNull', LABEL))),
+    two('Eq', two('Plus', MASS, two('Mult', num(2), name('depth'))), num(-725, 2)),
+    two('AContains', name('tags'), ('array', [word('steel'), word('m6'), word('hex')])),
+    two('And', two('SIntersects', name('geom'), POLYGON), two('Eq', one('AccentI', one('CaseI', LABEL)), word('rivet', 3))),
+    two('Or', two('IsNotLike', LABEL, word('%x')), two('Neq', name('shelf'), ('bool', 1)))]
+
+ITEM = two('And', two('Eq', ENTERED, word('some label')), two('TIntersects', STAY, MONTH))
+
+
+def filled(make, items, size):
+    """make(n items) with as many items as the size permits, the items taken in turn."""
+    n, used = 0, len(encode(make([])))
+    while used + len(encode(items[n % len(items)])) <= size:
+        used += len(encode(items[n % len(items)]))
+        n += 1
+    return make([items[k % len(items)] for k in range(n)])
+
+
+def balanced(items, op='And'):
+    if len(items) == 1:
+        return items[0]
+    half = len(items) // 2
+    return two(op, balanced(items[:half], 'Or'), balanced(items[half:]))
+
+
+def large(size):
+    """Three trees of about this size: a list of time filters, Ands and Ors over mixed filters, a list of numbers."""
+    short = size - 400
+    mixed, used = [], 0
+    while used + len(encode(MIXED_FILTERS[len(mixed) % 8])) + 8 <= short:
+        used += len(encode(MIXED_FILTERS[len(mixed) % 8])) + 8
+        mixed.append(MIXED_FILTERS[len(mixed) % 8])
+    return [filled(lambda x: ('array', x), [ITEM], size), balanced(mixed),
+            filled(lambda x: two('IsInList', MASS, ('array', x)), [num(125, 1), num(70001), num(-3, 2)], size)]
+
+
+def nested(op, levels, leaf, side):
+    for _ in range(levels):
+        leaf = two(op, leaf, side)
+    return leaf
+
+
+CELLS = [('fid', '17'), ('label', 'bolt'), ('shelf', 'top'), ('mass', '12.5'), ('entered', '2024-02-03'), ('exited', None)]
+WIDE = CELLS + [('c%d' % n, 'value %d' % n) for n in range(54)]
+TEXTS = [text(G, t) for t in TIME_FILTERS]
+
+
+def repeated(part, glue, size):
+    return glue.join([part] * ((size + len(glue)) // (len(part) + len(glue))))
+
+
+def names(count, order):
+    """A row of columns without values, three letters each."""
+    letters, made, n = 'ABCDEFGHIJKLMNOPQRSTUVWXYZ', [], 0
+    while len(made) < count:
+        x = letters[n // 676 % 26] + letters[n // 26 % 26] + letters[n % 26]
+        n += 1
+        if x not in ('AND', 'DIV', 'NOT'):
+            made.append(x)
+    if order == 'mixed':
+        random.Random(7).shuffle(made)
+    return [(x, None) for x in (reversed(made) if order == 'down' else made)]
+
+
+def table(cells):
+    quoted = ['NULL' if v is None else "'%s'" % v for _, v in cells]
+    return 'CREATE TABLE t (%s); INSERT INTO t VALUES (%s);' % (', '.join('"%s" TEXT' % n for n, _ in cells), ', '.join(quoted))
+
+
+def lowering(trees):
+    return 'L', [(SETTINGS, encode(t), b'', b'') for t in trees]
+
+
+def reading(texts, cells, ask=True):
+    """With what SQLite needs, where it is asked too: a wide row is none of its tables."""
+    query = 'SELECT 1 FROM t WHERE '
+    return 'R', [(t.encode(), row(cells), *((table(cells).encode(), (query + t).encode()) if ask else (b'', b''))) for t in texts]
+
+
+def growth():
+    """Label, the input, and one of ten times the size."""
+    listed = lambda items: lowering([two('IsInList', MASS, ('array', items))])
+    test = "entered>='2024-01-01'"
+    return [
+        ('lowering, 26 and 260 time filters', listed([ITEM] * 26), listed([ITEM] * 260)),
+        ('lowering, 210 and 2,100 numbers', listed([num(125, 1)] * 210), listed([num(125, 1)] * 2100)),
+        ('reading, 250 and 2,500 tests', reading([' AND '.join([test] * 250)], CELLS, False), reading([' AND '.join([test] * 2500)], CELLS, False)),
+        ('reading, row of 297 and 2,970 names', reading(['TRUE'], names(297, 'mixed'), False), reading(['TRUE'], names(2970, 'mixed'), False))]
+
+
+def worst():
+    """Label and input."""
+    huge = filled(lambda x: ('array', x), [ITEM], LONGEST_TREE - 100)
+    doubled = nested('TDisjoint', 29, name('a'), span(name('b'), name('c')))
+    down = names(2970, 'down')
+    mixed = [n for n, _ in names(2970, 'mixed')] * 5
+    asked = ' OR '.join('%s=%s' % pair for pair in zip(mixed[::2], mixed[1::2]))[:LONGEST_TEXT].rsplit(' OR ', 1)[0]
+    brackets = '(' * 64 + 'TRUE' + ')' * 64
+    return [
+        ('29 TDisjoint inside one another', lowering([doubled])),
+        ('an unwritten end of 32 KB', lowering([two('TAfter', name('a'), span(huge, name('b')))])),
+        ('5,300 empty arrays, 32 deep', lowering([deep_arrays()])),
+        ('32 KB, wrong in the last record', ('L', [(SETTINGS, spoilt(encode(huge)), b'', b'')])),
+        ('row of 2,970 names, last first', reading(['TRUE'], down, False)),
+        ('the same, a text of 11,900 names', reading([asked], down, False)),
+        ('64 brackets, 480 times', reading([repeated(brackets, ' OR ', LONGEST_TEXT)], CELLS, False)),
+        ('16,382 NOTs', reading(['NOT ' * 16382 + 'TRUE'], CELLS, False)),
+        ('one quoted text of 64 KB', reading(["'%s'=mass" % ('x' * (LONGEST_TEXT - 7))], CELLS, False))]
+
+
+def deep_arrays():
+    wrapped = ('array', [('array', [])] * 5300)
+    for _ in range(30):
+        wrapped = ('array', [wrapped])
+    return wrapped
+
+
+def spoilt(tree):
+    """The last record's last byte is the day of a date."""
+    return tree[:-1] + b'\0'
+
+
+def checked():
+    """Trees that are refused with 7 after all records were read: what the check alone costs."""
+    wrong = span(ENTERED, EXITED)
+    return [('a mixed filter', lowering([two('And', MIXED_FILTERS[1], wrong)])),
+            ('a 32 KB tree', lowering([two('And', large(LONGEST_TREE - 100)[0], wrong)]))]
+
+
+def compared():
+    """Label and input, of which the other sides take part."""
+    return [('time filters', lowering(TIME_FILTERS)), ('mixed filters', lowering(MIXED_FILTERS)), ('32 KB trees', lowering(large(LONGEST_TREE)))], [
+        ('small texts, 6 columns', reading(TEXTS, CELLS)), ('small texts, 60 columns', reading(TEXTS, WIDE)),
+        ('text of 2 KB, 6 columns', reading([' OR '.join('(%s)' % t for t in TEXTS * 3)], CELLS))]
