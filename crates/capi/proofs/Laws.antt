@@ -1,0 +1,83 @@
+-- Numbers that fit: a refusal's below zero, as an i32 and as an i64, and a text's length.
+use Prim.Native.Nat.{ℕ, zero, suc, _<_, _≤_}
+use mathlib.Core.Bool.{Bool, true, false}
+use mathlib.Core.List.{List}
+use lib.ListN.{length}
+use lib.Dec.{ltb}
+use mathlib.Core.Path.{_≡_, refl, sym, ap, _∙_, subst}
+use native.Mathlib.Omega.{arith}
+use lib.IntN.{ℤ, pos, negsuc, _-ℤ_}
+use mir.Syntax.{w32, w64}
+use mir.Val.{SFits, toZ, ofZ}
+use mir.Facts.{toZ-pos, toZ-ofZ}
+use borrow.Author.Tests.{lt-ltb, ltb-false}
+use Rattle.choice.specs.Choice.{pick}
+use Rattle.refusal.specs.declared.Refusal.the-variants.{TextTooLong, BufferTooShort}
+use Rattle.tree.specs.Tree.{Tree, Settings}
+use Rattle.tree.specs.Parse.{Read, refused, got, also}
+use Rattle.tree.specs.Accepted.{accepted}
+use Rattle.gpkg.specs.Text.{text}
+use Rattle.gpkg.specs.Lowered.{answer, fitted, lowering}
+use Rattle.gpkg.specs.declared.Lowered.{Lowered}
+use Rattle.gpkg.specs.declared.Lowered.the-variants.{Text, Refused}
+use Rattle.capi.specs.Numbers.{minus}
+
+-- 0 less n
+zero-less : (n : ℕ) → pos 0 -ℤ pos n ≡ minus n
+zero-less zero = refl
+zero-less (suc n) = simp (lt-ltb 0 (suc n) (omega arith)) (ap negsuc (omega arith))
+
+pub negated : (n : ℕ) → n < 256 → pos 0 -ℤ toZ w32 n ≡ minus n
+negated n h = ap (λ (z : ℤ). pos 0 -ℤ z) (toZ-pos w32 {n = n} (omega arith)) ∙ zero-less n
+
+pub fits32 : (n : ℕ) → n < 256 → SFits w32 (minus n)
+fits32 zero h = record { sfits = omega arith }
+fits32 (suc n) h = record { sfits = omega arith }
+
+pub fits64 : (n : ℕ) → n < 256 → SFits w64 (minus n)
+fits64 zero h = record { sfits = omega arith }
+fits64 (suc n) h = record { sfits = omega arith }
+
+pub negated-fits : (n : ℕ) → n < 256 → SFits w32 (pos 0 -ℤ toZ w32 n)
+negated-fits n h = subst (λ (z : ℤ). SFits w32 z) (sym (negated n h)) (fits32 n h)
+
+-- a refusal's number below zero, read back from an i32, and from an i64 after that
+
+module _ {z : ℤ} {n : ℕ} (e : z ≡ minus n) (h : n < 256) where
+  pub back32 : toZ w32 (ofZ w32 z) ≡ minus n
+  back32 = ap (λ (z : ℤ). toZ w32 (ofZ w32 z)) e ∙ toZ-ofZ (fits32 n h)
+
+  pub wide-fits : SFits w64 (toZ w32 (ofZ w32 z))
+  wide-fits = subst (λ (z : ℤ). SFits w64 z) (sym back32) (fits64 n h)
+
+  pub back64 : toZ w64 (ofZ w64 (toZ w32 (ofZ w32 z))) ≡ minus n
+  back64 = toZ-ofZ wide-fits ∙ back32
+
+-- the length that an answer tells
+abbrev told : Lowered → ℕ
+told (Text n) = n
+told (Refused r) = 0
+
+fitted-short : (out x : List ℕ) → told (answer (fitted out x)) ≤ 65535
+unfolding fitted answer
+fitted-short out x = go (ltb 65535 (length x)) refl (ltb (length out) (length x))
+  where
+    go : (a : Bool) → ltb 65535 (length x) ≡ a → (b : Bool) → told (answer (pick a (refused TextTooLong) (pick b (refused BufferTooShort) (got x)))) ≤ 65535
+    go true e b = omega arith
+    go false e true = omega arith
+    go false e false = ltb-false 65535 (length x) e
+
+-- no text that lowering answers is longer than 65,535 bytes
+pub short : (settings tree out : List ℕ) (n : ℕ) → answer (lowering settings tree out) ≡ Text n → n ≤ 65535
+unfolding lowering answer also
+short settings tree out n e = subst (λ (r : Lowered). told r ≤ 65535) e (go (accepted settings tree))
+  where
+    go : (p : Read (Settings × Tree)) → told (answer (also p (λ (p : Settings × Tree). fitted out (text (p .0) (p .1))))) ≤ 65535
+    go (refused r) = omega arith
+    go (got p) = fitted-short out (text (p .0) (p .1))
+
+pub length-fits : (n : ℕ) → n ≤ 65535 → SFits w64 (pos n)
+length-fits n h = record { sfits = omega arith }
+
+pub length-back : (n : ℕ) → n ≤ 65535 → toZ w64 n ≡ pos n
+length-back n h = toZ-pos w64 {n = n} (omega arith)

@@ -1,0 +1,42 @@
+// Lowering and reading for callers in C: each answer as one number, never the same for two answers.
+ghost use mathlib.Core.Path.{_≡_};
+ghost use Prim.Native.Nat.{_<_};
+ghost use Rattle.refusal.specs.Number.{numberOf};
+ghost use Rattle.gpkg.specs.Lowered.{answer, heard, leaves, lowering};
+ghost use Rattle.truth.specs.Reading as reading;
+ghost use Rattle.capi.specs.Numbers.{minus, loweringNumber, readingNumber};
+use gpkg::Lowered;
+use refusal::Refusal;
+use truth::Reading;
+
+// Minus the refusal's number.
+fn negative(r: Refusal) -> i32
+    ensures { λ n. ⌜ (n ≡ minus (numberOf r)) × (numberOf r < 256) ⌝ }
+{
+    -(refusal::number(r) as i32)
+}
+
+// The text's length, or minus the number of a refusal, 1 to 9; every byte of `out` is as `gpkg::to_sql` leaves it.
+#[no_mangle]
+pub extern "C" fn wenduulig_to_sql(settings: &[u8], tree: &[u8], out: &mut [u8]) -> i64
+    ensures says { λ r. ⌜ r ≡ loweringNumber (heard (answer (lowering (now (settings .entry)) (now (tree .entry)) (now (out .entry))))) ⌝ }
+    ensures bytes { λ r. ⌜ now (out .exit) ≡ leaves (now (out .entry)) (lowering (now (settings .entry)) (now (tree .entry)) (now (out .entry))) ⌝ }
+{
+    match gpkg::to_sql(settings, tree, out) {
+        Lowered::Text(n) => n as i64,
+        Lowered::Refused(r) => negative(r) as i64,
+    }
+}
+
+// 1 true, 0 false, 2 unknown, or minus the number of a refusal, 10 to 13.
+#[no_mangle]
+pub extern "C" fn wenduulig_read<'a>(text: &'a [u8], row: &'a [u8]) -> i32
+    ensures { λ r. ⌜ r ≡ readingNumber (reading.heard (reading.readingOf (now (text .entry)) (now (row .entry)))) ⌝ }
+{
+    match truth::read(text, row) {
+        Reading::True => 1,
+        Reading::False => 0,
+        Reading::Unknown => 2,
+        Reading::Refused(r) => negative(r),
+    }
+}
