@@ -1,0 +1,62 @@
+"""The library's two calls on lent bytes that lie between pages which no program may touch, with marks beside them."""
+import ctypes, mmap
+
+PAGE = mmap.PAGESIZE
+MARK = bytes(range(0x9d, 0xbd))
+
+
+class Lent:
+    """Room for one lent slice. It lies against the page behind it or the page before it; on its other side are marks."""
+
+    def __init__(self, pages):
+        self.size = pages * PAGE
+        self.map = mmap.mmap(-1, self.size + 2 * PAGE)
+        self.base = ctypes.addressof(ctypes.c_char.from_buffer(self.map))
+        libc = ctypes.CDLL(None, use_errno=True)
+        for page in (self.base, self.base + PAGE + self.size):
+            if libc.mprotect(ctypes.c_void_p(page), ctypes.c_size_t(PAGE), 0):
+                raise OSError('mprotect')
+
+    def place(self, data, at_end):
+        """The address of the bytes."""
+        self.data = data
+        if at_end:
+            self.first = PAGE + self.size - len(data) - len(MARK)
+            self.map[self.first:PAGE + self.size] = MARK + data
+            return self.base + self.first + len(MARK)
+        self.first = PAGE
+        self.map[PAGE:PAGE + len(data) + len(MARK)] = data + MARK
+        return self.base + PAGE
+
+    def now(self):
+        """The bytes as they are now, and whether the marks stand."""
+        got = self.map[self.first:self.first + len(self.data) + len(MARK)]
+        if self.first == PAGE:
+            return got[:len(self.data)], got[len(self.data):] == MARK
+        return got[len(MARK):], got[:len(MARK)] == MARK
+
+    def kept(self):
+        return self.now() == (self.data, True)
+
+
+class Library:
+    def __init__(self, path):
+        c = ctypes.CDLL(path)
+        slice_ = [ctypes.c_void_p, ctypes.c_size_t]
+        self.to_sql, self.reader = c.wenduulig_to_sql, c.wenduulig_read
+        self.to_sql.argtypes, self.to_sql.restype = slice_ * 3, ctypes.c_int64
+        self.reader.argtypes, self.reader.restype = slice_ * 2, ctypes.c_int32
+        self.one, self.two, self.out = Lent(18), Lent(18), Lent(18)
+
+    def lower(self, settings, tree, out, at_end):
+        """The answer, the bytes of `out` afterwards, and what was touched that should not have been."""
+        a, b, c = self.one.place(settings, at_end), self.two.place(tree, at_end), self.out.place(out, at_end)
+        answer = self.to_sql(a, len(settings), b, len(tree), c, len(out))
+        after, marked = self.out.now()
+        touched = [what for what, kept in (('settings', self.one.kept()), ('tree', self.two.kept()), ('beside out', marked)) if not kept]
+        return answer, after, touched
+
+    def read(self, text, row, at_end):
+        a, b = self.one.place(text, at_end), self.two.place(row, at_end)
+        answer = self.reader(a, len(text), b, len(row))
+        return answer, [what for what, kept in (('text', self.one.kept()), ('row', self.two.kept())) if not kept]
