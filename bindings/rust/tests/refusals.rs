@@ -152,10 +152,10 @@ fn words() {
     assert!(error.to_string().contains("balanced"));
 }
 
-/// A chain of 200,000 levels is encoded, refused and dropped on the small stack of a test's thread.
+/// A chain of 100,000 levels is encoded, refused and dropped on the small stack of a test's thread.
 #[test]
 fn any_depth() {
-    let chain = |wrap: fn(E) -> E| (0..200_000).fold(E::Null, |e, _| wrap(e));
+    let chain = |wrap: fn(E) -> E| (0..100_000).fold(E::Null, |e, _| wrap(e));
     for deep in [
         chain(|e| E::monadic(Op::Neg, e)),
         chain(|e| E::dyadic(Op::And, E::id("a"), e)),
