@@ -1,0 +1,29 @@
+//! The two C functions of include/wenduulig.h, and nothing else: the only unsafe code of this crate.
+#![allow(unsafe_code)]
+
+extern "C" {
+    fn wenduulig_to_sql(
+        settings: *const u8,
+        settings_len: usize,
+        tree: *const u8,
+        tree_len: usize,
+        out: *mut u8,
+        out_len: usize,
+    ) -> i64;
+    fn wenduulig_read(text: *const u8, text_len: usize, row: *const u8, row_len: usize) -> i32;
+}
+
+/// The text's length, or minus the refusal's number.
+pub(crate) fn to_sql(settings: &[u8], tree: &[u8], out: &mut [u8]) -> i64 {
+    // SAFETY: each pointer is a slice's, not null and valid for its length; `out` is lent exclusively, so it overlaps
+    // neither of the others; the function keeps no pointer.
+    unsafe {
+        wenduulig_to_sql(settings.as_ptr(), settings.len(), tree.as_ptr(), tree.len(), out.as_mut_ptr(), out.len())
+    }
+}
+
+/// 1 true, 0 false, 2 unknown, or minus the refusal's number.
+pub(crate) fn read(text: &[u8], row: &[u8]) -> i32 {
+    // SAFETY: both pointers are slices', not null and valid for their lengths; the function only reads and keeps nothing.
+    unsafe { wenduulig_read(text.as_ptr(), text.len(), row.as_ptr(), row.len()) }
+}

@@ -1,0 +1,112 @@
+//! Lowers CQL2 filters to the SQL text that SQLite runs on a GeoPackage, and reads what a time filter's text says of a row.
+//!
+//! Both jobs are done by functions that are proved to meet document 01's rules on all inputs (crates/capi of this
+//! repository, linked as `libcapi.a`); this crate builds their bytes from Rust types and holds no rule of its own.
+//!
+//! ```
+//! use wenduulig::{read, to_sql, Op, Refusal, Row, Settings, E};
+//!
+//! // Stays that do not touch the day `a`: TDisjoint(a, [b, c]).
+//! let filter = E::dyadic(Op::TDisjoint, E::id("a"), E::interval(E::id("b"), E::id("c")));
+//! let sql = to_sql(&Settings::default(), &filter)?;
+//! assert_eq!(sql, r#"("c" IS NOT NULL AND (a < b)) OR ("b" IS NOT NULL AND (a > c))"#);
+//!
+//! let row = Row::new().with("a", "2024-01-02").with("b", "2024-01-03").with("c", "2024-01-04");
+//! assert_eq!(read(&sql, &row)?, Some(true));
+//! let still_open = Row::new().with("a", "2024-01-02").with_null("b").with("c", "2024-01-01");
+//! assert_eq!(read(&sql, &still_open)?, None); // unknown
+//!
+//! // What breaks a rule is refused, with its number and words.
+//! let refused = to_sql(&Settings::default(), &E::date(1900, 2, 29)).unwrap_err();
+//! assert_eq!((refused, refused.number()), (Refusal::BadField, 6));
+//! # Ok::<(), Refusal>(())
+//! ```
+//!
+//! Calls keep no state and may run on any number of threads; each needs less than 128 KiB of stack.
+#![deny(missing_docs, unsafe_code)]
+#![warn(clippy::all)]
+
+mod expr;
+mod ffi;
+mod op;
+mod record;
+mod refusal;
+mod row;
+mod settings;
+
+pub use expr::{Call, Date, Num, QString, Timestamp, E, G};
+pub use op::Op;
+pub use refusal::Refusal;
+pub use row::Row;
+pub use settings::Settings;
+
+/// The length of the longest text, in bytes.
+pub const TEXT_MAX: usize = 65_535;
+
+/// Most texts are shorter; a longer one is lowered anew into [`TEXT_MAX`] bytes.
+const FIRST_TRY: usize = 1024;
+
+/// The SQL text of a filter.
+///
+/// # Errors
+/// The first refusal of 1 to 8 that document 01's order gives.
+pub fn to_sql(settings: &Settings, filter: &E) -> Result<String, Refusal> {
+    to_sql_bytes(&settings.encode(), &filter.encode())
+}
+
+/// The SQL text of a filter that is at hand as records: document 01's settings and tree.
+///
+/// # Errors
+/// The first refusal of 1 to 8 that document 01's order gives. Any bytes may be handed in.
+pub fn to_sql_bytes(settings: &[u8], tree: &[u8]) -> Result<String, Refusal> {
+    let mut first = [0; FIRST_TRY];
+    match to_sql_into(settings, tree, &mut first) {
+        Err(Refusal::BufferTooShort) => {
+            let mut out = vec![0; TEXT_MAX];
+            let n = to_sql_into(settings, tree, &mut out)?;
+            Ok(string(&out[..n]))
+        }
+        answer => Ok(string(&first[..answer?])),
+    }
+}
+
+/// Lowers into a buffer of the caller's and answers the text's length. Bytes past the text, and after a refusal all bytes,
+/// stay as they were.
+///
+/// # Errors
+/// The first refusal of 1 to 9 that document 01's order gives.
+pub fn to_sql_into(settings: &[u8], tree: &[u8], out: &mut [u8]) -> Result<usize, Refusal> {
+    let answer = ffi::to_sql(settings, tree, out);
+    usize::try_from(answer).map_err(|_| refusal(answer))
+}
+
+/// What an SQL text says of a row: true, false, or `None` for unknown.
+///
+/// # Errors
+/// The first refusal of 10 to 13 that document 01's order gives.
+pub fn read(text: &str, row: &Row) -> Result<Option<bool>, Refusal> {
+    read_bytes(text.as_bytes(), &row.encode())
+}
+
+/// The same for a text and a row that are at hand as bytes.
+///
+/// # Errors
+/// The first refusal of 10 to 13 that document 01's order gives. Any bytes may be handed in.
+pub fn read_bytes(text: &[u8], row: &[u8]) -> Result<Option<bool>, Refusal> {
+    match ffi::read(text, row) {
+        0 => Ok(Some(false)),
+        1 => Ok(Some(true)),
+        2 => Ok(None),
+        answer => Err(refusal(i64::from(answer))),
+    }
+}
+
+/// The refusal of an answer below zero. The contract of crates/capi has no other answers than these.
+fn refusal(answer: i64) -> Refusal {
+    u8::try_from(-answer).ok().and_then(Refusal::from_number).expect("an answer below zero is minus a refusal's number")
+}
+
+/// Document 01 lets only ASCII into a tree and a settings record, so a text is ASCII.
+fn string(text: &[u8]) -> String {
+    String::from_utf8(text.to_vec()).expect("a text is ASCII")
+}

@@ -1,0 +1,477 @@
+/* Tests of include/wenduulig.h: texts, truths, every refusal, and that lent bytes stay as they were.
+ * Each part is handed over in memory of exactly its size, so that valgrind sees any access past its end. */
+#include <pthread.h>
+#include <stdio.h>
+#include <stdlib.h>
+#include <string.h>
+
+#include "wenduulig.h"
+
+enum { SCRATCH = 70000, FILL = 0xA5, STACK = 128 * 1024 };
+
+/* Bytes under construction. */
+struct bytes {
+    uint8_t at[SCRATCH];
+    size_t n;
+};
+
+static int passed, failed;
+
+static void check(int ok, const char *what)
+{
+    if (ok) {
+        passed++;
+        return;
+    }
+    failed++;
+    printf("FAILED: %s\n", what);
+}
+
+/* ---- making records ---- */
+
+static void put(struct bytes *b, const void *from, size_t n)
+{
+    if (n > SCRATCH - b->n) {
+        fprintf(stderr, "the test's own buffer is too small\n");
+        exit(2);
+    }
+    if (n > 0)
+        memcpy(b->at + b->n, from, n);
+    b->n += n;
+}
+
+static void put_byte(struct bytes *b, unsigned x)
+{
+    uint8_t one = (uint8_t)x;
+    put(b, &one, 1);
+}
+
+static void put_text(struct bytes *b, const char *s)
+{
+    put(b, s, strlen(s));
+}
+
+static void put_named(struct bytes *b, const char *name)
+{
+    put_byte(b, (unsigned)strlen(name));
+    put_text(b, name);
+}
+
+/* A record's head; its length is set by `end`. Answers where the record begins. */
+static size_t begin(struct bytes *b, unsigned kind)
+{
+    size_t start = b->n;
+    const uint8_t head[6] = {0, 0, 0, 0, (uint8_t)kind, (uint8_t)(kind >> 8)};
+    put(b, head, sizeof head);
+    return start;
+}
+
+static void end(struct bytes *b, size_t start)
+{
+    size_t n = b->n - start - 4;
+    for (int i = 0; i < 4; i++)
+        b->at[start + (size_t)i] = (uint8_t)(n >> (8 * i));
+}
+
+static size_t begin_op(struct bytes *b, unsigned kind, unsigned op)
+{
+    size_t start = begin(b, kind);
+    put_byte(b, op);
+    put_byte(b, 0);
+    return start;
+}
+
+static void put_leaf(struct bytes *b, unsigned kind)
+{
+    end(b, begin(b, kind));
+}
+
+static void put_id(struct bytes *b, const char *name)
+{
+    size_t start = begin(b, 8);
+    put_text(b, name);
+    end(b, start);
+}
+
+static void put_date(struct bytes *b, unsigned year, unsigned month, unsigned day)
+{
+    size_t start = begin(b, 5);
+    put_byte(b, year & 255);
+    put_byte(b, year >> 8);
+    put_byte(b, month);
+    put_byte(b, day);
+    end(b, start);
+}
+
+static void make_settings(struct bytes *b)
+{
+    b->n = 0;
+    size_t start = begin(b, 100);
+    put_byte(b, 7);
+    put_named(b, "NC");
+    put_named(b, "NA");
+    put_named(b, "NCA");
+    end(b, start);
+}
+
+/* TDisjoint(a, [b, c]): sheet J of document 01. */
+static void make_sheet_j(struct bytes *b)
+{
+    b->n = 0;
+    size_t start = begin_op(b, 10, 29);
+    put_id(b, "a");
+    size_t interval = begin(b, 13);
+    put_id(b, "b");
+    put_id(b, "c");
+    end(b, interval);
+    end(b, start);
+}
+
+static const char sheet_j[] = "(\"c\" IS NOT NULL AND (a < b)) OR (\"b\" IS NOT NULL AND (a > c))";
+
+/* `levels` records, one inside another: Neg of Neg of .. Null. */
+static void make_deep(struct bytes *b, int levels)
+{
+    size_t starts[64];
+    b->n = 0;
+    for (int i = 1; i < levels; i++)
+        starts[i] = begin_op(b, 9, 7);
+    put_leaf(b, 0);
+    for (int i = 1; i < levels; i++)
+        end(b, starts[i]);
+}
+
+/* An Array of n open ends and, if it has a letter, one name: a text of 15 n bytes, and the name's length and 2 more. */
+static void make_long(struct bytes *b, int n, const char *name)
+{
+    b->n = 0;
+    size_t start = begin(b, 12);
+    for (int i = 0; i < n; i++)
+        put_leaf(b, 1);
+    if (*name)
+        put_id(b, name);
+    end(b, start);
+}
+
+/* A column of a row; NULL where there is no value. */
+static void put_column(struct bytes *b, const char *name, const char *value)
+{
+    size_t start = begin(b, 200);
+    put_named(b, name);
+    put_byte(b, value ? 1 : 0);
+    if (value)
+        put_text(b, value);
+    end(b, start);
+}
+
+/* ---- calls on memory of exact size ---- */
+
+static uint8_t *filled(size_t n)
+{
+    uint8_t *p = malloc(n);
+    if (!p) {
+        fprintf(stderr, "no memory\n");
+        exit(2);
+    }
+    memset(p, FILL, n);
+    return p;
+}
+
+static uint8_t *exact_copy(const void *from, size_t n)
+{
+    uint8_t *p = filled(n);
+    if (n > 0)
+        memcpy(p, from, n);
+    return p;
+}
+
+static int all_filled(const uint8_t *p, size_t n)
+{
+    for (size_t i = 0; i < n; i++)
+        if (p[i] != FILL)
+            return 0;
+    return 1;
+}
+
+/* Lowers into a filled buffer of out_len bytes; the text goes to `text`. `clean` is 0 where the answer is out of range or
+ * a lent byte changed that must not. */
+static int64_t lower(const struct bytes *settings, const struct bytes *tree, size_t out_len, struct bytes *text, int *clean)
+{
+    uint8_t *s = exact_copy(settings->at, settings->n);
+    uint8_t *t = exact_copy(tree->at, tree->n);
+    uint8_t *out = filled(out_len);
+    int64_t n = wenduulig_to_sql(s, settings->n, t, tree->n, out, out_len);
+    size_t used = n > 0 ? (size_t)n : 0;
+    *clean = n >= -9 && used <= out_len && all_filled(out + used, out_len - used);
+    *clean = *clean && memcmp(s, settings->at, settings->n) == 0 && memcmp(t, tree->at, tree->n) == 0;
+    text->n = 0;
+    if (*clean)
+        put(text, out, used);
+    free(s);
+    free(t);
+    free(out);
+    return n;
+}
+
+static int32_t read_row(const void *text, size_t text_len, const struct bytes *row)
+{
+    uint8_t *s = exact_copy(text, text_len);
+    uint8_t *r = exact_copy(row->at, row->n);
+    int32_t answer = wenduulig_read(s, text_len, r, row->n);
+    check(memcmp(s, text, text_len) == 0 && memcmp(r, row->at, row->n) == 0, "reading changes neither text nor row");
+    free(s);
+    free(r);
+    return answer;
+}
+
+/* ---- the tests ---- */
+
+static struct bytes settings, tree, text, row;
+
+static void expect_text(size_t out_len, const char *want, const char *what)
+{
+    int clean;
+    int64_t n = lower(&settings, &tree, out_len, &text, &clean);
+    check(n == (int64_t)strlen(want) && memcmp(text.at, want, strlen(want)) == 0, what);
+    check(clean, "bytes past the text and the inputs are as lent");
+}
+
+static void expect_refusal(size_t out_len, int number, const char *what)
+{
+    int clean;
+    int64_t n = lower(&settings, &tree, out_len, &text, &clean);
+    check(n == -number, what);
+    check(clean && text.n == 0, "after a refusal every lent byte is as it was");
+}
+
+static void expect_read(const char *sql, int32_t want, const char *what)
+{
+    check(read_row(sql, strlen(sql), &row) == want, what);
+}
+
+static void test_texts(void)
+{
+    make_settings(&settings);
+    make_sheet_j(&tree);
+    expect_text(strlen(sheet_j), sheet_j, "sheet J into a buffer of exactly its length");
+    expect_text(WENDUULIG_TEXT_MAX, sheet_j, "sheet J into the largest buffer");
+    tree.n = 0;
+    put_leaf(&tree, 0);
+    expect_text(4, "NULL", "sheet A");
+    tree.n = 0;
+    size_t start = begin_op(&tree, 10, 34);
+    put_date(&tree, 2024, 2, 29);
+    size_t interval = begin(&tree, 13);
+    put_leaf(&tree, 1);
+    put_id(&tree, "c");
+    end(&tree, interval);
+    end(&tree, start);
+    expect_text(200, "NOT(('2024-02-29' < '-2021-01-01') OR ('2024-02-29' > c))", "sheet K");
+}
+
+/* 1 to 3, by what stands in document 01's list. */
+static void test_outer_refusals(void)
+{
+    make_settings(&settings);
+    make_sheet_j(&tree);
+    settings.at[6] = 16;
+    expect_refusal(100, WENDUULIG_BAD_SETTINGS, "1: a precision of 16");
+    settings.n = 0;
+    expect_refusal(100, WENDUULIG_BAD_SETTINGS, "1: no settings");
+    tree.n = WENDUULIG_TREE_MAX + 1;
+    expect_refusal(100, WENDUULIG_BAD_SETTINGS, "1 comes before 2");
+    make_settings(&settings);
+    expect_refusal(100, WENDUULIG_TREE_TOO_LONG, "2: a tree of 32,769 bytes");
+    tree.n = 0;
+    expect_refusal(100, WENDUULIG_BAD_FRAME, "3: the empty tree, sheet P");
+    make_sheet_j(&tree);
+    put_byte(&tree, 0);
+    expect_refusal(100, WENDUULIG_BAD_FRAME, "3: a byte too many");
+}
+
+/* 4 to 7. */
+static void test_inner_refusals(void)
+{
+    make_settings(&settings);
+    make_deep(&tree, 33);
+    expect_refusal(100, WENDUULIG_TOO_DEEP, "4: 33 levels");
+    tree.n = 0;
+    put_leaf(&tree, 14);
+    expect_refusal(100, WENDUULIG_BAD_KIND_OR_OPERATOR, "5: kind 14");
+    make_deep(&tree, 2);
+    tree.at[6] = 8;
+    expect_refusal(100, WENDUULIG_BAD_KIND_OR_OPERATOR, "5: monadic Eq");
+    tree.n = 0;
+    put_date(&tree, 1900, 2, 29);
+    expect_refusal(100, WENDUULIG_BAD_FIELD, "6: 1900-02-29");
+    tree.n = 0;
+    put_id(&tree, "and");
+    expect_refusal(100, WENDUULIG_BAD_FIELD, "6: a reserved word as a name");
+    tree.n = 0;
+    size_t interval = begin(&tree, 13);
+    put_leaf(&tree, 1);
+    put_leaf(&tree, 0);
+    end(&tree, interval);
+    expect_refusal(100, WENDUULIG_BAD_OPERAND, "7: an Interval as root, sheet O");
+}
+
+/* 8 and 9, at their limits. */
+static void test_length_refusals(void)
+{
+    int clean;
+    make_settings(&settings);
+    make_long(&tree, 4368, "thirteen_long");
+    check(lower(&settings, &tree, 65535, &text, &clean) == 65535 && clean, "a text of 65,535 bytes");
+    expect_refusal(65534, WENDUULIG_BUFFER_TOO_SHORT, "9: a buffer one byte short of it");
+    make_long(&tree, 4368, "fourteen_bytes");
+    expect_refusal(65600, WENDUULIG_TEXT_TOO_LONG, "8: a text of 65,536 bytes, though the buffer is larger");
+    expect_refusal(0, WENDUULIG_TEXT_TOO_LONG, "8 comes before 9");
+    make_sheet_j(&tree);
+    expect_refusal(strlen(sheet_j) - 1, WENDUULIG_BUFFER_TOO_SHORT, "9: a buffer one byte short of sheet J");
+    expect_refusal(0, WENDUULIG_BUFFER_TOO_SHORT, "9: an empty buffer");
+}
+
+static void test_truths(void)
+{
+    row.n = 0;
+    put_column(&row, "a", "2024-01-02");
+    put_column(&row, "b", NULL);
+    put_column(&row, "c", "2024-01-01");
+    expect_read(sheet_j, WENDUULIG_UNKNOWN, "sheet N: unknown");
+    expect_read("c < a", WENDUULIG_TRUE, "c < a");
+    expect_read("a < c", WENDUULIG_FALSE, "a < c");
+    expect_read("b IS NULL AND NOT (a = c)", WENDUULIG_TRUE, "b IS NULL AND NOT (a = c)");
+    row.n = 0;
+    expect_read("TRUE", WENDUULIG_TRUE, "TRUE on the empty row");
+    put_column(&row, "a", "2024-01-02");
+    put_column(&row, "b", "2024-01-03");
+    put_column(&row, "c", "2024-01-04");
+    expect_read(sheet_j, WENDUULIG_TRUE, "sheet J's text: a before the interval");
+    row.n = 0;
+    put_column(&row, "a", "2024-01-03");
+    put_column(&row, "b", "2024-01-03");
+    put_column(&row, "c", "2024-01-04");
+    expect_read(sheet_j, WENDUULIG_FALSE, "sheet J's text: a at the interval's start");
+}
+
+/* n opening brackets, TRUE, and as many closing ones. */
+static void make_brackets(struct bytes *b, int n)
+{
+    b->n = 0;
+    for (int i = 0; i < n; i++)
+        put_byte(b, '(');
+    put_text(b, "TRUE");
+    for (int i = 0; i < n; i++)
+        put_byte(b, ')');
+}
+
+static void test_reading_refusals(void)
+{
+    row.n = 0;
+    put_column(&row, "a", "x");
+    memset(text.at, ' ', SCRATCH);
+    memcpy(text.at, "TRUE", 4);
+    check(read_row(text.at, 65535, &row) == WENDUULIG_TRUE, "a text of 65,535 bytes");
+    check(read_row(text.at, 65536, &row) == -WENDUULIG_INPUT_TOO_LONG, "10: a text of 65,536 bytes");
+    row.n = WENDUULIG_ROW_MAX + 1;
+    expect_read("?", -WENDUULIG_INPUT_TOO_LONG, "10: a row of 32,769 bytes, before 11 and 12");
+    row.n = 0;
+    put_column(&row, "a", "x");
+    put_column(&row, "A", "x");
+    expect_read("?", -WENDUULIG_BAD_ROW, "11: a and A, before 12");
+    row.n = 0;
+    put_column(&row, "a", "it's");
+    expect_read("TRUE", -WENDUULIG_BAD_ROW, "11: an apostrophe in a value");
+    row.n = 0;
+    put_column(&row, "a", "x");
+    expect_read("z = ", -WENDUULIG_BAD_TEXT, "12: no second atom, before 13");
+    make_brackets(&text, 64);
+    check(read_row(text.at, text.n, &row) == WENDUULIG_TRUE, "64 brackets");
+    make_brackets(&text, 65);
+    check(read_row(text.at, text.n, &row) == -WENDUULIG_BAD_TEXT, "12: 65 brackets");
+    expect_read("a = 'x' OR \"z\" IS NULL", -WENDUULIG_MISSING_COLUMN, "13: z is no column");
+    expect_read("", -WENDUULIG_BAD_TEXT, "12: the empty text");
+}
+
+/* Each prefix of sheet J's tree, each byte of it changed to each other: an answer in range, and lent bytes as they were. */
+static void test_damage(void)
+{
+    int clean, all = 1, short_ones = 1;
+    make_settings(&settings);
+    make_sheet_j(&tree);
+    size_t whole = tree.n;
+    for (tree.n = 0; tree.n < whole; tree.n++)
+        short_ones = short_ones && lower(&settings, &tree, 80, &text, &clean) == -3 && clean;
+    check(short_ones, "each tree that breaks off is refused with 3");
+    for (size_t i = 0; i < whole; i++)
+        for (unsigned x = 0; x < 256; x++) {
+            make_sheet_j(&tree);
+            tree.at[i] = (uint8_t)x;
+            lower(&settings, &tree, 80, &text, &clean);
+            all = all && clean;
+        }
+    check(all, "each tree with a changed byte leaves what is lent as it was");
+}
+
+/* Each byte of a text and of a row changed to each other: an answer in range. */
+static void test_damaged_reading(void)
+{
+    int all = 1;
+    for (size_t i = 0; i < sizeof sheet_j - 1; i++)
+        for (unsigned x = 0; x < 256; x++) {
+            char sql[sizeof sheet_j];
+            memcpy(sql, sheet_j, sizeof sql);
+            sql[i] = (char)x;
+            row.n = 0;
+            put_column(&row, "a", "x");
+            put_column(&row, "b", NULL);
+            put_column(&row, "c", "y");
+            row.at[i % row.n] = (uint8_t)(x % 7 == 0 ? x : row.at[i % row.n]);
+            uint8_t *s = exact_copy(sql, sizeof sql - 1);
+            uint8_t *r = exact_copy(row.at, row.n);
+            int32_t answer = wenduulig_read(s, sizeof sql - 1, r, row.n);
+            all = all && ((answer >= 0 && answer <= 2) || (answer >= -13 && answer <= -10));
+            free(s);
+            free(r);
+        }
+    check(all, "each text and row with a changed byte has an answer in range");
+}
+
+/* The deepest inputs, on a stack of 128 KiB: with a guard page behind it a larger need ends the program. */
+static void *deepest(void *nothing)
+{
+    int clean;
+    (void)nothing;
+    make_settings(&settings);
+    make_deep(&tree, 32);
+    check(lower(&settings, &tree, 400, &text, &clean) == 31 * 6 + 4 && clean, "32 levels on a stack of 128 KiB");
+    row.n = 0;
+    make_brackets(&text, 64);
+    check(read_row(text.at, text.n, &row) == WENDUULIG_TRUE, "64 brackets on a stack of 128 KiB");
+    return NULL;
+}
+
+static void test_stack(void)
+{
+    pthread_attr_t attributes;
+    pthread_t thread;
+    int ready = pthread_attr_init(&attributes) == 0 && pthread_attr_setstacksize(&attributes, STACK) == 0 &&
+                pthread_create(&thread, &attributes, deepest, NULL) == 0 && pthread_join(thread, NULL) == 0;
+    check(ready, "a thread with a stack of 128 KiB");
+    pthread_attr_destroy(&attributes);
+}
+
+int main(void)
+{
+    test_texts();
+    test_outer_refusals();
+    test_inner_refusals();
+    test_length_refusals();
+    test_truths();
+    test_reading_refusals();
+    test_damage();
+    test_damaged_reading();
+    test_stack();
+    printf("%d passed, %d failed\n", passed, failed);
+    return failed ? 1 : 0;
+}
