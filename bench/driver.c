@@ -12,9 +12,8 @@
 #include <stdlib.h>
 #include <string.h>
 #include <time.h>
+#include <wenduulig.h>
 
-int64_t wenduulig_to_sql(const uint8_t *, size_t, const uint8_t *, size_t, uint8_t *, size_t);
-int32_t wenduulig_read(const uint8_t *, size_t, const uint8_t *, size_t);
 void *rust_tree(const uint8_t *, size_t, const uint8_t *, size_t);
 uint64_t rust_lower(const void *, size_t);
 void rust_copy(const void *, size_t);

@@ -140,6 +140,8 @@ def worst():
     down = names(2970, 'down')
     mixed = [n for n, _ in names(2970, 'mixed')] * 5
     asked = ' OR '.join('%s=%s' % pair for pair in zip(mixed[::2], mixed[1::2]))[:LONGEST_TEXT].rsplit(' OR ', 1)[0]
+    long = ['n' * 61 + n for n, _ in names(442, 'mixed')]
+    alike = ' OR '.join('%s=%s' % pair for pair in zip(long * 3, long[7:] * 3))[:LONGEST_TEXT].rsplit(' OR ', 1)[0]
     brackets = '(' * 64 + 'TRUE' + ')' * 64
     return [
         ('29 TDisjoint inside one another', lowering([doubled])),
@@ -148,6 +150,7 @@ def worst():
         ('32 KB, wrong in the last record', ('L', [(SETTINGS, spoilt(encode(huge)), b'', b'')])),
         ('row of 2,970 names, last first', reading(['TRUE'], down, False)),
         ('the same, a text of 11,900 names', reading([asked], down, False)),
+        ('442 names alike in 61 of 64 bytes', reading([alike], [(n, None) for n in long], False)),
         ('64 brackets, 480 times', reading([repeated(brackets, ' OR ', LONGEST_TEXT)], CELLS, False)),
         ('16,382 NOTs', reading(['NOT ' * 16382 + 'TRUE'], CELLS, False)),
         ('one quoted text of 64 KB', reading(["'%s'=mass" % ('x' * (LONGEST_TEXT - 7))], CELLS, False))]

@@ -1,7 +1,7 @@
 /* The library with one planted fault, FAULT, in front of the true calls: fuzz/run --faults shows that each is found. Each fault is told by a line
    that begins with its number. */
-#include <stdint.h>
 #include <string.h>
+#include <wenduulig.h>
 
 int64_t true_to_sql(const uint8_t *, size_t, const uint8_t *, size_t, uint8_t *, size_t);
 int32_t true_read(const uint8_t *, size_t, const uint8_t *, size_t);

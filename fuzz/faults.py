@@ -7,7 +7,7 @@ HERE = os.path.dirname(os.path.abspath(__file__))
 def build(archive, folder, number):
     real, path = os.path.join(folder, 'libtrue.a'), os.path.join(folder, 'fault%d.so' % number)
     subprocess.run(['objcopy', '--redefine-sym', 'wenduulig_to_sql=true_to_sql', '--redefine-sym', 'wenduulig_read=true_read', archive, real], check=True)
-    subprocess.run(['gcc', '-D_GNU_SOURCE', '-DFAULT=%d' % number, '-O1', '-fPIC', '-shared', '-o', path, os.path.join(HERE, 'faults.c'), real], check=True)
+    subprocess.run(['gcc', '-D_GNU_SOURCE', '-DFAULT=%d' % number, '-O1', '-fPIC', '-shared', '-I', os.path.join(HERE, '..', 'include'), '-o', path, os.path.join(HERE, 'faults.c'), real], check=True)
     return path
 
 
