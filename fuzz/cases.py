@@ -25,7 +25,8 @@ WORDS = [b'AND', b'OR', b'NOT', b'NULL', b'IS', b'TRUE', b'FALSE', b'(', b')', b
 def stored_trees():
     """Settings and trees of tools/trees: every rule at its edges."""
     if not trees.cases:
-        for group in (trees.fields, trees.dates, trees.name_rules, trees.operators, trees.places, trees.depths, trees.frames, trees.bodies, trees.orders, trees.settings_rules):
+        for group in (trees.fields, trees.dates, trees.name_rules, trees.operators, trees.places, trees.depths, trees.frames, trees.bodies,
+                      trees.orders, trees.settings_rules):
             group()
     return [c for c in trees.cases if len(c[1]) < 2000], [c for c in trees.cases if len(c[1]) >= 2000]
 
@@ -67,13 +68,15 @@ def edge_name(r):
 
 
 def edge_day(r):
-    return r.choice((0, 1, 4, 100, 400, 1900, 1900, 2000, 2000, 2023, 2024, 2100, 9999, 10000, 65535)), r.choice((0, 1, 2, 2, 2, 2, 4, 6, 9, 11, 12, 13, 255)), r.choice((0, 1, 28, 29, 29, 30, 31, 32))
+    year = r.choice((0, 1, 4, 100, 400, 1900, 1900, 2000, 2000, 2023, 2024, 2100, 9999, 10000, 65535))
+    return year, r.choice((0, 1, 2, 2, 2, 2, 4, 6, 9, 11, 12, 13, 255)), r.choice((0, 1, 28, 29, 29, 30, 31, 32))
 
 
 def edge_leaf(r):
     kind = r.randrange(8)
     if kind == 0:
-        return trees.num(max(-2 ** 63, min(2 ** 63 - 1, r.choice((0, TOP, -TOP, 2 ** 63, -2 ** 63, 10 ** r.randrange(16))) + r.randint(-2, 2))), r.choice((0, 1, 8, 9, 9, 10, 255)))
+        m = r.choice((0, TOP, -TOP, 2 ** 63, -2 ** 63, 10 ** r.randrange(16))) + r.randint(-2, 2)
+        return trees.num(max(-2 ** 63, min(2 ** 63 - 1, m)), r.choice((0, 1, 8, 9, 9, 10, 255)))
     if kind == 1:
         return trees.text(edge_text(r, b'z', (0, 1, 3, 3, 3, 40)) if r.random() < .97 else b'z' * r.randint(4095, 4097), r.choice((0, 1, 2, 3, 3, 4, 255)))
     if kind == 2:
@@ -203,7 +206,8 @@ class Lowerings:
         """Of more levels, up to the limit."""
         r, t = self.r, self.m.tree(self.r.choice((4, 5, 6)))
         for _ in range(r.choice((0, 0, 0, 5, 15, 24))):
-            t = r.choice((('monadic', r.choice(lowering.MONADIC), t), ('array', [t]), ('dyadic', r.choice(('And', 'IsLike', 'Plus')), t, ('id', 'a')), ('function', 'f', [t])))
+            t = r.choice((('monadic', r.choice(lowering.MONADIC), t), ('dyadic', r.choice(('And', 'IsLike', 'Plus')), t, ('id', 'a')),
+                          ('array', [t]), ('function', 'f', [t])))
         return self.settings(), lowering.encode(t)
 
     def damaged(self, how):
@@ -221,7 +225,8 @@ class Lowerings:
         r = self.r
         leaf = edge_leaf(r) if r.random() < .7 else bytes_changed(r, r.choice(LEAVES)) if r.random() < .5 else r.choice(LEAVES)
         if r.random() < .5:
-            leaf = r.choice((trees.monadic(r.choice((1, 7, 51)), leaf), trees.dyadic(r.choice((8, 26, 45, 49)), trees.A, leaf), trees.array(leaf, NULL), trees.function(b'f', leaf)))
+            leaf = r.choice((trees.monadic(r.choice((1, 7, 51)), leaf), trees.dyadic(r.choice((8, 26, 45, 49)), trees.A, leaf),
+                             trees.array(leaf, NULL), trees.function(b'f', leaf)))
         return self.settings(), leaf
 
     def settings_damaged(self):
@@ -230,7 +235,7 @@ class Lowerings:
 
     def settings_edges(self):
         r = self.r
-        names = [r.choice((b'n', b'_', b'A1', b'n' * 63, b'n' * 64, b'n' * 65, b'', b'1', b'a b', b'aNd', b'notnul', b'Collate', b'z')) if r.random() < .3 else b'NC' for _ in range(3)]
+        names = [edge_name(r) if r.random() < .3 else b'NC' for _ in range(3)]
         return trees.rec(100, bytes([r.choice((0, 1, 7, 9, 10, 14, 15, 15, 16, 255))]) + trees.names(*names)), lowering.encode(self.tree())
 
     def random_bytes(self):
@@ -251,7 +256,8 @@ class Lowerings:
         below = [self.soup(depth - 1) for _ in range({9: 1, 10: 2, 13: 2}.get(kind, r.randrange(4)))]
         if r.random() < .03:
             below = below[1:] or [NULL, NULL]
-        head = b'\1f' if kind == 11 else struct.pack('<H', r.choice(tuple(trees.MONADIC)) if kind == 9 else r.choice((r.randrange(53), 8, 14, 26, 29, 31, 34, 47))) if kind in (9, 10) else b''
+        operator = r.choice(tuple(trees.MONADIC)) if kind == 9 else r.choice((r.randrange(53), 8, 14, 26, 29, 31, 34, 47))
+        head = {9: struct.pack('<H', operator), 10: struct.pack('<H', operator), 11: b'\1f'}.get(kind, b'')
         return trees.rec(kind, head + b''.join(below))
 
     def deep(self):
@@ -355,9 +361,16 @@ class Readings:
     def row_edges(self):
         """Names and values at the edges of their rules, in a row and in the text."""
         r = self.r
-        cells = [(edge_name(r) if r.random() < .3 else b'c%d' % k, r.choice((None, edge_text(r, b'v', (0, 1, 1, 3, 3)) if r.random() < .4 else b'v' * r.choice((1, 63, 64, 64, 65) if r.random() < .2 else (1, 2, 64))))) for k in range(r.randint(1, 4))]
+
+        def value():
+            if r.random() < .4:
+                return edge_text(r, b'v', (0, 1, 1, 3, 3))
+            return b'v' * r.choice((1, 63, 64, 64, 65) if r.random() < .2 else (1, 2, 64))
+
+        cells = [(edge_name(r) if r.random() < .3 else b'c%d' % k, r.choice((None, value()))) for k in range(r.randint(1, 4))]
         n, v = r.choice(cells)
-        return r.choice((n + b"='" + (v or b'') + b"'", b'"' + n + b"\"<'" + edge_text(r, b'v', (0, 1, 64)) + b"'", b'TRUE', n + b' NOT NULL')), texts.row_of(cells)
+        other = edge_text(r, b'v', (0, 1, 64))
+        return r.choice((b"%s='%s'" % (n, v or b''), b'"%s"<\'%s\'' % (n, other), b'TRUE', n + b' NOT NULL')), texts.row_of(cells)
 
     def token_soup(self):
         r = self.r
@@ -375,12 +388,13 @@ class Readings:
 
     def time_filter(self, depth):
         r = self.r
-        leaf = lambda: r.choice((('id', r.choice('abcd')), ('id', r.choice('abcd')), ('id', r.choice('abcd')), ('date', 2024, 1, r.randint(1, 5)), ('unbounded',), ('null',)))
+        column = lambda: ('id', r.choice('abcd'))
+        leaf = lambda: r.choice((column(), column(), column(), ('date', 2024, 1, r.randint(1, 5)), ('unbounded',), ('null',)))
         k = r.randrange(8 if depth else 5)
         if k == 0:
-            return ('monadic', r.choice(('IsNull', 'IsNotNull')), ('id', r.choice('abcd')))
+            return ('monadic', r.choice(('IsNull', 'IsNotNull')), column())
         if k == 1:
-            return ('dyadic', r.choice(('Eq', 'Neq', 'Lt', 'Gt', 'Lte', 'Gte')), ('id', r.choice('abcd')), ('str', 0, '2024-01-0%d' % r.randint(1, 5)))
+            return ('dyadic', r.choice(('Eq', 'Neq', 'Lt', 'Gt', 'Lte', 'Gte')), column(), ('str', 0, '2024-01-0%d' % r.randint(1, 5)))
         if k < 5:
             op = r.choice(lowering.TEMPORAL)
             side = lambda: leaf() if op in lowering.MIXED and r.random() < .5 else ('interval', leaf(), leaf())
@@ -413,10 +427,15 @@ class Readings:
         r = self.r
         known = [(b'n' * 64, b'x'), (b'n' * 63, None), (b'And_', b'y'), (b'nulls', b''), (b'_', b'~' * 64), (b'A', b'2'), (b'aa', b'q'), (b'AB', None)]
         cells = r.sample(known, r.randint(1, 8))
-        pool = [n for n, _ in cells] + [n for n, _ in known]
-        pick = lambda: r.choice((lambda: r.choice(pool), lambda: r.choice(pool).swapcase(), lambda: r.choice((b'n' * 65, b'aNd', b'isnull', b'Like', b'1a', b'a1', b'')))) if r.random() < .25 else (lambda: r.choice(cells)[0])
-        say = lambda n: b'"' + n + b'"' if r.random() < .5 else n
-        return b' OR '.join(say(pick()()) + b' ' + r.choice(texts.SIGNS) + b' ' + say(pick()()) for _ in range(r.randint(1, 3))), texts.row_of(cells)
+
+        def pick():
+            if r.random() < .75:
+                n = r.choice(cells)[0]
+            else:
+                n = r.choice((r.choice(known)[0], r.choice(known)[0].swapcase(), r.choice((b'n' * 65, b'aNd', b'isnull', b'Like', b'1a', b'a1', b''))))
+            return b'"' + n + b'"' if r.random() < .5 else n
+
+        return b' OR '.join(b'%s %s %s' % (pick(), r.choice(texts.SIGNS), pick()) for _ in range(r.randint(1, 3))), texts.row_of(cells)
 
     def wide_row(self):
         """Up to some hundred columns in any order, some equal in another letter case."""
@@ -446,16 +465,21 @@ class Readings:
         return self.r.choice((b'', b'', b'TRUE')), self.r.choice((b'', b'', texts.row_of([(b'a', b'x')])))
 
 
-# ---- how often each kind comes, in ten-thousandths
+# ---- how often each kind comes, beside the others
 
-LOWERING = [('accepted trees', 'accepted', 1200), ('larger trees', 'larger', 300), ('leaves at their limits', 'leaves', 700), ('stored trees', 'stored', 300), ('stored trees, damaged', 'stored_damaged', 300),
-            ('settings damaged', 'settings_damaged', 250), ('settings at their limits', 'settings_edges', 250), ('random bytes as a tree', 'random_bytes', 250),
-            ('random records', 'random_records', 700), ('30 to 34 levels', 'deep', 200), ('tree of 32,768 bytes', 'tree_limit', 40), ('text of 65,535 bytes', 'text_limit', 40),
-            ('doubled and unwritten ends', 'doubled_ends', 60), ('empty settings or tree', 'empty', 50), ('tree too long', 'too_long', 60), ('stored large trees', 'large', 10)]
-READING = [('texts in the grammar', 'grammar', 1000), ('texts of time filters', 'lowered', 600), ('texts, a token bent', 'tokens_bent', 500), ('rows bent', 'row_bent', 300),
-           ('texts, bytes damaged', 'text_damaged', 400), ('rows, bytes damaged', 'row_damaged', 300), ('rows at their limits', 'row_edges', 300), ('random tokens', 'token_soup', 300), ('random bytes as text and row', 'random_bytes', 100),
-           ('names at their limits', 'names', 400), ('stored texts', 'stored', 200), ('62 to 66 brackets', 'brackets', 150), ('rows of many columns', 'wide_row', 100),
-           ('text of 65,535, row of 32,768 bytes', 'limits', 20), ('stored large texts and rows', 'large', 6), ('text or row too long', 'too_long', 60), ('empty text or row', 'empty', 50)]
+LOWERING = [
+    ('accepted trees', 'accepted', 1200), ('larger trees', 'larger', 300), ('leaves at their limits', 'leaves', 700), ('stored trees', 'stored', 300),
+    ('stored trees, damaged', 'stored_damaged', 300), ('settings damaged', 'settings_damaged', 250), ('settings at their limits', 'settings_edges', 250),
+    ('random bytes as a tree', 'random_bytes', 250), ('random records', 'random_records', 700), ('30 to 34 levels', 'deep', 200),
+    ('tree of 32,768 bytes', 'tree_limit', 40), ('text of 65,535 bytes', 'text_limit', 40), ('doubled and unwritten ends', 'doubled_ends', 60),
+    ('empty settings or tree', 'empty', 50), ('tree too long', 'too_long', 60), ('stored large trees', 'large', 10)]
+READING = [
+    ('texts in the grammar', 'grammar', 1000), ('texts of time filters', 'lowered', 600), ('texts, a token bent', 'tokens_bent', 500),
+    ('rows bent', 'row_bent', 300), ('texts, bytes damaged', 'text_damaged', 400), ('rows, bytes damaged', 'row_damaged', 300),
+    ('rows at their limits', 'row_edges', 300), ('random tokens', 'token_soup', 300), ('random bytes as text and row', 'random_bytes', 100),
+    ('names at their limits', 'names', 400), ('stored texts', 'stored', 200), ('62 to 66 brackets', 'brackets', 150), ('rows of many columns', 'wide_row', 100),
+    ('text of 65,535, row of 32,768 bytes', 'limits', 20), ('stored large texts and rows', 'large', 6), ('text or row too long', 'too_long', 60),
+    ('empty text or row', 'empty', 50)]
 DAMAGED = [('trees, ' + how, how, 250) for how in DAMAGE]
 
 
