@@ -1,8 +1,9 @@
 """The library's two calls on lent bytes that lie between pages which no program may touch, with marks beside them."""
-import ctypes, mmap
+import ctypes, mmap, random
 
 PAGE = mmap.PAGESIZE
 MARK = bytes(range(0x9d, 0xbd))
+NOISE = random.Random(9).randbytes(160000)    # what a lent buffer holds before the call
 
 
 class Lent:
@@ -60,3 +61,18 @@ class Library:
         a, b = self.one.place(text, at_end), self.two.place(row, at_end)
         answer = self.reader(a, len(text), b, len(row))
         return answer, [what for what, kept in (('text', self.one.kept()), ('row', self.two.kept())) if not kept]
+
+
+def check_lowering(library, settings, tree, want, room, noise, at_end):
+    """Nothing, or what was expected and what came."""
+    out = NOISE[noise:noise + room]
+    right = (want, out) if isinstance(want, int) else (-9, out) if len(want) > room else (len(want), want + out[len(want):])
+    answer, after, touched = library.lower(settings, tree, out, at_end)
+    if (answer, after) == right and not touched:
+        return None
+    return right, (answer, after), touched
+
+
+def check_reading(library, text, row, want, at_end):
+    answer, touched = library.read(text, row, at_end)
+    return None if answer == want and not touched else ((want, b''), (answer, b''), touched)

@@ -1,8 +1,8 @@
 """Makes the inputs of a disagreement smaller, as long as the library and the expectation still part in the same way."""
-import multiprocessing, sys, time
+import multiprocessing, time
 
 from cases import NULL, put_in, trees
-from library import Library
+from library import Library, check_lowering, check_reading
 import expected
 
 SECONDS = 20
@@ -29,13 +29,13 @@ def smaller(data, which, part):
         step //= 2
 
 
-def again(run, library, which, a, b, lent):
+def again(library, which, a, b, lent):
     """What disagrees on these inputs; the buffer keeps its distance from the text's length."""
     if which == 'R':
-        return lent, run.check_reading(library, a, b, expected.read(a, b), *lent)
+        return lent, check_reading(library, a, b, expected.read(a, b), *lent)
     want = expected.lowered(a, b)
     room = lent[0] if isinstance(want, int) else max(0, len(want) + lent[3]) if len(lent) > 3 else lent[0]
-    return (room, *lent[1:]), run.check_lowering(library, a, b, want, room, lent[1], lent[2])
+    return (room, *lent[1:]), check_lowering(library, a, b, want, room, lent[1], lent[2])
 
 
 def signature(which, found):
@@ -44,7 +44,6 @@ def signature(which, found):
 
 
 def reduce(path, which, a, b, lent, found, pipe):
-    run = sys.modules['__main__']
     library, until = Library(path), time.time() + SECONDS
     if which == 'L':
         want = expected.lowered(a, b)
@@ -57,7 +56,7 @@ def reduce(path, which, a, b, lent, found, pipe):
                 if time.time() > until:
                     break
                 inputs = (best[0], other) if part else (other, best[1])
-                new, said = again(run, library, which, *inputs, lent)
+                new, said = again(library, which, *inputs, lent)
                 if said and signature(which, said) == goal and len(other) < len(best[part]):
                     best, moved = (*inputs, new, said), True
                     pipe.send(best)
