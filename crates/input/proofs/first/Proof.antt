@@ -1,13 +1,12 @@
--- `lower::first` stays in bounds: the test says that n is below what is left.
+-- `input::first` stays in bounds: the test says that n is below what is left.
 use mathlib.Core.Path.{sym}
 use native.Mathlib.Omega.{arith}
 use lib.Seq.{length-take-le}
 use borrow.Author.Needs.{needs}
-use borrow.Author.Needs.{needs}
-use Rattle.lower.proofs.first.Statement.{statement}
-use Rattle.lower.proofs.first.Tie as tie
-use Rattle.lower.proofs.first.Reads as reads
-use Rattle.lower.proofs.first.Lts as lts
+use Rattle.input.proofs.first.Statement.{statement}
+use Rattle.input.proofs.first.Tie as tie
+use Rattle.input.proofs.first.Reads as reads
+use Rattle.input.proofs.first.Lts as lts
 
 slice-aggregate-result : tie.Need-slice-aggregate-result
 slice-aggregate-result c = sym (length-take-le _ _ (omega arith))
