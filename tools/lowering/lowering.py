@@ -388,4 +388,5 @@ def sample(path, folder, out, count):
         f.write(case(g, b'', 65536, b'\x03'))
     print('written', out, os.path.getsize(out))
 
-main()
+if __name__ == '__main__':
+    main()

@@ -484,4 +484,5 @@ def main():
     print(open(os.path.join(base, 'stdout')).read(), end='')
 
 
-main()
+if __name__ == '__main__':
+    main()
