@@ -5,7 +5,7 @@ import sqlite3
 import sys
 
 from . import lowering, programs, records, table
-from .encode import Encoder
+from .encode import KNOWN, Encoder
 from .errors import BadInput, Refused
 from .geopackage import GeoPackage
 from .reading import read_filter
@@ -45,6 +45,12 @@ def collation_name(text):
     return text
 
 
+def function_name(text):
+    if text in KNOWN:
+        raise argparse.ArgumentTypeError('%s is an operator' % text)
+    return text
+
+
 class Parser(argparse.ArgumentParser):
     def error(self, message):
         """One line, as for every other error."""
@@ -59,7 +65,7 @@ def parser():
     p.add_argument('-t', '--table', metavar='NAME', help='its table (may be left out if there is only one)')
     p.add_argument('--rows', metavar='N', type=whole(0, 10 ** 9), default=40, help='show at most N rows (default 40; 0: all)')
     p.add_argument('--spatialite', action='store_true', help='load SpatiaLite, for the s_ operators')
-    p.add_argument('--function', metavar='NAME', action='append', default=[], help='take NAME for a function of the database; may be repeated')
+    p.add_argument('--function', metavar='NAME', type=function_name, action='append', default=[], help='take NAME for a function of the database; may be repeated')
     p.add_argument('--srid', metavar='N', type=whole(0, 2 ** 32 - 1), default=4326, help='reference system of written geometries (default 4326)')
     p.add_argument('--precision', metavar='N', type=whole(0, 15), default=7, help='digits after the point of coordinates (default 7)')
     p.add_argument('--ci', metavar='NAME', type=collation_name, default='CQL2_CI', help='collation that ignores letter case (default CQL2_CI)')

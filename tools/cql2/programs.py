@@ -23,9 +23,9 @@ def build(names):
         if all(os.access(path_of(name), os.X_OK) for name in names):
             return
         raise BadInput('the proved program is not built, and `rt` of the Rattle kit is not on the PATH')
-    process = subprocess.Popen(['rt', 'check', *names], cwd=ROOT, stdout=subprocess.PIPE, stderr=subprocess.STDOUT, text=True, errors='replace')
-    last = follow(process.stdout, len(needed(names)))
-    if process.wait() != 0:
+    with subprocess.Popen(['rt', 'check', *names], cwd=ROOT, stdout=subprocess.PIPE, stderr=subprocess.STDOUT, text=True, errors='replace') as rt:
+        last = follow(rt.stdout, len(needed(names)))
+    if rt.returncode != 0:
         raise BadInput('`rt check %s` failed: %s' % (' '.join(names), last))
 
 
