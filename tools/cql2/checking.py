@@ -1,11 +1,8 @@
 """Holds the proved reader's answer for every row of a table against what SQLite makes of the same text."""
 from . import programs, records
+from .errors import Disagreement
 
 WORDS = {1: 'true', 0: 'false', None: 'unknown'}
-
-
-class Disagreement(Exception):
-    pass
 
 
 def check(package, table, sql):

@@ -1,12 +1,11 @@
 """The command ./filter: a CQL2-JSON filter to SQL, and with a GeoPackage the rows that it picks."""
 import argparse
-import os
 import sqlite3
 import sys
 
 from . import lowering, programs, records, table
 from .encode import KNOWN, Encoder
-from .errors import BadInput, Refused
+from .errors import BadInput, guarded
 from .geopackage import GeoPackage
 from .reading import read_filter
 
@@ -126,31 +125,7 @@ def run(arguments):
     if package:
         print()
         show_rows(package, name, sql, options.rows)
-    sys.stdout.flush()
-
-
-def fail(message, status):
-    print('filter: ' + ' '.join(message.split()), file=sys.stderr)
-    return status
 
 
 def main(arguments):
-    for stream in (sys.stdout, sys.stderr):
-        stream.reconfigure(errors='backslashreplace')
-    try:
-        run(arguments)
-        return 0
-    except Refused as e:
-        return fail(str(e), 1)
-    except BadInput as e:
-        return fail(str(e), 2)
-    except sqlite3.Error as e:
-        return fail('SQLite: %s' % e, 2)
-    except RecursionError:
-        return fail('the filter nests too deeply to be read (document 01 allows 32 levels)', 2)
-    except KeyboardInterrupt:
-        return fail('stopped', 130)
-    except BrokenPipeError:
-        # whoever read the output has enough; nothing more may be written at exit
-        os.dup2(os.open(os.devnull, os.O_WRONLY), sys.stdout.fileno())
-        return 0
+    return guarded('filter', lambda: run(arguments))

@@ -1,4 +1,7 @@
-"""What can keep a filter from being answered: each is told to the user as one line."""
+"""What can keep a command from its answer. Each is told to the user as one line, with an exit status, and never by a traceback."""
+import os
+import sqlite3
+import sys
 
 
 class BadInput(Exception):
@@ -15,3 +18,37 @@ class Refused(Exception):
         where = '' if place is None else ' at ' + place
         super().__init__('refused (%d)%s: %s' % (number, where, words))
         self.number, self.place = number, place
+
+
+class Disagreement(Exception):
+    """The proved reader and SQLite say different things of a row: exit status 1."""
+
+
+def guarded(name, work):
+    """Does the work; gives the exit status."""
+    for stream in (sys.stdout, sys.stderr):
+        stream.reconfigure(errors='backslashreplace')
+    try:
+        work()
+        sys.stdout.flush()
+        return 0
+    except (Refused, Disagreement) as e:
+        return told(name, e, 1)
+    except (BadInput, sqlite3.Error) as e:
+        return told(name, e, 2)
+    except RecursionError:
+        return told(name, 'the filter nests too deeply to be read (document 01 allows 32 levels)', 2)
+    except MemoryError:
+        return told(name, 'there is not enough memory', 2)
+    except KeyboardInterrupt:
+        return told(name, 'stopped', 130)
+    except OSError as e:
+        # what is still to be written has nowhere to go, and must not be tried again at exit
+        os.dup2(os.open(os.devnull, os.O_WRONLY), sys.stdout.fileno())
+        # a reader that has enough is no error
+        return 0 if isinstance(e, BrokenPipeError) else told(name, e.strerror or e, 2)
+
+
+def told(name, message, status):
+    print('%s: %s' % (name, ' '.join(str(message).split())), file=sys.stderr)
+    return status

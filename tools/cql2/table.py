@@ -1,4 +1,5 @@
 """Rows as an aligned table of plain text."""
+import struct
 import unicodedata
 
 MOST = 32    # a cell that is wider is cut
@@ -9,11 +10,18 @@ def width(text):
     return sum(0 if unicodedata.combining(c) else 2 if unicodedata.east_asian_width(c) in 'WF' else 1 for c in text)
 
 
+def point(data):
+    """The text of a GeoPackage's point in two dimensions, without envelope; None for all else."""
+    if len(data) != 29 or data[:4] != b'GP\0\1' or data[8:13] != b'\1\1\0\0\0':
+        return None
+    return 'POINT (%g %g)' % struct.unpack('<dd', data[13:])
+
+
 def cell(value):
     if value is None:
         return 'NULL'
     if isinstance(value, bytes):
-        return '%d bytes' % len(value)
+        return point(value) or '%d bytes' % len(value)
     text = ''.join(c if c.isprintable() else c.encode('unicode_escape', 'backslashreplace').decode() for c in str(value)[:MOST + 1])
     if width(text) <= MOST:
         return text

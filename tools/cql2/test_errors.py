@@ -13,7 +13,7 @@ FILTER = os.path.join(programs.ROOT, 'filter')
 
 
 def run(*arguments, data=b'', **more):
-    return subprocess.run([FILTER, *arguments], input=data, capture_output=True, timeout=600, **more)
+    return subprocess.run([sys.executable, FILTER, *arguments], input=data, capture_output=True, timeout=600, **more)
 
 
 def nested(levels):
@@ -196,6 +196,9 @@ class Errors(unittest.TestCase):
         self.assertIn(b'examples:', done.stdout)
         done = subprocess.run('%s true | head -c 0; echo ${PIPESTATUS[0]}' % FILTER, shell=True, executable='/bin/bash', capture_output=True)
         self.assertEqual((done.stdout.strip(), done.stderr), (b'0', b''))
+        with open('/dev/full', 'w') as full:
+            done = subprocess.run([FILTER, 'true'], stdout=full, stderr=subprocess.PIPE)
+        self.assertEqual((done.returncode, done.stderr), (2, b'filter: No space left on device\n'))
 
 
 if __name__ == '__main__':

@@ -2,6 +2,7 @@
 import json
 import os
 import sqlite3
+import struct
 import subprocess
 import tempfile
 import unittest
@@ -9,6 +10,7 @@ import unittest
 from demo import log
 
 from . import checking, geopackage, programs, table
+from .errors import Disagreement
 from .test_errors import run
 from .test_texts import interval, op, sql_of
 
@@ -77,7 +79,7 @@ class Rows(unittest.TestCase):
         for data, picks in PICKS:
             with self.subTest(data):
                 found = [row[0] for row in self.package.select('stays', sql_of(data))]
-                self.assertEqual(found, [row[0] for row in rows if (picks(*row[1:]) if picks else 10 <= row[0] <= 20)])
+                self.assertEqual(found, [row[0] for row in rows if (picks(*row[1:5]) if picks else 10 <= row[0] <= 20)])
 
     def test_the_log_has_what_the_filters_ask_about(self):
         rows = self.package.select('stays', 'TRUE').fetchall()
@@ -91,7 +93,7 @@ class Rows(unittest.TestCase):
 
     def test_a_disagreement_is_seen(self):
         """SQLite takes a quoted name that is no column for a text; the reader refuses it."""
-        with self.assertRaisesRegex(checking.Disagreement, 'row 1 .*: the proved reader says refused 13, SQLite says true and selects it'):
+        with self.assertRaisesRegex(Disagreement, 'row 1 .*: the proved reader says refused 13, SQLite says true and selects it'):
             checking.check(self.package, 'stays', '"zz" IS NOT NULL')
 
     def test_collations(self):
@@ -106,12 +108,12 @@ class Rows(unittest.TestCase):
         package.connection.close()
 
     def test_table(self):
-        done = run(json.dumps(op('=', {'property': 'fid'}, 29)), '--geopackage', self.path, '--table', 'stays')
-        self.assertEqual(done.stdout.decode(), '''fid = 29
+        done = run(json.dumps(op('=', {'property': 'fid'}, 1)), '--geopackage', self.path, '--table', 'stays')
+        self.assertEqual(done.stdout.decode(), '''fid = 1
 
-fid  label  tray   entry       exit
----  -----  -----  ----------  ----
- 29  cup    right  2026-03-01  NULL
+fid  label  tray    entry       exit        place
+---  -----  ------  ----------  ----------  -----------------
+  1  bolt   middle  2026-03-04  2026-03-05  POINT (1.07 0.37)
 1 of 200 rows
 ''')
 
@@ -121,8 +123,8 @@ fid  label  tray   entry       exit
         self.assertEqual(len(run('true', '--geopackage', self.path, '--rows', '0').stdout.decode().splitlines()), 205)
 
     def test_cells(self):
-        self.assertEqual([table.cell(x) for x in (None, 7, 1.5, b'abc', 'x' * 40, 'a\nb\x1b', '漢' * 20)],
-                         ['NULL', '7', '1.5', '3 bytes', 'x' * 31 + '…', 'a\\nb\\x1b', '漢' * 15 + '…'])
+        self.assertEqual([table.cell(x) for x in (None, 7, 1.5, b'abc', log.point(0.5, 2), 'x' * 40, 'a\nb\x1b', '漢' * 20)],
+                         ['NULL', '7', '1.5', '3 bytes', 'POINT (0.5 2)', 'x' * 31 + '…', 'a\\nb\\x1b', '漢' * 15 + '…'])
         self.assertEqual(list(table.lines(['a', 'b'], [('漢', 1), ('x', 22)])), ['a    b', '--  --', '漢   1', 'x   22'])
 
     def test_files(self):
@@ -141,7 +143,7 @@ fid  label  tray   entry       exit
     def test_tables(self):
         self.assertEqual(self.line('true', '-g', self.path, '-t', 'nights'),
                          'filter: %s has no table "nights"; it has stays' % self.path)
-        two = self.other('two.gpkg', "INSERT INTO gpkg_contents (table_name, data_type) VALUES ('nights', 'features')")
+        two = self.other('two.gpkg', "INSERT INTO gpkg_contents (table_name, data_type) VALUES ('nights', 'attributes')")
         self.assertEqual(self.line('true', '-g', two), 'filter: %s has the tables nights, stays; name one with --table' % two)
         self.assertEqual(self.line('true', '-g', two, '-t', 'nights'), 'filter: %s lists a table "nights" that is not there' % two)
         none = self.other('none.gpkg', 'DELETE FROM gpkg_contents')
@@ -150,7 +152,7 @@ fid  label  tray   entry       exit
     def test_texts_that_sqlite_cannot_run(self):
         cannot = 'filter: SQLite cannot run this text: '
         self.assertEqual(self.line(json.dumps(op('isNull', {'property': 'zz'})), '-g', self.path),
-                         'filter: $.args[0].property: the table "stays" has no column zz; it has fid, label, tray, entry, exit')
+                         'filter: $.args[0].property: the table "stays" has no column zz; it has fid, label, tray, entry, exit, place')
         self.assertEqual(self.line(json.dumps(op('s_intersects', LABEL, {'bbox': [1, 2, 3, 4]})), '-g', self.path),
                          cannot + 'spatial functions need SpatiaLite (--spatialite)')
         self.assertEqual(self.line(json.dumps(op('=', LABEL, op('^', 2, 3))), '-g', self.path), cannot + 'unrecognized token: "^"')
@@ -166,10 +168,14 @@ fid  label  tray   entry       exit
         if not hasattr(self.package.connection, 'enable_load_extension'):
             self.assertIn('this Python cannot load SQLite extensions', self.line('true', '-g', self.path, '--spatialite'))
             return
-        box = op('s_intersects', {'type': 'Point', 'coordinates': [2, 3]}, {'bbox': [1, 2, 3, 4]})
-        done = run(json.dumps(box), '-g', self.path, '--spatialite')
-        told = done.stdout.decode().splitlines()[-1:] or done.stderr.decode().splitlines()
-        self.assertIn(told, (['200 of 200 rows'], ['filter: SpatiaLite is not there: apt-get install -y libsqlite3-mod-spatialite']))
+        box = op('s_intersects', {'property': 'place'}, {'bbox': [0, 0, 0.5, 0.25]})
+        done = run(json.dumps(box), '-g', self.path, '--spatialite', '--rows', '0')
+        if done.stderr:
+            self.assertEqual(done.stderr, b'filter: SpatiaLite is not there: apt-get install -y libsqlite3-mod-spatialite\n')
+            return
+        places = [struct.unpack('<dd', row[5][13:]) for row in self.package.select('stays', 'TRUE')]
+        inside = sum(x <= 0.5 and y <= 0.25 for x, y in places)
+        self.assertEqual(done.stdout.decode().splitlines()[-1], '%d of 200 rows' % inside)
 
 
 if __name__ == '__main__':
