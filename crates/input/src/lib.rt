@@ -1,4 +1,7 @@
 // The parts of a case on standard input, each behind its length in four bytes, little-endian.
+ghost use mathlib.Core.Path.{_≡_};
+ghost use lib.ListN.{length, take};
+ghost use Rattle.input.specs.Fits.{Fits};
 use libc::STDIN_FILENO;
 
 pub enum Part {
@@ -33,7 +36,9 @@ fn pass(buffer: &mut [u8], n: usize) -> bool {
     fill(buffer, left)
 }
 
-pub fn next_part(buffer: &mut [u8]) -> Part {
+pub fn next_part(buffer: &mut [u8]) -> Part
+    ensures { λ r. ⌜ Fits r (length (now (buffer .exit))) ⌝ }
+{
     let mut head = [0u8; 4];
     let had = io::read_full(STDIN_FILENO, &mut head);
     if had == 0 {
@@ -53,7 +58,9 @@ pub fn next_part(buffer: &mut [u8]) -> Part {
 }
 
 // The first n bytes, or all.
-pub fn first(s: &[u8], n: usize) -> &[u8] {
+pub fn first(s: &[u8], n: usize) -> &[u8]
+    ensures { λ r. ⌜ now r ≡ take n (now (s .entry)) ⌝ }
+{
     if n < s.len() {
         return &s[..n];
     }
