@@ -1,5 +1,5 @@
 """Holds the proved reader's answer for every row of a table against what SQLite makes of the same text."""
-from . import programs, records
+from . import proved, records
 from .errors import Disagreement
 
 WORDS = {1: 'true', 0: 'false', None: 'unknown'}
@@ -14,7 +14,7 @@ def check(package, table, sql):
     # the reader knows texts and NULL alone, so columns of numbers are left out
     cases = [(sql.encode(), records.row((n, v) for n, v in zip(columns, row) if v is None or isinstance(v, str))) for row in rows]
     counts = dict.fromkeys(WORDS.values(), 0)
-    for row, answer in zip(rows, programs.run('read', cases)):
+    for row, answer in zip(rows, proved.run('read', cases)):
         found = WORDS.get(truths[row[0]], truths[row[0]])
         if answer != found or (answer == 'true') != (row[0] in selected):
             picks = 'selects it' if row[0] in selected else 'does not select it'

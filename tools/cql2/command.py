@@ -3,7 +3,7 @@ import argparse
 import sqlite3
 import sys
 
-from . import lowering, programs, records, table
+from . import lowering, proved, records, table
 from .encode import KNOWN, Encoder
 from .errors import BadInput, guarded
 from .geopackage import GeoPackage
@@ -64,7 +64,8 @@ def parser():
     p.add_argument('-t', '--table', metavar='NAME', help='its table (may be left out if there is only one)')
     p.add_argument('--rows', metavar='N', type=whole(0, 10 ** 9), default=40, help='show at most N rows (default 40; 0: all)')
     p.add_argument('--spatialite', action='store_true', help='load SpatiaLite, for the s_ operators')
-    p.add_argument('--function', metavar='NAME', type=function_name, action='append', default=[], help='take NAME for a function of the database; may be repeated')
+    p.add_argument('--function', metavar='NAME', type=function_name, action='append', default=[],
+                   help='take NAME for a function of the database; may be repeated')
     p.add_argument('--srid', metavar='N', type=whole(0, 2 ** 32 - 1), default=4326, help='reference system of written geometries (default 4326)')
     p.add_argument('--precision', metavar='N', type=whole(0, 15), default=7, help='digits after the point of coordinates (default 7)')
     p.add_argument('--ci', metavar='NAME', type=collation_name, default='CQL2_CI', help='collation that ignores letter case (default CQL2_CI)')
@@ -117,7 +118,7 @@ def run(arguments):
     collations = (options.ci, options.ai, options.cai)
     package = GeoPackage(options.geopackage, collations, options.spatialite) if options.geopackage else None
     name = package.table(options.table) if package else None
-    programs.build(['lower'])
+    proved.build(['lower'])
     sql = lowering.lower(records.settings(options.precision, *collations), tree)
     if package:
         check_columns(tree, package, name)

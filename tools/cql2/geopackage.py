@@ -73,7 +73,8 @@ class GeoPackage:
         if name is None and len(found) == 1:
             name = found[0]
         if name is None:
-            raise BadInput('%s has %s; name one with --table' % (self.path, 'the tables ' + ', '.join(found) if found else 'no table of features or attributes'))
+            has = 'the tables ' + ', '.join(found) if found else 'no table of features or attributes'
+            raise BadInput('%s has %s; name one with --table' % (self.path, has))
         if name not in found:
             raise BadInput('%s has no table "%s"; it has %s' % (self.path, name, ', '.join(found) or 'none'))
         if not self.columns(name):

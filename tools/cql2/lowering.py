@@ -1,7 +1,7 @@
 """The SQL text of a tree by the proved program, or its refusal in words with the place in the filter."""
 import re
 
-from . import programs, records
+from . import proved, records
 from .encode import RULES
 from .errors import BadInput, Refused
 
@@ -21,7 +21,7 @@ def refusal_of(line):
 def lower(settings, tree):
     """The SQL text, or Refused."""
     data = tree.encode()
-    line = programs.run('lower', [(settings, data)])[0]
+    line = proved.run('lower', [(settings, data)])[0]
     number = refusal_of(line)
     if number is None:
         return line
@@ -44,7 +44,7 @@ def explained(number, settings, tree):
         if number == 7 and node.kind == records.INTERVAL and node is not tree:
             bare = records.dyadic('TEquals', node.place, bare, records.Node(records.NULL, node.place))
         asked.append((settings, bare.encode()))
-    for node, line in zip(nodes, programs.run('lower', asked)):
+    for node, line in zip(nodes, proved.run('lower', asked)):
         if refusal_of(line) == number:
             return Refused(number, *told(number, node))
     return BadInput('the proved program refused (%d), and no part of the filter by itself: please report the filter' % number)

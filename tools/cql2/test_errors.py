@@ -6,10 +6,10 @@ import sys
 import tempfile
 import unittest
 
-from . import programs
+from . import proved
 from .test_texts import A, AB, CD, DAY, interval, op, point
 
-FILTER = os.path.join(programs.ROOT, 'filter')
+FILTER = os.path.join(proved.ROOT, 'filter')
 
 
 def run(*arguments, data=b'', **more):
@@ -186,7 +186,7 @@ class Errors(unittest.TestCase):
 
     def test_no_program_and_no_kit(self):
         with tempfile.TemporaryDirectory() as folder:
-            subprocess.run(['cp', '-r', FILTER, os.path.join(programs.ROOT, 'tools'), os.path.join(programs.ROOT, 'crates.txt'), folder], check=True)
+            subprocess.run(['cp', '-r', FILTER, os.path.join(proved.ROOT, 'tools'), os.path.join(proved.ROOT, 'crates.txt'), folder], check=True)
             done = subprocess.run([sys.executable, os.path.join(folder, 'filter'), 'true'], capture_output=True, env={'PATH': folder})
             self.assertEqual(self.line(done, 2), 'the proved program is not built, and `rt` of the Rattle kit is not on the PATH')
 

@@ -9,7 +9,7 @@ import unittest
 
 from demo import log
 
-from . import checking, geopackage, programs, table
+from . import checking, geopackage, proved, table
 from .errors import Disagreement
 from .test_errors import run
 from .test_texts import interval, op, sql_of
@@ -46,7 +46,7 @@ PICKS = [
 class Rows(unittest.TestCase):
     @classmethod
     def setUpClass(cls):
-        programs.build(['lower', 'read'])
+        proved.build(['lower', 'read'])
         cls.folder = tempfile.TemporaryDirectory()
         cls.path = os.path.join(cls.folder.name, 'stays ?#%.gpkg')
         log.make(cls.path)
@@ -160,7 +160,7 @@ fid  label  tray    entry       exit        place
         self.assertEqual(self.line(json.dumps(op('f', LABEL)), '--function', 'f', '-g', self.path), cannot + 'no such function: f')
 
     def test_broken_pipe(self):
-        command = "%s true -g '%s' --rows 0 | head -n 1" % (os.path.join(programs.ROOT, 'filter'), self.path)
+        command = "%s true -g '%s' --rows 0 | head -n 1" % (os.path.join(proved.ROOT, 'filter'), self.path)
         done = subprocess.run(command, shell=True, capture_output=True)
         self.assertEqual((done.stdout, done.stderr), (b'TRUE\n', b''))
 

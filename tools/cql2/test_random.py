@@ -10,7 +10,7 @@ sys.path[:0] = [os.path.join(TOOLS, 'lowering'), os.path.join(TOOLS, 'trees')]
 import lowering as reference
 import make as checker
 
-from . import lowering, programs, records
+from . import lowering, proved, records
 from .encode import Encoder
 from .errors import BadInput, Refused
 from .reading import read_filter
@@ -89,7 +89,7 @@ class Maker:
 class Random(unittest.TestCase):
     @classmethod
     def setUpClass(cls):
-        programs.build(['lower', 'read'])
+        proved.build(['lower', 'read'])
 
     def trees(self):
         for seed in range(3000):
@@ -101,7 +101,7 @@ class Random(unittest.TestCase):
         settings = records.settings(*SETTINGS)
         trees = list(self.trees())
         tally = {}
-        for (data, tree), line in zip(trees, programs.run('lower', [(settings, tree.encode()) for _, tree in trees])):
+        for (data, tree), line in zip(trees, proved.run('lower', [(settings, tree.encode()) for _, tree in trees])):
             number = checker.answer(settings, tree.encode())
             text = 'refused %d' % number if number else reference.text(SETTINGS, decoded(tree.encode())[0])
             self.assertEqual(line, text if len(text) < 65536 else 'refused 8', data)

@@ -1,7 +1,7 @@
 """Tests of the texts: every operator and kind of value, by hand, against the independent reference of tools/lowering, and against the Rust.
 
-  python3 -m unittest discover -s tools/cql2 -t tools          all tests of the command
-  ORACLE=FILE python3 -m unittest ..                           also compares every text with that of the oracle program FILE"""
+  python3 -m unittest discover -s tools                 all tests of the command and of the programs
+  ORACLE=FILE python3 -m unittest discover -s tools     also compares every text with that of the oracle program FILE"""
 import json
 import os
 import struct
@@ -13,7 +13,7 @@ import unittest
 sys.path.insert(0, os.path.join(os.path.dirname(os.path.abspath(__file__)), '..', 'lowering'))
 import lowering as reference
 
-from . import lowering, programs, records
+from . import lowering, proved, records
 from .encode import KNOWN, Encoder
 from .reading import read_filter
 
@@ -183,7 +183,7 @@ def decoded(data):
 class Texts(unittest.TestCase):
     @classmethod
     def setUpClass(cls):
-        programs.build(['lower', 'read'])
+        proved.build(['lower', 'read'])
 
     def cases(self):
         yield from TEXTS + STANDARD
