@@ -1,59 +1,63 @@
-// Lowers one filter. Standard input: a settings record and then a tree, each behind its length in four bytes, little-endian.
-// Standard output: the SQL text and a line end, or `refused N`.
-ghost use mathlib.Core.Path.{_≡_};
-ghost use Prim.Native.Nat.{_≤_, _<_};
-ghost use lib.ListN.{length};
+// Lowers filters. Standard input: cases to its end, each a settings record and then a tree, each of these behind its length in four bytes,
+// little-endian. Standard output: a line for each case, the SQL text or `refused N`; `incomplete` if the input ends inside a case.
 use gpkg::Lowered;
-
-// The first n bytes, or all.
-fn first(s: &[u8], n: usize) -> &[u8] {
-    if n < s.len() {
-        return &s[..n];
-    }
-    s
-}
-
-// The bytes behind a length of four bytes at the front of s, as far as there are any.
-fn part(s: &[u8]) -> &[u8] {
-    let n = tree::dword_at(s, 0);
-    if s.len() < 4 {
-        return &s[..0];
-    }
-    first(&s[4..], n)
-}
-
-// What follows that part.
-fn behind(s: &[u8]) -> &[u8] {
-    let n = tree::dword_at(s, 0);
-    if s.len() < 4 {
-        return &s[..0];
-    }
-    let rest = &s[4..];
-    if n < rest.len() {
-        return &rest[n..];
-    }
-    &s[..0]
-}
+use input::Part;
+use libc::STDOUT_FILENO;
 
 fn answer(settings: &[u8], tree: &[u8], out: &mut [u8]) {
     match gpkg::to_sql(settings, tree, out) {
         Lowered::Text(n) => {
-            io::write_all(libc::STDOUT_FILENO, first(out, n));
+            io::write_all(STDOUT_FILENO, input::first(out, n));
         }
         Lowered::Refused(r) => {
-            io::write_all(libc::STDOUT_FILENO, b"refused ");
-            io::print_decimal(libc::STDOUT_FILENO, refusal::number(r) as u64);
+            io::write_all(STDOUT_FILENO, b"refused ");
+            io::print_decimal(STDOUT_FILENO, refusal::number(r) as u64);
         }
     }
-    io::write_all(libc::STDOUT_FILENO, b"\n");
+    io::write_all(STDOUT_FILENO, b"\n");
+}
+
+fn incomplete() {
+    io::write_all(STDOUT_FILENO, b"incomplete\n");
+}
+
+// Answers the case whose settings are settings[..n]; false if the input ends inside it.
+fn rest_of_case(settings: &mut [u8], n: usize, tree: &mut [u8], out: &mut [u8]) -> bool {
+    match input::next_part(tree) {
+        Part::Whole(m) => {
+            answer(input::first(settings, n), input::first(tree, m), out);
+            true
+        }
+        _ => {
+            incomplete();
+            false
+        }
+    }
+}
+
+// Answers the case that comes next; false if there is none, or the input ends inside it.
+fn next_case(settings: &mut [u8], tree: &mut [u8], out: &mut [u8]) -> bool {
+    match input::next_part(settings) {
+        Part::End => false,
+        Part::Short => {
+            incomplete();
+            false
+        }
+        Part::Whole(n) => rest_of_case(settings, n, tree, out),
+    }
+}
+
+// A proved loop has to end, and nothing says that the input does: the turns are counted down from a number that no run uses up.
+fn answer_all(settings: &mut [u8], tree: &mut [u8], out: &mut [u8]) {
+    let mut turns = u64::MAX;
+    while turns > 0 && next_case(settings, tree, out) {
+        turns -= 1;
+    }
 }
 
 fn main() {
-    let mut buffer = io::large_buffer();
-    let n = io::read_full(libc::STDIN_FILENO, &mut buffer);
-    if n < 65536 {
-        let input = &buffer[..n];
-        let mut out = io::large_buffer();
-        answer(part(input), part(behind(input)), &mut out);
-    }
+    let mut settings = io::large_buffer();
+    let mut tree = io::large_buffer();
+    let mut out = io::large_buffer();
+    answer_all(&mut settings, &mut tree, &mut out);
 }

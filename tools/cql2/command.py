@@ -1,0 +1,132 @@
+"""The command ./filter: a CQL2-JSON filter to SQL, and with a GeoPackage the rows that it picks."""
+import argparse
+import sqlite3
+import sys
+
+from . import lowering, proved, records, table
+from .encode import KNOWN, Encoder
+from .errors import BadInput, guarded
+from .geopackage import GeoPackage
+from .reading import read_filter
+
+ABOUT = 'Shows the SQL text of a CQL2-JSON filter, lowered by the proved program, and with a GeoPackage the rows that it picks.'
+MORE = '''examples:
+  ./filter '{"op": "=", "args": [{"property": "label"}, "cup"]}'
+  ./filter filters/during.json
+  ./filter filters/during.json --geopackage target/demo/stays.gpkg
+  cat filters/during.json | ./filter - --geopackage target/demo/stays.gpkg --table stays
+
+operators:
+  and or not  = <> < > <= >=  isNull like between in  casei accenti  + - * / div % ^
+  s_contains s_crosses s_disjoint s_equals s_intersects s_overlaps s_touches s_within
+  t_after t_before t_contains t_disjoint t_during t_equals t_finishedBy t_finishes
+  t_intersects t_meets t_metBy t_overlappedBy t_overlaps t_startedBy t_starts
+  a_containedBy a_contains a_equals a_overlaps
+
+exit status:
+  0  done
+  1  the filter is refused: the line names document 01's rule, and the place in the filter
+  2  bad JSON, an unknown operator, a missing file, a text that SQLite cannot run: one line says which
+'''
+
+
+def whole(least, most):
+    def read(text):
+        if not text.isascii() or not text.isdigit() or len(text) > 12 or not least <= int(text) <= most:
+            raise argparse.ArgumentTypeError('a whole number from %d to %d is due' % (least, most))
+        return int(text)
+    return read
+
+
+def collation_name(text):
+    if not 1 <= len(text.encode('utf-8', 'surrogateescape')) <= 64:
+        raise argparse.ArgumentTypeError('a name of 1 to 64 letters is due')
+    return text
+
+
+def function_name(text):
+    if text in KNOWN:
+        raise argparse.ArgumentTypeError('%s is an operator' % text)
+    return text
+
+
+class Parser(argparse.ArgumentParser):
+    def error(self, message):
+        """One line, as for every other error."""
+        raise BadInput('%s (see ./filter --help)' % message)
+
+
+def parser():
+    p = Parser(prog='filter', usage='./filter FILTER [options]', description=ABOUT, epilog=MORE,
+               formatter_class=argparse.RawDescriptionHelpFormatter, allow_abbrev=False)
+    p.add_argument('filter', metavar='FILTER', help='a file, the JSON itself, or - for standard input')
+    p.add_argument('-g', '--geopackage', metavar='FILE', help='run the text on this GeoPackage and show the rows')
+    p.add_argument('-t', '--table', metavar='NAME', help='its table (may be left out if there is only one)')
+    p.add_argument('--rows', metavar='N', type=whole(0, 10 ** 9), default=40, help='show at most N rows (default 40; 0: all)')
+    p.add_argument('--spatialite', action='store_true', help='load SpatiaLite, for the s_ operators')
+    p.add_argument('--function', metavar='NAME', type=function_name, action='append', default=[],
+                   help='take NAME for a function of the database; may be repeated')
+    p.add_argument('--srid', metavar='N', type=whole(0, 2 ** 32 - 1), default=4326, help='reference system of written geometries (default 4326)')
+    p.add_argument('--precision', metavar='N', type=whole(0, 15), default=7, help='digits after the point of coordinates (default 7)')
+    p.add_argument('--ci', metavar='NAME', type=collation_name, default='CQL2_CI', help='collation that ignores letter case (default CQL2_CI)')
+    p.add_argument('--ai', metavar='NAME', type=collation_name, default='CQL2_AI', help='collation that ignores accents (default CQL2_AI)')
+    p.add_argument('--cai', metavar='NAME', type=collation_name, default='CQL2_CI_AI', help='collation that ignores both (default CQL2_CI_AI)')
+    return p
+
+
+def filter_bytes(source):
+    """What the argument names: standard input, the JSON itself, or a file."""
+    if source == '-':
+        return sys.stdin.buffer.read()
+    if source.lstrip()[:1] in ('{', '[', '"') or source.strip() in ('true', 'false', 'null'):
+        return source.encode('utf-8', 'surrogateescape')
+    try:
+        with open(source, 'rb') as f:
+            return f.read()
+    except (OSError, ValueError) as e:
+        raise BadInput('cannot read the filter %s: %s' % (source, getattr(e, 'strerror', None) or e))
+
+
+def check_columns(tree, package, name):
+    """SQLite would take a quoted name that is no column for a text, in silence."""
+    columns = package.columns(name)
+    known = {column.lower() for column in columns}
+    for node, _ in tree.walk():
+        if node.kind == records.ID and node.head.decode().lower() not in known:
+            raise BadInput('the table "%s" has no column %s; it has %s' % (name, node.head.decode(), ', '.join(columns)), node.place)
+
+
+def show_rows(package, name, sql, most):
+    cursor = package.select(name, sql)
+    try:
+        shown = cursor.fetchmany(most) if most else cursor.fetchall()
+        count = len(shown) + sum(1 for _ in cursor)
+    except sqlite3.Error as e:
+        raise BadInput('SQLite stopped: %s' % e)
+    if sys.stderr.isatty():
+        print('\r\033[K', end='', file=sys.stderr, flush=True)
+    for line in table.lines([d[0] for d in cursor.description], shown):
+        print(line)
+    if count > len(shown):
+        print('… %d more (--rows 0 shows all)' % (count - len(shown)))
+    print('%d of %d rows' % (count, package.count(name)))
+
+
+def run(arguments):
+    options = parser().parse_args(arguments)
+    tree = Encoder(options.precision, options.srid, options.function).filter(read_filter(filter_bytes(options.filter)))
+    collations = (options.ci, options.ai, options.cai)
+    package = GeoPackage(options.geopackage, collations, options.spatialite) if options.geopackage else None
+    name = package.table(options.table) if package else None
+    proved.build(['lower'])
+    sql = lowering.lower(records.settings(options.precision, *collations), tree)
+    if package:
+        check_columns(tree, package, name)
+    print(sql)
+    if package:
+        print()
+        show_rows(package, name, sql, options.rows)
+
+
+def main(arguments):
+    return guarded('filter', lambda: run(arguments))

@@ -1,0 +1,54 @@
+"""What can keep a command from its answer. Each is told to the user as one line, with an exit status, and never by a traceback."""
+import os
+import sqlite3
+import sys
+
+
+class BadInput(Exception):
+    """The filter, a file or an option is not what it should be: exit status 2."""
+
+    def __init__(self, message, place=None):
+        super().__init__(message if place is None else '%s: %s' % (place, message))
+
+
+class Refused(Exception):
+    """A filter that document 01 refuses, by the number and in words: exit status 1."""
+
+    def __init__(self, number, words, place=None):
+        where = '' if place is None else ' at ' + place
+        super().__init__('refused (%d)%s: %s' % (number, where, words))
+        self.number, self.place = number, place
+
+
+class Disagreement(Exception):
+    """The proved reader and SQLite say different things of a row: exit status 1."""
+
+
+def guarded(name, work):
+    """Does the work; gives the exit status."""
+    for stream in (sys.stdout, sys.stderr):
+        stream.reconfigure(errors='backslashreplace')
+    try:
+        work()
+        sys.stdout.flush()
+        return 0
+    except (Refused, Disagreement) as e:
+        return told(name, e, 1)
+    except (BadInput, sqlite3.Error) as e:
+        return told(name, e, 2)
+    except RecursionError:
+        return told(name, 'the filter nests too deeply to be read (document 01 allows 32 levels)', 2)
+    except MemoryError:
+        return told(name, 'there is not enough memory', 2)
+    except KeyboardInterrupt:
+        return told(name, 'stopped', 130)
+    except OSError as e:
+        # what is still to be written has nowhere to go, and must not be tried again at exit
+        os.dup2(os.open(os.devnull, os.O_WRONLY), sys.stdout.fileno())
+        # a reader that has enough is no error
+        return 0 if isinstance(e, BrokenPipeError) else told(name, e.strerror or e, 2)
+
+
+def told(name, message, status):
+    print('%s: %s' % (name, ' '.join(str(message).split())), file=sys.stderr)
+    return status

@@ -1,0 +1,62 @@
+"""The SQL text of a tree by the proved program, or its refusal in words with the place in the filter."""
+import re
+
+from . import proved, records
+from .encode import RULES
+from .errors import BadInput, Refused
+
+WORDS = {
+    1: 'a collation of the settings: %s' % RULES[records.ID],
+    2: 'the filter is longer than 32,768 bytes as records (it has %d)',
+    4: 'this lies deeper than 32 levels',
+    8: 'the SQL text would be longer than 65,535 bytes',
+}
+
+
+def refusal_of(line):
+    told = re.fullmatch(r'refused (\d+)', line)
+    return int(told.group(1)) if told else None
+
+
+def lower(settings, tree):
+    """The SQL text, or Refused."""
+    data = tree.encode()
+    line = proved.run('lower', [(settings, data)])[0]
+    number = refusal_of(line)
+    if number is None:
+        return line
+    if number in (6, 7):
+        raise explained(number, settings, tree)
+    if number not in WORDS:
+        raise BadInput('the proved program refused (%d) records that this command made: please report the filter' % number)
+    place = next((node.place for node, depth in tree.walk() if depth == 33), '$') if number == 4 else None
+    raise Refused(number, WORDS[number] % len(data) if number == 2 else WORDS[number], place)
+
+
+def explained(number, settings, tree):
+    """Which record it is: the program is asked about each by itself, in reading order, with Null in the place of what lies below.
+
+    For 7 a record keeps the shapes of its children, as that rule is about them; an Interval that is not the root is asked about as an operand."""
+    nodes = [node for node, _ in tree.walk()]
+    asked = []
+    for node in nodes:
+        bare = node.bare(0 if number == 6 else 1)
+        if number == 7 and node.kind == records.INTERVAL and node is not tree:
+            bare = records.dyadic('TEquals', node.place, bare, records.Node(records.NULL, node.place))
+        asked.append((settings, bare.encode()))
+    for node, line in zip(nodes, proved.run('lower', asked)):
+        if refusal_of(line) == number:
+            return Refused(number, *told(number, node))
+    return BadInput('the proved program refused (%d), and no part of the filter by itself: please report the filter' % number)
+
+
+def told(number, node):
+    """The words and the place for the record that breaks the rule."""
+    if number == 6:
+        return RULES[node.kind], node.place + ('.op' if node.kind == records.FUNCTION else '')
+    stray = [child for child in node.children if child.kind == records.INTERVAL]
+    name = records.OPERATORS[int.from_bytes(node.head[:2], 'little')] if node.kind == records.DYADIC else ''
+    if name.startswith('T'):
+        word = 't_' + name[1].lower() + name[2:]
+        return '%s takes an interval on both sides' % word, node.place
+    return 'an interval can only be an operand of a t_ operator', (stray or [node])[0].place

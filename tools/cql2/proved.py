@@ -1,0 +1,85 @@
+"""The proved programs `lower` and `read`: built by `rt` where that is needed, and run on many cases at once."""
+import os
+import re
+import shutil
+import struct
+import subprocess
+import sys
+import threading
+import time
+
+from .errors import BadInput
+
+ROOT = os.path.abspath(os.path.join(os.path.dirname(os.path.abspath(__file__)), '..', '..'))
+
+
+def path_of(name):
+    return os.path.join(ROOT, 'target', 'bin', name)
+
+
+def build(names):
+    """Has `rt` prove and build the programs. It proves only what changed: that is minutes after a fresh clone, and no time after that."""
+    if shutil.which('rt') is None:
+        if all(os.access(path_of(name), os.X_OK) for name in names):
+            return
+        raise BadInput('the proved program is not built, and `rt` of the Rattle kit is not on the PATH')
+    with subprocess.Popen(['rt', 'check', *names], cwd=ROOT, stdout=subprocess.PIPE, stderr=subprocess.STDOUT, text=True, errors='replace') as rt:
+        last = follow(rt.stdout, len(needed(names)))
+    if rt.returncode != 0:
+        raise BadInput('`rt check %s` failed: %s' % (' '.join(names), last))
+
+
+def needed(names):
+    """The crates of the repository that the programs rest on, themselves among them."""
+    with open(os.path.join(ROOT, 'crates.txt'), encoding='utf-8') as f:
+        lines = [line.split('#')[0].partition(':') for line in f]
+    uses = {name.strip(): rest.split() for name, colon, rest in lines if colon}
+    found, left = set(), list(names)
+    while left:
+        name = left.pop()
+        if name in uses and name not in found:
+            found.add(name)
+            left += uses[name]
+    return found
+
+
+def follow(output, total):
+    """Shows a line for each crate that is proved anew, and on a terminal how long it has been going; gives the last line."""
+    started, done, last = time.monotonic(), 0, 'it said nothing'
+    ended = threading.Event()
+    ticking = threading.Thread(target=tick, args=(started, ended), daemon=True)
+    ticking.start()
+    for line in output:
+        last = line.strip() or last
+        told = re.match(r'rt: (\w+) proved \((.*)\)', line)
+        done += told is not None
+        if told and 'unchanged' not in line:
+            clear = '\r\033[K' if sys.stderr.isatty() else ''
+            print('%sproved %2d of %d: %-10s %5s' % (clear, done, total, told.group(1), told.group(2)), file=sys.stderr, flush=True)
+    ended.set()
+    ticking.join()
+    return last
+
+
+def tick(started, ended):
+    """After three seconds says what is going on, as the first build takes minutes; on a terminal with the time."""
+    if ended.wait(3):
+        return
+    print('proving the programs (some minutes, the first time only)', file=sys.stderr, flush=True)
+    while sys.stderr.isatty() and not ended.wait(1):
+        print('\rproving, %d s ' % (time.monotonic() - started), end='', file=sys.stderr, flush=True)
+    if sys.stderr.isatty():
+        print('\r\033[K', end='', file=sys.stderr, flush=True)
+
+
+def run(name, cases):
+    """A line of answer for each case, which is a pair of byte strings."""
+    data = b''.join(struct.pack('<I', len(part)) + part for case in cases for part in case)
+    try:
+        done = subprocess.run([path_of(name)], input=data, stdout=subprocess.PIPE)
+    except OSError as e:
+        raise BadInput('cannot run %s: %s' % (path_of(name), e.strerror))
+    lines = done.stdout.decode('ascii').split('\n')
+    if done.returncode != 0 or len(lines) != len(cases) + 1 or lines[-1]:
+        raise BadInput('%s answered %d lines to %d cases (status %d)' % (path_of(name), len(lines) - 1, len(cases), done.returncode))
+    return lines[:-1]

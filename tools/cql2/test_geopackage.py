@@ -1,0 +1,182 @@
+"""Tests on real GeoPackages: the rows that filters pick against a Python evaluation by hand, the table, and the error lines about files."""
+import json
+import os
+import sqlite3
+import struct
+import subprocess
+import tempfile
+import unittest
+
+from demo import log
+
+from . import checking, geopackage, proved, table
+from .errors import Disagreement
+from .test_errors import run
+from .test_texts import interval, op, sql_of
+
+STAY = interval({'property': 'entry'}, {'property': 'exit'})
+LABEL, TRAY, ENTRY, EXIT = ({'property': name} for name in ('label', 'tray', 'entry', 'exit'))
+COLLATIONS = ('CQL2_CI', 'CQL2_AI', 'CQL2_CI_AI')
+WORDS = ['cup', 'CUP', 'Cup', 'cafe', 'café', 'CAFÉ', 'bowl']
+
+# A filter, and the same by hand on (label, tray, entry, exit); None in a comparison keeps the row out.
+PICKS = [
+    (op('t_during', STAY, interval('2026-03-09', '2026-03-14')), lambda l, t, a, b: a and b and a > '2026-03-09' and b < '2026-03-14'),
+    (op('t_disjoint', STAY, interval('2026-03-03', '2026-03-27')), lambda l, t, a, b: a and b and (b < '2026-03-03' or a > '2026-03-27')),
+    (op('t_intersects', STAY, {'date': '2026-03-16'}), lambda l, t, a, b: a and b and a <= '2026-03-16' <= b),
+    (op('t_before', EXIT, {'date': '2026-03-05'}), lambda l, t, a, b: b and b < '2026-03-05'),
+    (op('t_after', STAY, {'date': '2026-03-20'}), lambda l, t, a, b: a and b and a > '2026-03-20'),
+    (op('t_equals', ENTRY, EXIT), lambda l, t, a, b: a and a == b),
+    (op('t_meets', STAY, interval('2026-03-16', '2026-03-20')), lambda l, t, a, b: a and b == '2026-03-16'),
+    (op('t_starts', STAY, interval('2026-03-16', '2026-03-20')), lambda l, t, a, b: a == '2026-03-16' and b and b < '2026-03-20'),
+    (op('isNull', EXIT), lambda l, t, a, b: b is None),
+    (op('not', op('isNull', EXIT)), lambda l, t, a, b: b is not None),
+    (op('and', op('=', LABEL, 'cup'), op('<>', TRAY, 'left')), lambda l, t, a, b: l == 'cup' and t is not None and t != 'left'),
+    (op('not', op('=', TRAY, 'left')), lambda l, t, a, b: t is not None and t != 'left'),
+    (op('or', op('<', ENTRY, {'date': '2026-03-03'}), op('>=', EXIT, {'date': '2026-04-01'})),
+     lambda l, t, a, b: a and a < '2026-03-03' or b and b >= '2026-04-01'),
+    (op('in', LABEL, ['cup', 'bowl']), lambda l, t, a, b: l in ('cup', 'bowl')),
+    (op('like', LABEL, '%u%'), lambda l, t, a, b: 'u' in l),
+    (op('between', {'property': 'fid'}, 10, 20), None),
+    (True, lambda l, t, a, b: True),
+    (False, lambda l, t, a, b: False),
+]
+
+
+class Rows(unittest.TestCase):
+    @classmethod
+    def setUpClass(cls):
+        proved.build(['lower', 'read'])
+        cls.folder = tempfile.TemporaryDirectory()
+        cls.path = os.path.join(cls.folder.name, 'stays ?#%.gpkg')
+        log.make(cls.path)
+        cls.package = geopackage.GeoPackage(cls.path, COLLATIONS)
+
+    @classmethod
+    def tearDownClass(cls):
+        cls.package.connection.close()
+        cls.folder.cleanup()
+
+    def other(self, name, *statements):
+        """A GeoPackage like the first, changed."""
+        path = os.path.join(self.folder.name, name)
+        log.make(path)
+        connection = sqlite3.connect(path)
+        with connection:
+            for statement in statements:
+                connection.execute(statement)
+        connection.close()
+        return path
+
+    def line(self, *arguments, status=2):
+        done = run(*arguments)
+        self.assertEqual(done.returncode, status, done.stderr)
+        self.assertEqual(done.stderr.decode().count('\n'), 1, done.stderr)
+        return done.stderr.decode().strip()
+
+    def test_rows_as_picked_by_hand(self):
+        rows = self.package.select('stays', 'TRUE').fetchall()
+        for data, picks in PICKS:
+            with self.subTest(data):
+                found = [row[0] for row in self.package.select('stays', sql_of(data))]
+                self.assertEqual(found, [row[0] for row in rows if (picks(*row[1:5]) if picks else 10 <= row[0] <= 20)])
+
+    def test_the_log_has_what_the_filters_ask_about(self):
+        rows = self.package.select('stays', 'TRUE').fetchall()
+        self.assertEqual(len(rows), 200)
+        self.assertTrue(any(row[4] is None for row in rows) and any(row[3] is None for row in rows) and any(row[2] is None for row in rows))
+
+    def test_reader_and_sqlite_agree(self):
+        for data, _ in PICKS[:13]:
+            with self.subTest(data):
+                self.assertEqual(sum(checking.check(self.package, 'stays', sql_of(data)).values()), 200)
+
+    def test_a_disagreement_is_seen(self):
+        """SQLite takes a quoted name that is no column for a text; the reader refuses it."""
+        with self.assertRaisesRegex(Disagreement, 'row 1 .*: the proved reader says refused 13, SQLite says true and selects it'):
+            checking.check(self.package, 'stays', '"zz" IS NOT NULL')
+
+    def test_collations(self):
+        path = self.other('words.gpkg', 'DELETE FROM stays', *["INSERT INTO stays (label) VALUES ('%s')" % word for word in WORDS])
+        package = geopackage.GeoPackage(path, COLLATIONS)
+        # the pattern or value must be ASCII, so accents can only be on the column's side
+        for data, want in ((op('=', op('casei', LABEL), op('casei', 'cUP')), ['cup', 'CUP', 'Cup']),
+                           (op('=', op('accenti', LABEL), op('accenti', 'cafe')), ['cafe', 'café']),
+                           (op('=', op('casei', op('accenti', LABEL)), op('casei', op('accenti', 'CAFE'))), ['cafe', 'café', 'CAFÉ']),
+                           (op('=', LABEL, 'cafe'), ['cafe'])):
+            self.assertEqual([row[1] for row in package.select('stays', sql_of(data))], want)
+        package.connection.close()
+
+    def test_table(self):
+        done = run(json.dumps(op('=', {'property': 'fid'}, 1)), '--geopackage', self.path, '--table', 'stays')
+        self.assertEqual(done.stdout.decode(), '''fid = 1
+
+fid  label  tray    entry       exit        place
+---  -----  ------  ----------  ----------  -----------------
+  1  bolt   middle  2026-03-04  2026-03-05  POINT (1.07 0.37)
+1 of 200 rows
+''')
+
+    def test_rows_that_are_not_shown_are_counted(self):
+        lines = run('true', '--geopackage', self.path, '--rows', '3').stdout.decode().splitlines()
+        self.assertEqual(lines[-2:], ['… 197 more (--rows 0 shows all)', '200 of 200 rows'])
+        self.assertEqual(len(run('true', '--geopackage', self.path, '--rows', '0').stdout.decode().splitlines()), 205)
+
+    def test_cells(self):
+        self.assertEqual([table.cell(x) for x in (None, 7, 1.5, b'abc', log.point(0.5, 2), 'x' * 40, 'a\nb\x1b', '漢' * 20)],
+                         ['NULL', '7', '1.5', '3 bytes', 'POINT (0.5 2)', 'x' * 31 + '…', 'a\\nb\\x1b', '漢' * 15 + '…'])
+        self.assertEqual(list(table.lines(['a', 'b'], [('漢', 1), ('x', 22)])), ['a    b', '--  --', '漢   1', 'x   22'])
+
+    def test_files(self):
+        self.assertEqual(self.line('true', '-g', 'no.gpkg'), 'filter: cannot read no.gpkg: No such file or directory')
+        self.assertEqual(self.line('true', '-g', '/'), 'filter: cannot read /: Is a directory')
+        self.assertEqual(self.line('true', '-g', __file__), 'filter: %s is no GeoPackage: it is no SQLite file' % __file__)
+        path = self.other('id.gpkg', 'PRAGMA application_id = 1')
+        self.assertEqual(self.line('true', '-g', path), 'filter: %s is no GeoPackage: its application_id is another' % path)
+        path = self.other('contents.gpkg', 'DROP TABLE gpkg_contents')
+        self.assertEqual(self.line('true', '-g', path), 'filter: %s is no GeoPackage: it has no table gpkg_contents' % path)
+        path = self.other('cut.gpkg')
+        with open(path, 'r+b') as f:
+            f.truncate(5000)
+        self.assertIn('malformed', self.line('true', '-g', path))
+
+    def test_tables(self):
+        self.assertEqual(self.line('true', '-g', self.path, '-t', 'nights'),
+                         'filter: %s has no table "nights"; it has stays' % self.path)
+        two = self.other('two.gpkg', "INSERT INTO gpkg_contents (table_name, data_type) VALUES ('nights', 'attributes')")
+        self.assertEqual(self.line('true', '-g', two), 'filter: %s has the tables nights, stays; name one with --table' % two)
+        self.assertEqual(self.line('true', '-g', two, '-t', 'nights'), 'filter: %s lists a table "nights" that is not there' % two)
+        none = self.other('none.gpkg', 'DELETE FROM gpkg_contents')
+        self.assertEqual(self.line('true', '-g', none), 'filter: %s has no table of features or attributes; name one with --table' % none)
+
+    def test_texts_that_sqlite_cannot_run(self):
+        cannot = 'filter: SQLite cannot run this text: '
+        self.assertEqual(self.line(json.dumps(op('isNull', {'property': 'zz'})), '-g', self.path),
+                         'filter: $.args[0].property: the table "stays" has no column zz; it has fid, label, tray, entry, exit, place')
+        self.assertEqual(self.line(json.dumps(op('s_intersects', LABEL, {'bbox': [1, 2, 3, 4]})), '-g', self.path),
+                         cannot + 'spatial functions need SpatiaLite (--spatialite)')
+        self.assertEqual(self.line(json.dumps(op('=', LABEL, op('^', 2, 3))), '-g', self.path), cannot + 'unrecognized token: "^"')
+        self.assertEqual(self.line(json.dumps(op('in', LABEL, [TRAY, 'x'])), '-g', self.path), cannot + 'row value misused')
+        self.assertEqual(self.line(json.dumps(op('f', LABEL)), '--function', 'f', '-g', self.path), cannot + 'no such function: f')
+
+    def test_broken_pipe(self):
+        command = "%s true -g '%s' --rows 0 | head -n 1" % (os.path.join(proved.ROOT, 'filter'), self.path)
+        done = subprocess.run(command, shell=True, capture_output=True)
+        self.assertEqual((done.stdout, done.stderr), (b'TRUE\n', b''))
+
+    def test_spatialite(self):
+        if not hasattr(self.package.connection, 'enable_load_extension'):
+            self.assertIn('this Python cannot load SQLite extensions', self.line('true', '-g', self.path, '--spatialite'))
+            return
+        box = op('s_intersects', {'property': 'place'}, {'bbox': [0, 0, 0.5, 0.25]})
+        done = run(json.dumps(box), '-g', self.path, '--spatialite', '--rows', '0')
+        if done.stderr:
+            self.assertEqual(done.stderr, b'filter: SpatiaLite is not there: apt-get install -y libsqlite3-mod-spatialite\n')
+            return
+        places = [struct.unpack('<dd', row[5][13:]) for row in self.package.select('stays', 'TRUE')]
+        inside = sum(x <= 0.5 and y <= 0.25 for x, y in places)
+        self.assertEqual(done.stdout.decode().splitlines()[-1], '%d of 200 rows' % inside)
+
+
+if __name__ == '__main__':
+    unittest.main()

@@ -1,0 +1,246 @@
+"""Tests of the texts: every operator and kind of value, by hand, against the independent reference of tools/lowering, and against the Rust.
+
+  python3 -m unittest discover -s tools                 all tests of the command and of the programs
+  ORACLE=FILE python3 -m unittest discover -s tools     also compares every text with that of the oracle program FILE"""
+import json
+import os
+import struct
+import subprocess
+import sys
+import tempfile
+import unittest
+
+sys.path.insert(0, os.path.join(os.path.dirname(os.path.abspath(__file__)), '..', 'lowering'))
+import lowering as reference
+
+from . import lowering, proved, records
+from .encode import KNOWN, Encoder
+from .reading import read_filter
+
+SETTINGS = (7, 'CQL2_CI', 'CQL2_AI', 'CQL2_CI_AI')
+A, B, C, D = ({'property': name} for name in 'abcd')
+DAY, LATER = {'date': '2024-02-29'}, {'timestamp': '2024-03-01T23:59:58Z'}
+
+
+def op(name, *args):
+    return {'op': name, 'args': list(args)}
+
+
+def interval(*ends):
+    return {'interval': list(ends)}
+
+
+def point(*numbers):
+    return {'type': 'Point', 'coordinates': list(numbers)}
+
+
+AB, CD = interval(A, B), interval(C, D)
+TEXTS = [    # a filter, and its text written by hand from src/ds/gpkg.rs
+    (op('=', A, 1), 'a = 1'),
+    (op('<>', A, 'x'), "a <> 'x'"),
+    (op('<', A, DAY), "a < '2024-02-29'"),
+    (op('>', A, LATER), "a > '2024-03-01T23:59:58'"),
+    (op('<=', A, True), 'a <= TRUE'),
+    (op('>=', A, B), 'a >= b'),
+    (op('=', A, None), 'a = (NULL)'),
+    (op('and', A, B), 'a AND b'),
+    (op('or', op('=', A, 1), B), '(a = 1) OR b'),
+    (op('and', A, B, C), '(a AND b) AND c'),
+    (op('and', A, B, C, D), '(a AND b) AND (c AND d)'),
+    (op('not', A), 'NOT a'),
+    (op('not', op('isNull', A)), 'NOT (a IS NULL)'),
+    (op('isNull', op('+', A, 1)), '(a + 1) IS NULL'),
+    (op('like', A, 'x%'), "a LIKE ('x%')"),
+    (op('like', op('casei', A), op('casei', 'x%')), "(a COLLATE CQL2_CI) LIKE ('x%' COLLATE CQL2_CI)"),
+    (op('between', A, 1, op('+', B, 2)), 'a BETWEEN 1 AND b + 2'),
+    (op('in', A, [1, 2]), 'a IN (1, 2)'),
+    (op('in', A, [B, 2]), 'a IN ((b, 2))'),
+    (op('in', A, []), 'a IN ()'),
+    (op('=', op('casei', A), op('casei', 'X')), "(a COLLATE CQL2_CI) = 'X' COLLATE CQL2_CI"),
+    (op('=', op('accenti', A), op('accenti', 'X')), "(a COLLATE CQL2_AI) = 'X' COLLATE CQL2_AI"),
+    (op('=', op('casei', op('accenti', A)), op('accenti', op('casei', 'X'))), "(a COLLATE CQL2_CI_AI) = 'X' COLLATE CQL2_CI_AI"),
+    (op('=', A, op('+', 1, 2)), 'a = (1 + 2)'),
+    (op('=', A, op('-', B, 2)), 'a = (b - 2)'),
+    (op('=', A, op('*', -1, B)), 'a = (-1 * b)'),
+    (op('=', A, op('/', B, 2)), 'a = (b / 2)'),
+    (op('=', A, op('div', B, 2)), 'a = (b div 2)'),
+    (op('=', A, op('%', B, 2)), 'a = (b % 2)'),
+    (op('=', A, op('^', B, op('+', 1, C))), 'a = (b ^ (1 + c))'),
+    (op('s_intersects', A, point(1, 2)), "ST_Intersects(a, ST_GeomFromText('POINT (1 2)', 4326))"),
+    (op('s_equals', A, B), 'ST_Equals(a, b)'),
+    (op('s_disjoint', A, B), 'ST_Disjoint(a, b)'),
+    (op('s_touches', A, point(1, 2)), "ST_Touches(ST_ReducePrecision(a, 1E-7), ST_GeomFromText('POINT (1 2)', 4326))"),
+    (op('s_within', point(1, 2), A), "ST_Within(ST_GeomFromText('POINT (1 2)', 4326), ST_ReducePrecision(a, 1E-7))"),
+    (op('s_overlaps', A, B), 'ST_Overlaps(a, b)'),
+    (op('s_crosses', A, B), 'ST_Crosses(a, b)'),
+    (op('s_contains', A, B), 'ST_Contains(a, b)'),
+    (op('t_after', A, DAY), "a > '2024-02-29'"),
+    (op('t_after', AB, CD), '"b" IS NOT NULL AND "c" NOT NULL AND (a > d)'),
+    (op('t_before', AB, interval('2024-02-29', '..')), '"a" IS NOT NULL AND (b < \'2024-02-29\')'),
+    (op('t_contains', AB, CD), '(a < c) AND (b > d)'),
+    (op('t_disjoint', A, interval(B, C)), '("c" IS NOT NULL AND (a < b)) OR ("b" IS NOT NULL AND (a > c))'),
+    (op('t_disjoint', A, B), 'a != b'),
+    (op('t_during', AB, interval('..', '2024-03-01T00:00:00Z')), "(a > '-2021-01-01') AND (b < '2024-03-01T00:00:00')"),
+    (op('t_equals', A, CD), '(a = c) AND (a = d)'),
+    (op('t_finishedBy', AB, CD), '(a < c) AND (b = d)'),
+    (op('t_finishes', AB, CD), '(a > c) AND (b = d)'),
+    (op('t_intersects', DAY, interval('..', C)), "NOT(('2024-02-29' < '-2021-01-01') OR ('2024-02-29' > c))"),
+    (op('t_meets', AB, CD), '"a" IS NOT NULL AND "d" NOT NULL AND (b = c)'),
+    (op('t_metBy', AB, CD), '"b" IS NOT NULL AND "c" NOT NULL AND (a = d)'),
+    (op('t_overlappedBy', AB, CD), '(a > c) AND (a < d) AND (b > d)'),
+    (op('t_overlaps', AB, CD), '(a < c) AND (b > c) AND (b < d)'),
+    (op('t_startedBy', AB, CD), '(a = c) AND (b > d)'),
+    (op('t_starts', AB, CD), '(a = c) AND (b < d)'),
+    (op('a_equals', A, [1, 'x']), "a = (1, 'x')"),
+    (op('a_contains', [1, [2, B]], A), '(1, (2, b)) @> a'),
+    (op('a_containedBy', A, B), 'a <@ b'),
+    (op('a_overlaps', A, [True, DAY]), "a && (TRUE, '2024-02-29')"),
+    (op('f', A, [1], DAY, op('=', B, 1)), "f(a, (1), '2024-02-29', b = 1)"),
+    (op('f'), 'f()'),
+    (op('=', A, op('f', op('f'))), 'a = (f(f()))'),
+    (True, 'TRUE'), (False, 'FALSE'), (None, 'NULL'), (A, 'a'),
+]
+
+NUMBERS = [('0', '0'), ('-0', '0'), ('-0.0', '0'), ('1.50', '1.5'), ('1e3', '1000'), ('1.5E-3', '0.0015'), ('-12.25e1', '-122.5'), ('1E+2', '100'),
+           ('999999999999999', '999999999999999'), ('-999999999999999', '-999999999999999'), ('0.000000001', '0.000000001'), ('0e99999999999', '0'),
+           ('100000000000000e-9', '100000'), ('0.1000000000000000000000', '0.1')]
+
+SQUARE = [[0, 0], [1, 0], [1, 1], [0, 0]]
+GEOMETRIES = [
+    (point(1.5, -2), 'POINT (1.5 -2)'), (point(1, 2, 3), 'POINT Z (1 2 3)'),
+    ({'type': 'LineString', 'coordinates': [[0, 0], [1e2, 0.00000004]]}, 'LINESTRING (0 0, 100 0)'),
+    ({'type': 'Polygon', 'coordinates': [SQUARE, SQUARE]}, 'POLYGON ((0 0, 1 0, 1 1, 0 0), (0 0, 1 0, 1 1, 0 0))'),
+    ({'type': 'MultiPoint', 'coordinates': [[1, 2], [3, 4]]}, 'MULTIPOINT ((1 2), (3 4))'),
+    ({'type': 'MultiLineString', 'coordinates': [[[1, 2], [3, 4]]]}, 'MULTILINESTRING ((1 2, 3 4))'),
+    ({'type': 'MultiPolygon', 'coordinates': [[SQUARE]]}, 'MULTIPOLYGON (((0 0, 1 0, 1 1, 0 0)))'),
+    ({'type': 'GeometryCollection', 'geometries': [point(1, 2), {'type': 'LineString', 'coordinates': [[1, 2], [3, 4]]}]},
+     'GEOMETRYCOLLECTION (POINT (1 2), LINESTRING (1 2, 3 4))'),
+    ({'bbox': [1, 2, 3, 4]}, 'POLYGON ((1 2, 3 2, 3 4, 1 4, 1 2))'),
+    ({'bbox': [1, 2, -9, 3, 4, 9]}, 'POLYGON ((1 2, 3 2, 3 4, 1 4, 1 2))'),
+    ({'bbox': [170, -1, -170, 1]}, 'MULTIPOLYGON (((170 -1, 180 -1, 180 1, 170 1, 170 -1)), ((-180 -1, -170 -1, -170 1, -180 1, -180 -1)))'),
+    (point(0.12345675, -0.99999999), 'POINT (0.1234568 -1)'), (point(-0.00000001, 5e-400 or 0), 'POINT (0 0)'),
+]
+
+# Examples in the manner of those that OGC 21-065r2 comes with.
+STANDARD = [
+    (op('<', op('f', {'property': 'windSpeed'}), 4), '(f(windSpeed)) < 4'),
+    (op('not', op('isNull', {'property': 'geometry'})), 'NOT (geometry IS NULL)'),
+    (op('like', {'property': 'name'}, 'Smith%'), "name LIKE ('Smith%')"),
+    (op('between', {'property': 'depth'}, 100.0, 150.0), 'depth BETWEEN 100 AND 150'),
+    (op('in', {'property': 'cityName'}, ['Toronto', 'Frankfurt', 'Tokyo', 'New York']), "cityName IN ('Toronto', 'Frankfurt', 'Tokyo', 'New York')"),
+    (op('in', {'property': 'category'}, [1, 2, 3, 4]), 'category IN (1, 2, 3, 4)'),
+    (op('s_intersects', {'property': 'geometry'}, point(36.319836, 32.288087)),
+     "ST_Intersects(geometry, ST_GeomFromText('POINT (36.319836 32.288087)', 4326))"),
+    (op('t_intersects', {'property': 'event_time'}, interval('1969-07-16T05:32:00Z', '1969-07-24T16:50:35Z')),
+     "NOT((event_time < '1969-07-16T05:32:00') OR (event_time > '1969-07-24T16:50:35'))"),
+    (op('t_during', interval({'property': 'touchdown'}, {'property': 'liftOff'}), interval('1969-07-16T13:32:00Z', '1969-07-24T16:50:35Z')),
+     "(touchdown > '1969-07-16T13:32:00') AND (liftOff < '1969-07-24T16:50:35')"),
+    (op('t_before', {'property': 'updated_at'}, {'timestamp': '2012-08-10T05:30:00.000000Z'}), "updated_at < '2012-08-10T05:30:00'"),
+    (op('>', {'property': 'vehicle_height'}, op('-', {'property': 'bridge_clearance'}, 1)), 'vehicle_height > (bridge_clearance - 1)'),
+    (op('and', op('=', {'property': 'collection'}, 'landsat8_l1tp'), op('<=', {'property': 'cloud_cover'}, 10),
+        op('>=', {'property': 'datetime'}, {'timestamp': '2021-04-08T04:39:23Z'})),
+     "((collection = 'landsat8_l1tp') AND (cloud_cover <= 10)) AND (datetime >= '2021-04-08T04:39:23')"),
+    (op('a_contains', {'property': 'ids'}, ['layers-ca', 'layers-us']), "ids @> ('layers-ca', 'layers-us')"),
+    (op('=', {'property': 'swimming_pool'}, True), 'swimming_pool = TRUE'),
+]
+
+
+def tree_of(data, functions=('f',)):
+    return Encoder(7, 4326, functions).filter(read_filter(data if isinstance(data, bytes) else json.dumps(data).encode()))
+
+
+def sql_of(data):
+    return lowering.lower(records.settings(*SETTINGS), tree_of(data))
+
+
+def decoded(data):
+    """The reference's tree of a record, and the bytes behind it."""
+    size, kind = struct.unpack_from('<IH', data)
+    body, rest = data[6:4 + size], data[4 + size:]
+    names = 'null unbounded bool num str date timestamp spatial id monadic dyadic function array interval'.split()
+    name = names[kind]
+    form = {'bool': '<?', 'num': '<qB', 'date': '<HBB', 'timestamp': '<HBBBBB'}.get(name)
+    if form:
+        return (name, *struct.unpack(form, body)), rest
+    if name in ('null', 'unbounded'):
+        return (name,), rest
+    if name in ('str', 'spatial', 'id'):
+        skip = {'str': 1, 'spatial': 4, 'id': 0}[name]
+        head = (int.from_bytes(body[:skip], 'little'),) if skip else ()
+        return (name, *head, body[skip:].decode()), rest
+    skip = {'monadic': 2, 'dyadic': 2, 'function': 1 + (body[0] if body else 0)}.get(name, 0)
+    children, left = [], body[skip:]
+    while left:
+        child, left = decoded(left)
+        children.append(child)
+    if name in ('monadic', 'dyadic'):
+        return (name, reference.NAMES[int.from_bytes(body[:2], 'little')], *children), rest
+    if name == 'interval':
+        return (name, *children), rest
+    return ((name, body[1:skip].decode(), children) if name == 'function' else (name, children)), rest
+
+
+class Texts(unittest.TestCase):
+    @classmethod
+    def setUpClass(cls):
+        proved.build(['lower', 'read'])
+
+    def cases(self):
+        yield from TEXTS + STANDARD
+        for text, shown in NUMBERS:
+            yield b'{"op": "=", "args": [{"property": "a"}, %s]}' % text.encode(), 'a = ' + shown
+        for geometry, wkt in GEOMETRIES:
+            yield op('s_crosses', geometry, A), "ST_Crosses(ST_GeomFromText('%s', 4326), a)" % wkt
+
+    def test_texts_as_written_by_hand(self):
+        for data, text in self.cases():
+            with self.subTest(data):
+                self.assertEqual(sql_of(data), text)
+
+    def test_every_operator_is_there(self):
+        used = set()
+
+        def look(value):
+            if isinstance(value, dict):
+                used.add(value.get('op'))
+            for x in value.values() if isinstance(value, dict) else value if isinstance(value, list) else ():
+                look(x)
+        for data, _ in TEXTS:
+            look(data)
+        self.assertEqual(set(KNOWN) - used, set())
+
+    def test_texts_of_the_reference(self):
+        for data, text in self.cases():
+            with self.subTest(data):
+                encoded = tree_of(data).encode()
+                tree, rest = decoded(encoded)
+                self.assertEqual((rest, reference.encode(tree)), (b'', encoded))
+                self.assertEqual(reference.text(SETTINGS, tree), text)
+
+    @unittest.skipUnless(os.environ.get('ORACLE'), 'ORACLE names no program')
+    def test_texts_of_the_rust(self):
+        cases = list(self.cases())
+        with tempfile.TemporaryDirectory() as folder:
+            asked, told = os.path.join(folder, 'cases'), os.path.join(folder, 'answers')
+            with open(asked, 'wb') as f:
+                for data, _ in cases:
+                    for part in (records.settings(*SETTINGS), tree_of(data).encode()):
+                        f.write(struct.pack('<I', len(part)) + part)
+            subprocess.run([os.environ['ORACLE'], 'lower', asked, told], check=True)
+            with open(told, 'rb') as f:
+                answers = f.read()
+        at = 0
+        for data, text in cases:
+            size = int.from_bytes(answers[at + 1:at + 5], 'little')
+            with self.subTest(data):
+                self.assertEqual(answers[at:at + 1] + answers[at + 5:at + 5 + size], b'T' + text.encode())
+            at += 5 + size
+
+    def test_many_conditions_are_not_deep(self):
+        text = sql_of(op('or', *[op('=', A, k) for k in range(300)]))
+        self.assertEqual(text.count(' OR '), 299)
+        self.assertTrue(all('(a = %d)' % k in text for k in range(300)))
+
+
+if __name__ == '__main__':
+    unittest.main()

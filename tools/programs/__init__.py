@@ -1,0 +1,1 @@
+"""The cases that the gate runs the programs on, and tests of the programs."""

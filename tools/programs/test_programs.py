@@ -1,0 +1,85 @@
+"""Tests of the programs `lower` and `read` as they stand on standard input: cut input, lengths that lie, slow pipes, long runs.
+
+  python3 -m unittest discover -s tools     all tests of the command and of the programs"""
+import os
+import random
+import struct
+import subprocess
+import sys
+import unittest
+
+TOOLS = os.path.join(os.path.dirname(os.path.abspath(__file__)), '..')
+sys.path[:0] = [TOOLS, os.path.join(TOOLS, 'texts')]
+import reference
+
+from cql2 import proved
+from programs.make import LOWER, NULL, READ, ROW_N, SETTINGS, SHEET_J, TEXT_J, column, framed
+
+
+def answers(name, data):
+    return subprocess.run([proved.path_of(name)], input=data, capture_output=True, check=True, timeout=60).stdout.decode().split('\n')[:-1]
+
+
+class Programs(unittest.TestCase):
+    @classmethod
+    def setUpClass(cls):
+        proved.build(['lower', 'read'])
+
+    def test_no_input_no_answer(self):
+        for name in ('lower', 'read'):
+            self.assertEqual(answers(name, b''), [])
+
+    def test_each_cut_of_a_case_is_told(self):
+        for name, case in (('lower', framed(SETTINGS, SHEET_J)), ('read', framed(TEXT_J, ROW_N))):
+            for n in range(1, len(case)):
+                self.assertEqual(answers(name, case[:n]), ['incomplete'], n)
+            self.assertNotEqual(answers(name, case), ['incomplete'])
+
+    def test_a_length_that_promises_too_much(self):
+        for name in ('lower', 'read'):
+            for n in (100, 65536, 65537, 2 ** 31, 2 ** 32 - 1):
+                self.assertEqual(answers(name, struct.pack('<I', n) + b'x' * 99), ['incomplete'])
+
+    def test_lengths_about_the_buffer(self):
+        for n in (32768, 32769, 65535, 65536, 65537, 131071, 131072, 131073, 200000):
+            number = 3 if n <= 32768 else 2
+            self.assertEqual(answers('lower', framed(SETTINGS, bytes(n)) + framed(bytes(n), NULL) + framed(SETTINGS, NULL)),
+                             ['refused %d' % number, 'refused 1', 'NULL'])
+            text = 'true' if n <= 65535 else 'refused 10'
+            row = 'refused 11' if n <= 32768 else 'refused 10'
+            self.assertEqual(answers('read', framed(b'TRUE'.rjust(n), b'') + framed(b'TRUE', bytes(n)) + framed(b'FALSE', b'')), [text, row, 'false'])
+
+    def test_a_long_run(self):
+        self.assertEqual(answers('lower', framed(SETTINGS, SHEET_J) * 20000), [TEXT_J.decode()] * 20000)
+        self.assertEqual(answers('read', framed(TEXT_J, ROW_N) * 20000), ['unknown'] * 20000)
+
+    def test_a_slow_pipe(self):
+        for name, cases in (('lower', LOWER[:1] + LOWER[4:]), ('read', READ[:5] + READ[9:])):
+            process = subprocess.Popen([proved.path_of(name)], stdin=subprocess.PIPE, stdout=subprocess.PIPE)
+            for byte in b''.join(case for case, _ in cases):
+                process.stdin.write(bytes([byte]))
+                process.stdin.flush()
+            told = process.communicate()[0].decode().split('\n')[:-1]
+            self.assertEqual(told, [line for _, line in cases])
+
+    def test_readings_of_the_reference(self):
+        r = random.Random(7)
+        atoms = lambda: r.choice((b'a', b'"b"', b'c', b"'2024-01-01'", b"'x'", b'NULL', b'zz', b'1'))
+        def text(depth):
+            if depth == 0 or r.random() < .3:
+                return r.choice((b'TRUE', b'FALSE', b'NULL', b'a IS NULL', b'"b" NOT NULL', b'c IS NOT NULL',
+                                 atoms() + r.choice((b'<', b' > ', b'<=', b'>=', b'=', b'<>', b' != ')) + atoms()))
+            return r.choice((lambda: b'NOT ' + text(depth - 1), lambda: b'(' + text(depth - 1) + b')',
+                             lambda: text(depth - 1) + b' AND ' + text(depth - 1), lambda: text(depth - 1) + b' or ' + text(depth - 1)))()
+        value = lambda: r.choice((None, b'', b'x', b'2024-01-01', b'2024-01-02'))
+        cases = [(text(r.randrange(6)), b''.join(column(n, value()) for n in (b'a', b'b', b'c')[:r.choice((3, 3, 3, 2))])) for _ in range(5000)]
+        told = answers('read', b''.join(framed(*case) for case in cases))
+        for case, line in zip(cases, told):
+            want = reference.read(*case)
+            self.assertEqual(line, want if isinstance(want, str) else 'refused %d' % want, case)
+        self.assertEqual(len(told), len(cases))
+        self.assertTrue(set(told) >= {'true', 'false', 'unknown', 'refused 12', 'refused 13'})
+
+
+if __name__ == '__main__':
+    unittest.main()
