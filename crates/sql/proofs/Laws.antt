@@ -1,7 +1,7 @@
 -- A run of bytes that grows by one, and a text laid behind what a template holds.
 use mathlib.Core.Path.{_≡_, refl, ap, sym, _∙_}
 use mathlib.Core.List.{List, [], _∷_, _++_, append-assoc}
-use Prim.Native.Nat.{ℕ, zero, suc, _+_, _-_, _≤_, _<_, min}
+use Prim.Native.Nat.{ℕ, suc, _+_, _-_, _≤_, _<_, min}
 use mathlib.Core.Logic.{⊎-elim}
 use native.Mathlib.Nat.{eq-zero-or-pos}
 use native.Mathlib.Numerals.{add-one}
@@ -11,6 +11,7 @@ use lib.Seq.{take-suc, take-suc-set, take-all}
 use mathlib.Core.Bool.{Bool, true, false}
 use Rattle.choice.specs.Choice.{pick}
 use Rattle.sql.specs.Condition.{Cond, and, or, isNotNull, notNull, brackets, print, checkId, checkIds}
+use Rattle.sql.specs.TemplateLaws.{digit-part}
 use Rattle.sql.specs.Template.{templateOf, spelt, partOf, parts, guardedText, guardedBothText, checkIdText, checkIdsText, eitherText}
 
 pub grow : (b b₀ s : List ℕ) (n k : ℕ) → n + k < length b → k < length s → take (n + k) b ≡ take n b₀ ++ take k s
@@ -25,21 +26,6 @@ grow b b₀ s n k h l e =
 -- bytes pushed behind what is known
 pub then : {x y z : List ℕ} (c : List ℕ) → x ≡ y ++ c → y ≡ z → x ≡ z ++ c
 then c p q = p ∙ ap (λ (l : List ℕ). l ++ c) q
-
--- codes one behind the other
-pub spelt-append : (a b : List ℕ) → spelt (a ++ b) ≡ spelt a ++ spelt b
-unfolding spelt
-spelt-append [] b = refl
-spelt-append (x ∷ a) b = ap (λ (l : List ℕ). partOf x ++ l) (spelt-append a b) ∙ sym (append-assoc (partOf x) (spelt a) (spelt b))
-
--- an end's code is its digit
-pub digit-part : (i : ℕ) → i < 4 → partOf i ≡ (48 + i) ∷ []
-unfolding partOf parts
-digit-part zero h = refl
-digit-part (suc zero) h = refl
-digit-part (suc (suc zero)) h = refl
-digit-part (suc (suc (suc zero))) h = refl
-digit-part (suc (suc (suc (suc i)))) h = absurd (let v : ⊥ = omega arith in v)
 
 -- the front of a guard, of one column and of two
 pub one-front : (i : ℕ) → i < 4 → spelt (23 ∷ i ∷ 24 ∷ []) ≡ 34 ∷ (48 + i) ∷ 34 ∷ 32 ∷ 73 ∷ 83 ∷ 32 ∷ 78 ∷ 79 ∷ 84 ∷ 32 ∷ 78 ∷ 85 ∷ 76 ∷ 76 ∷ 32 ∷ 65 ∷ 78 ∷ 68 ∷ 32 ∷ 40 ∷ []

@@ -7,7 +7,8 @@ use Prim.Native.Nat.{ℕ, _+_, _-_, _≤_}
 use native.Mathlib.Nat.{add-zero}
 use lib.ListN.{getD, length, take, set, length-set}
 use lib.Seq.{take-all}
-use Rattle.sql.proofs.Laws.{grow, spelt-append}
+use Rattle.sql.proofs.Laws.{grow}
+use Rattle.sql.specs.TemplateLaws.{spelt-append}
 use Rattle.sql.specs.Template.{spelt}
 use Rattle.sql.proofs.push.Statement.{statement}
 use Rattle.sql.proofs.push.Tie as tie

@@ -1,6 +1,6 @@
 use native.Mathlib.Omega.{arith}
 use mathlib.Core.Path.{_≡_, refl, ap, sym, _∙_}
-use Rattle.sql.proofs.Laws.{then, spelt-append, digit-part, one-guard, two-guards, either-or}
+use Rattle.sql.proofs.Laws.{then, one-guard, two-guards, either-or}
 use Rattle.sql.specs.Ends.{isColumn, columns}
 use Rattle.sql.specs.Condition.{test, lt, gt, eq, ne, print, checkId, checkIds}
 use Rattle.sql.specs.Template.{spelt, partOf, parts, guardedText, guardedBothText, checkIdText, checkIdsText, eitherText, templateOf, held}
