@@ -10,8 +10,8 @@ use native.Mathlib.Nat.{add-sub-cancel-left}
 use native.Mathlib.Numerals.{add-one}
 use Rattle.sql.specs.TemplateLaws.{fill-append, spelt-append, digit-part, end-fills}
 use lib.Dec.{T, eqb, ltb, lt→ltb}
-use borrow.Author.Tests.{ltb-true, ltb-false, lt-ltb, eq-eqb, ne-eqb}
-use Rattle.gpkg.proofs.Nodes.{range, in-range}
+use borrow.Author.Tests.{ltb-true, ltb-false, eqb-true, lt-ltb, eq-eqb, ne-eqb}
+use Rattle.gpkg.proofs.Nodes.{range, in-range, is-between, is-spatial, is-temporal, infix-between, infix-spatial, infix-temporal, infix-parts}
 use Rattle.choice.specs.Choice.{pick, both, negated, between, all}
 use Rattle.choice.specs.Table.{both-left, both-right}
 use Rattle.record.specs.Record.{le, le16, recordOf}
@@ -29,10 +29,10 @@ use Rattle.gpkg.specs.declared.Piece as piece
 use Rattle.gpkg.specs.declared.Piece.the-variants as pieces
 use Rattle.gpkg.specs.Lays.{Lays, capped}
 use Rattle.gpkg.specs.Text.{text, texts, joined, word}
-use Rattle.gpkg.specs.Plan.{Inside, part, Here, Is, Are, Stands, EndOf, Node, one, two, nodeEnds, nodeOp, sound, sounds, slot, wordText, endPiece, pieceOf, partText, flatText, leafText}
+use Rattle.gpkg.specs.Plan.{Inside, part, Here, Is, Are, Stands, EndOf, Node, one, two, nodeEnds, nodeOp, sound, sounds, slot, wordText, endPiece, pieceOf, partText, flatText, leafText, infixOf, infixText, leftBare, rightBare}
 use Rattle.gpkg.proofs.Records.{kindOf, bodyOf, shape, beyond, size-of, long, part-at}
 use Rattle.gpkg.proofs.Literals.{kind-whole, body-at}
-use Rattle.gpkg.proofs.Ends.{both-first, both-second}
+use Rattle.gpkg.proofs.Ends.{both-first, both-second, stands-part}
 use Rattle.gpkg.proofs.Leaves.{leaf-text}
 use Rattle.gpkg.proofs.LaysLaws.{lays-of, lays-then, lays-none}
 
@@ -451,8 +451,49 @@ all-filled f codes n k h = ap (λ (x : List ℕ). fill f (spelt x)) (take-all k 
 rest-length : (s : List ℕ) (to : ℕ) → to ≤ length s → length (take (length s - to) (drop to s)) ≡ length s - to
 rest-length s to h = ap length (take-all (length s - to) (drop to s) (rw length-drop (omega arith))) ∙ length-drop to s
 
-pub items-fall : (s : List ℕ) (to t : ℕ) → 6 ≤ to → to ≤ length s → 2 * length s + 1 ≡ t → 2 * length (take (length s - to) (drop to s)) + 2 < t
+pub items-fall : (s : List ℕ) (to t : ℕ) → 6 ≤ to → to ≤ length s → 2 * length s + 2 ≡ t → 2 * length (take (length s - to) (drop to s)) + 3 < t
 items-fall s to t a b e = let r = rest-length s to b in omega arith
 
 pub items-short : (s : List ℕ) (to : ℕ) → to ≤ length s → length s ≤ 32768 → length (take (length s - to) (drop to s)) ≤ 32768
 items-short s to b h = let r = rest-length s to b in omega arith
+
+-- An operator between its sides.
+
+infix-kind : (kind op : ℕ) → infixOf kind op ≡ true → kind ≡ 10
+unfolding infixOf
+infix-kind kind op e = go (eqb kind 10) refl e
+  where
+    go : (b : Bool) → eqb kind 10 ≡ b → pick b (pick (between 18 op 40) false (pick (between 47 op 48) false true)) false ≡ true → kind ≡ 10
+    go true q z = eqb-true kind 10 q
+    go false q z = never (cc)
+
+pub infix-node : {s : List ℕ} {kind op m : ℕ} {t : Tree} → infixOf kind op ≡ true → Node s kind op m t → Node s 10 op m t × (infixOf 10 op ≡ true)
+infix-node {s} {kind} {op} {m} {t} i n =
+    let k = infix-kind kind op i in
+    (subst (λ (j : ℕ). Node s j op m t) k n, ap (λ (j : ℕ). infixOf j op) (sym k) ∙ i)
+
+-- the five steps of its text
+pub infix-step : {s : List ℕ} {op m : ℕ} {t : Tree} (g : Settings) → Node s 10 op m t → infixOf 10 op ≡ true → {a b : Bool}
+    → ((x : Tree) → part s 8 m ≡ encode x → a ≡ leftBare op x) → ((y : Tree) → part s m (length s) ≡ encode y → b ≡ rightBare op y)
+    → {at i j k n r : ℕ} {l₀ l₁ l₂ l₃ l₄ l₅ : List ℕ}
+    → Lays at (pick a [] (40 ∷ [])) l₀ l₁ i
+    → ((x : Tree) → part s 8 m ≡ encode x → sound x ≡ true → Lays i (text g x) l₁ l₂ j)
+    → ((o : Op) → op ≡ opNumber o → Lays j (infixText a (word o) b) l₂ l₃ k)
+    → ((y : Tree) → part s m (length s) ≡ encode y → sound y ≡ true → Lays k (text g y) l₃ l₄ n)
+    → Lays n (pick b [] (41 ∷ [])) l₄ l₅ r → Lays at (text g t) l₀ l₅ r
+infix-step g (one o x k n e f) inf ha hb l1 l2 l3 l4 l5 = absurd (let v : ⊥ = omega (arith, k) in v)
+infix-step {s} {op} {m} g (two o x y k n p q) inf {a} {b} ha hb l1 l2 l3 l4 l5 =
+    let ex = stands-part p .1 in
+    let ey = stands-part q .1 in
+    let av : a ≡ leftBare (opNumber o) x = ha x ex ∙ ap (λ (j : ℕ). leftBare j x) n in
+    let bv : b ≡ rightBare (opNumber o) y = hb y ey ∙ ap (λ (j : ℕ). rightBare j y) n in
+    let w : text g (dyadic o x y) ≡ _ =
+    infix-parts g o x y
+    (is-between o ∙ ap (λ (j : ℕ). between 47 j 48) (sym n) ∙ infix-between op inf)
+    (is-spatial o ∙ ap (λ (j : ℕ). between 18 j 25) (sym n) ∙ infix-spatial op inf)
+    (is-temporal o ∙ ap (λ (j : ℕ). between 26 j 40) (sym n) ∙ infix-temporal op inf) in
+    let z : pick a [] (40 ∷ []) ++ (text g x ++ (infixText a (word o) b ++ (text g y ++ pick b [] (41 ∷ [])))) ≡ text g (dyadic o x y) =
+    ap (λ (c : Bool). pick c [] (40 ∷ []) ++ (text g x ++ (infixText c (word o) b ++ (text g y ++ pick b [] (41 ∷ []))))) av
+    ∙ ap (λ (c : Bool). pick (leftBare (opNumber o) x) [] (40 ∷ []) ++ (text g x ++ (infixText (leftBare (opNumber o) x) (word o) c ++ (text g y ++ pick c [] (41 ∷ []))))) bv
+    ∙ sym w in
+    lays-of z (lays-then l1 (lays-then (l2 x ex (p .fit)) (lays-then (l3 o n) (lays-then (l4 y ey (q .fit)) l5))))
