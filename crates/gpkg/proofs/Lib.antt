@@ -6,6 +6,7 @@ pub mod Ends
 pub mod Words
 pub mod Nodes
 pub mod Operands
+pub mod Parts
 pub mod Twin
 pub mod Sorts
 pub mod Walk

@@ -1,6 +1,6 @@
 -- A node's template, filled, is its text: one law for each template.
 use Prim.Native.Nat.{ℕ, zero, suc, _+_, _≤_, _<_}
-use borrow.Author.Tests.{leb-true, lt-leb}
+use borrow.Author.Tests.{leb-true, le-leb, lt-leb}
 use mathlib.Core.Path.{_≡_, refl, ap, sym, _∙_, subst}
 use mathlib.Core.List.{List, [], _∷_, _++_, append-assoc, append-nil}
 use mathlib.Core.Bool.{Bool, true, false}
@@ -23,7 +23,7 @@ use Rattle.sql.specs.Translators.{translate}
 use Rattle.sql.specs.Template.{fill, templateOf}
 use Rattle.sql.specs.TemplateLaws.{translate-fills, translate-same}
 use Rattle.gpkg.specs.Text.{isId, isLiteralOrId, isMonadic, isItems, startOf, stopOf, endsOf, columnsOf, word, bare, reducePrecision, monadicText, reduces, startText, stopText, boundText, dyadicText, text, children, texts}
-use Rattle.gpkg.specs.Plan.{twin, twinOf, underOf, itemsOf, monadicEnds, dyadicEnds, slot, wordText, precise, spatialTemplate, infixTemplate}
+use Rattle.gpkg.specs.Plan.{twin, twinOf, underOf, itemsOf, monadicEnds, dyadicEnds, slot, wordText, precise, spatialTemplate, infixOf, infixText, leftBare, rightBare}
 use Rattle.gpkg.proofs.Records.{kindOf, bodyOf, shape, kind-at}
 
 -- Classes of operators, by number.
@@ -162,15 +162,66 @@ module _ (g : Settings) (o : Op) (t : Tree) where
 
 -- Dyadic nodes.
 
-not-temporal : (n : ℕ) → between 18 n 25 ≡ true → between 26 n 40 ≡ false
-not-temporal n e =
-    let a : leb n 25 ≡ true = go (leb 18 n) (leb n 25) e in
-    let b : n ≤ 25 = leb-true n 25 a in
-    simp (lt-leb 26 n (omega arith))
+never : {A : Type 0} → _≡_ {A = Bool} true false → A
+never e = absurd (let z : _≡_ {A = ℕ} 0 1 = cc in let v : ⊥ = omega arith in v)
+
+pub range : (lo n hi : ℕ) → between lo n hi ≡ true → (lo ≤ n) × (n ≤ hi)
+range lo n hi e = go (leb lo n) (leb n hi) refl refl e
   where
-    go : (a b : Bool) → both a b ≡ true → b ≡ true
-    go true b e = e
-    go false b e = absurd (let z : _≡_ {A = ℕ} 0 1 = cc in let v : ⊥ = omega arith in v)
+    go : (a b : Bool) → leb lo n ≡ a → leb n hi ≡ b → both a b ≡ true → (lo ≤ n) × (n ≤ hi)
+    go true true x y z = (leb-true lo n x, leb-true n hi y)
+    go true false x y z = never (sym z)
+    go false b x y z = never (sym z)
+
+pub in-range : (lo n hi : ℕ) → lo ≤ n → n ≤ hi → between lo n hi ≡ true
+in-range lo n hi a b = simp (le-leb lo n a, le-leb n hi b)
+
+-- what lies outside of a range lies outside of each part of it
+narrower : (a b n c d : ℕ) → a ≤ b → c ≤ d → between a n d ≡ false → between b n c ≡ false
+narrower a b n c d x y e = go (between b n c) refl
+  where
+    go : (z : Bool) → between b n c ≡ z → z ≡ false
+    go true w = let r = range b n c w in never (sym (in-range a n d (let v : a ≤ n = omega (arith, r .0) in v) (let v : n ≤ d = omega (arith, r .1) in v)) ∙ e)
+    go false w = refl
+
+-- An operator between its sides is none of the three other sorts.
+module _ (n : ℕ) (e : infixOf 10 n ≡ true) where
+  outside : (between 18 n 40 ≡ false) × (between 47 n 48 ≡ false)
+  unfolding infixOf
+  outside = go (between 18 n 40) (between 47 n 48) refl refl e
+    where
+      go : (a b : Bool) → between 18 n 40 ≡ a → between 47 n 48 ≡ b → pick a false (pick b false true) ≡ true → (between 18 n 40 ≡ false) × (between 47 n 48 ≡ false)
+      go true b x y z = never (sym z)
+      go false true x y z = never (sym z)
+      go false false x y z = (x, y)
+
+  pub infix-between : between 47 n 48 ≡ false
+  infix-between = outside .1
+
+  pub infix-spatial : between 18 n 25 ≡ false
+  infix-spatial = narrower 18 18 n 25 40 (omega arith) (omega arith) (outside .0)
+
+  pub infix-temporal : between 26 n 40 ≡ false
+  infix-temporal = narrower 18 26 n 40 40 (omega arith) (omega arith) (outside .0)
+
+-- what is no such operator, no BETWEEN and no spatial one is temporal
+pub left-temporal : (n : ℕ) → infixOf 10 n ≡ false → between 47 n 48 ≡ false → between 18 n 25 ≡ false → between 26 n 40 ≡ true
+unfolding infixOf
+left-temporal n e b s = go (between 18 n 40) (between 47 n 48) refl b e
+  where
+    go : (a c : Bool) → between 18 n 40 ≡ a → c ≡ false → pick a false (pick c false true) ≡ false → between 26 n 40 ≡ true
+    go false false x y z = never z
+    go false true x y z = never y
+    go true c x y z =
+        let r = range 18 n 40 x in
+        let h : (n ≤ 25) → ⊥ = λ q. never (sym (in-range 18 n 25 (r .0) q) ∙ s) in
+        in-range 26 n 40 (above h) (r .1)
+      where
+        above : ((n ≤ 25) → ⊥) → 26 ≤ n
+        above f = omega arith
+
+not-temporal : (n : ℕ) → between 18 n 25 ≡ true → between 26 n 40 ≡ false
+not-temporal n e = let h = range 18 n 25 e in simp (lt-leb 26 n (let v : n < 26 = omega (arith, h .1) in v))
 
 bound-0 : (g : Settings) (u : Tree) → boundText u (children g u) 0 ≡ text g (first (itemsOf u))
 unfolding children texts itemsOf isItems first second text
@@ -280,25 +331,18 @@ module _ (g : Settings) (o : Op) (t u : Tree) where
           ends-same (suc (suc (suc zero))) h = stop-text g u
           ends-same (suc (suc (suc (suc j)))) h = absurd (let v : ⊥ = omega arith in v)
 
-      module _ (r : isTemporal o ≡ false) where
-        pub array-fills : isArray o ≡ true → text g (dyadic o t u) ≡ fill (slot g (word o) (dyadicEnds o t u)) (48 ∷ 32 ∷ 52 ∷ 32 ∷ 49 ∷ [])
-        unfolding text dyadicText dyadicEnds fill
-        array-fills w = simp (p, q, r, w, append-nil)
-
-        pub like-fills : isArray o ≡ false → oneOf o (IsLike ∷ IsNotLike ∷ []) ≡ true → text g (dyadic o t u) ≡ fill (slot g (word o) (dyadicEnds o t u)) (infixTemplate (isLiteralOrId t) false)
-        unfolding text dyadicText dyadicEnds fill infixTemplate
-        like-fills w l = rw (p, q, r, w, l) (go (isLiteralOrId t))
-          where
-            go : (a : Bool) → bare a (text g t) ++ (32 ∷ (word o ++ (32 ∷ bare false (text g u)))) ≡ fill (slot g (word o) (t ∷ u ∷ null ∷ null ∷ [])) (pick a (48 ∷ 32 ∷ 52 ∷ 32 ∷ 40 ∷ 49 ∷ 41 ∷ []) (40 ∷ 48 ∷ 41 ∷ 32 ∷ 52 ∷ 32 ∷ 40 ∷ 49 ∷ 41 ∷ []))
-            go true = refl
-            go false = simp append-assoc
-
-        pub infix-fills : isArray o ≡ false → oneOf o (IsLike ∷ IsNotLike ∷ []) ≡ false → text g (dyadic o t u) ≡ fill (slot g (word o) (dyadicEnds o t u)) (infixTemplate (isLiteralOrId t) (isLiteralOrId u))
-        unfolding text dyadicText dyadicEnds fill infixTemplate
-        infix-fills w l = rw (p, q, r, w, l) (go (isLiteralOrId t) (isLiteralOrId u))
-          where
-            go : (a b : Bool) → bare a (text g t) ++ (32 ∷ (word o ++ (32 ∷ bare b (text g u)))) ≡ fill (slot g (word o) (t ∷ u ∷ null ∷ null ∷ [])) (pick a (pick b (48 ∷ 32 ∷ 52 ∷ 32 ∷ 49 ∷ []) (48 ∷ 32 ∷ 52 ∷ 32 ∷ 40 ∷ 49 ∷ 41 ∷ [])) (pick b (40 ∷ 48 ∷ 41 ∷ 32 ∷ 52 ∷ 32 ∷ 49 ∷ []) (40 ∷ 48 ∷ 41 ∷ 32 ∷ 52 ∷ 32 ∷ 40 ∷ 49 ∷ 41 ∷ [])))
-            go true true = simp (append-assoc, append-nil)
-            go true false = refl
-            go false true = simp (append-assoc, append-nil)
-            go false false = simp append-assoc
+      pub infix-parts : isTemporal o ≡ false → text g (dyadic o t u)
+          ≡ pick (leftBare (opNumber o) t) [] (40 ∷ []) ++ (text g t ++ (infixText (leftBare (opNumber o) t) (word o) (rightBare (opNumber o) u) ++ (text g u ++ pick (rightBare (opNumber o) u) [] (41 ∷ []))))
+      unfolding text dyadicText leftBare rightBare infixText
+      infix-parts r = rw (p, q, r, is-array o, is-like o) (go (between 41 (opNumber o) 44) (between 45 (opNumber o) 46) (isLiteralOrId t) (isLiteralOrId u))
+        where
+          go : (x y c d : Bool)
+              → pick x (text g t ++ (32 ∷ (word o ++ (32 ∷ text g u)))) (pick y (bare c (text g t) ++ (32 ∷ (word o ++ (32 ∷ bare false (text g u))))) (bare c (text g t) ++ (32 ∷ (word o ++ (32 ∷ bare d (text g u))))))
+              ≡ pick (pick x true c) [] (40 ∷ []) ++ (text g t ++ ((pick (pick x true c) (32 ∷ []) (41 ∷ 32 ∷ []) ++ (word o ++ pick (pick x true (pick y false d)) (32 ∷ []) (32 ∷ 40 ∷ []))) ++ (text g u ++ pick (pick x true (pick y false d)) [] (41 ∷ []))))
+          go true y c d = simp (append-assoc, append-nil)
+          go false true true d = simp append-assoc
+          go false true false d = simp append-assoc
+          go false false true true = simp (append-assoc, append-nil)
+          go false false true false = simp append-assoc
+          go false false false true = simp (append-assoc, append-nil)
+          go false false false false = simp append-assoc

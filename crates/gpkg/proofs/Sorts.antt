@@ -21,7 +21,7 @@ use Rattle.sql.specs.Condition.{Cond, print}
 use Rattle.sql.specs.Template.{fill, templateOf}
 use Rattle.sql.specs.Translators.{translate}
 use Rattle.gpkg.specs.Text.{isId, columnsOf, endsOf, word, text}
-use Rattle.gpkg.specs.Plan.{Is, Are, Stands, Node, one, two, nodeEnds, nodeOp, sound, slot, monadicEnds, dyadicEnds}
+use Rattle.gpkg.specs.Plan.{Is, Are, Stands, Node, one, two, nodeEnds, nodeOp, sound, slot, infixOf, monadicEnds, dyadicEnds}
 use Rattle.gpkg.proofs.Records.{kindOf}
 use Rattle.gpkg.proofs.Literals.{kind-whole}
 use Rattle.gpkg.proofs.Operands.{operand-stands, inner-at}
@@ -126,9 +126,9 @@ temporal-columns {s} {e} o t u a p =
     let b : isBetween o ≡ false = is-between o ∙ not-between (opNumber o) (sym (is-temporal o) ∙ p) in
     same-column t u (simp (b, p) at a)
 
-pub template-two : {s : List ℕ} {kind op m : ℕ} (g : Settings) {t : Tree} → (kind ≡ 9 → ⊥) → Node s kind op m t → (e : List end.End) → Are s e (nodeEnds t) → (w : List ℕ)
-    → ((o : Op) (x y : Tree) → take (m - 8) (drop 8 s) ≡ encode x → take (length s - m) (drop m s) ≡ encode y → op ≡ opNumber o → (isTemporal o ≡ true → (j : ℕ) → columns e j ≡ columnsOf x y j)
+pub template-two : {s : List ℕ} {kind op m : ℕ} (g : Settings) {t : Tree} → (kind ≡ 9 → ⊥) → Node s kind op m t → infixOf kind op ≡ false → (e : List end.End) → Are s e (nodeEnds t) → (w : List ℕ)
+    → ((o : Op) (x y : Tree) → take (m - 8) (drop 8 s) ≡ encode x → take (length s - m) (drop m s) ≡ encode y → op ≡ opNumber o → infixOf 10 op ≡ false → (isTemporal o ≡ true → (j : ℕ) → columns e j ≡ columnsOf x y j)
     → text g (dyadic o x y) ≡ fill (slot g (word o) (dyadicEnds o x y)) w) → text g t ≡ fill (slot g (word (nodeOp t)) (nodeEnds t)) w
 unfolding nodeEnds nodeOp
-template-two g k (one o x a n e f) es r w h = absurd (k a)
-template-two g k (two o x y a n p q) es r w h = h o x y (stands-part p .1) (stands-part q .1) n (temporal-columns o x y r)
+template-two g k (one o x a n e f) i es r w h = absurd (k a)
+template-two {s} {kind} {op} g k (two o x y a n p q) i es r w h = h o x y (stands-part p .1) (stands-part q .1) n (ap (λ (j : ℕ). infixOf j op) (sym a) ∙ i) (temporal-columns o x y r)

@@ -1,5 +1,5 @@
 -- What the walk needs: a list's text item by item, the pieces of a template as texts, and the node that a record of kind 9 or 10 is.
-use Prim.Native.Nat.{ℕ, zero, suc, _+_, _-_, _*_, _≤_, _<_, min}
+use Prim.Native.Nat.{ℕ, zero, suc, _+_, _-_, _*_, _%_, _≤_, _<_, min}
 use mathlib.Core.Path.{_≡_, refl, ap, sym, _∙_, subst}
 use mathlib.Core.List.{List, [], _∷_, _++_, append-assoc, append-nil}
 use mathlib.Core.Bool.{Bool, true, false}
@@ -8,29 +8,31 @@ use lib.ListN.{length, getD, take, drop, length-drop, length-take, length-append
 use lib.Seq.{drop-drop, take-take, take-suc, take-all, take-at, drop-at}
 use native.Mathlib.Nat.{add-sub-cancel-left}
 use native.Mathlib.Numerals.{add-one}
-use Rattle.sql.specs.TemplateLaws.{fill-append}
-use lib.Dec.{eqb, ltb}
-use borrow.Author.Tests.{ltb-true, eq-eqb, ne-eqb}
-use Rattle.choice.specs.Choice.{pick, both, between}
+use Rattle.sql.specs.TemplateLaws.{fill-append, spelt-append, digit-part, end-fills}
+use lib.Dec.{T, eqb, ltb, lt→ltb}
+use borrow.Author.Tests.{ltb-true, ltb-false, eqb-true, lt-ltb, eq-eqb, ne-eqb}
+use Rattle.gpkg.proofs.Nodes.{range, in-range, is-between, is-spatial, is-temporal, infix-between, infix-spatial, infix-temporal, infix-parts}
+use Rattle.choice.specs.Choice.{pick, both, negated, between, all}
+use Rattle.choice.specs.Table.{both-left, both-right}
 use Rattle.record.specs.Record.{le, le16, recordOf}
 use Rattle.op.specs.declared.Op.{Op}
 use Rattle.op.specs.Op.{opNumber}
 use Rattle.op.specs.OpLaws.{number-below}
 use Rattle.tree.specs.Tree.{Tree, Trees, Settings, encode, encodes, counted, null, unbounded, bool, num, str, date, timestamp, spatial, id, monadic, dyadic, function, array, interval, none, _then_}
 use Rattle.literal.specs.Literal.{nullText, unboundedText}
-use Rattle.sql.specs.Template.{fill}
+use Rattle.sql.specs.Template.{fill, spelt, parts, partOf}
 use Rattle.sql.specs.declared.End as end
 use Rattle.sql.specs.declared.End.the-variants.{Column, Instant, Other, Open, Null}
 use Rattle.gpkg.specs.declared.Flat as flat
-use Rattle.gpkg.specs.declared.Flat.the-variants.{Byte, Slot, Opened, Nothing}
+use Rattle.gpkg.specs.declared.Flat.the-variants.{Words, Opened, Nothing}
 use Rattle.gpkg.specs.declared.Piece as piece
 use Rattle.gpkg.specs.declared.Piece.the-variants as pieces
 use Rattle.gpkg.specs.Lays.{Lays, capped}
 use Rattle.gpkg.specs.Text.{text, texts, joined, word}
-use Rattle.gpkg.specs.Plan.{Inside, part, Here, Is, Are, Stands, EndOf, Node, one, two, nodeEnds, nodeOp, sound, sounds, slot, wordText, endPiece, pieceOf, flatText, leafText}
+use Rattle.gpkg.specs.Plan.{Inside, part, Here, Is, Are, Stands, EndOf, Node, one, two, nodeEnds, nodeOp, sound, sounds, slot, wordText, endPiece, pieceOf, partText, flatText, leafText, infixOf, infixText, leftBare, rightBare}
 use Rattle.gpkg.proofs.Records.{kindOf, bodyOf, shape, beyond, size-of, long, part-at}
 use Rattle.gpkg.proofs.Literals.{kind-whole, body-at}
-use Rattle.gpkg.proofs.Ends.{both-first, both-second}
+use Rattle.gpkg.proofs.Ends.{both-first, both-second, stands-part}
 use Rattle.gpkg.proofs.Leaves.{leaf-text}
 use Rattle.gpkg.proofs.LaysLaws.{lays-of, lays-then, lays-none}
 
@@ -152,20 +154,94 @@ node-end {s} (Other a b) x p z i e = let q : a ≡ p = cc in let r : b ≡ z = c
 node-end Open x p z i e = never (cc)
 node-end Null x p z i e = never (cc)
 
--- a byte of a template that is written as it is
-pub plain-piece : (g : Settings) (w : List ℕ) {s : List ℕ} {es : List end.End} {xs : List Tree} → Are s es xs → (b : ℕ) (f : flat.Flat) → pieceOf b es ≡ pieces.Plain f → fill (slot g w xs) (b ∷ []) ≡ flatText g w f
-unfolding pieceOf fill flatText
-plain-piece g w {s} {es} {xs} a b f e = outer (between 48 b 57) e
+high : (b : ℕ) → 48 ≤ b → between 48 b 51 ≡ false → ltb (b - 48) 4 ≡ false
+high b h e = go (ltb (b - 48) 4) refl
   where
-    inner : (c : Bool) → ltb (b - 48) 4 ≡ c → pick c (endPiece (getD es (b - 48) (Column 0 0))) (pieces.Plain (Slot (b - 48))) ≡ pieces.Plain f → pick c (text g (getD xs (b - 48) null)) (wordText g w (b - 48)) ≡ flatText g w f
-    inner true q z = plain-end g w (getD es (b - 48) (Column 0 0)) (getD xs (b - 48) null) f (end-is g w a (b - 48) (ltb-true (b - 48) 4 q)) z
-    inner false q z = let y : f ≡ Slot (b - 48) = cc in ap (flatText g w) (sym y)
+    go : (x : Bool) → ltb (b - 48) 4 ≡ x → x ≡ false
+    go true q = let l = ltb-true (b - 48) 4 q in never (let z = sym (in-range 48 b 51 h (let v : b ≤ 51 = omega arith in v)) ∙ e in cc)
+    go false q = refl
 
-    outer : (c : Bool) → pick c (pick (ltb (b - 48) 4) (endPiece (getD es (b - 48) (Column 0 0))) (pieces.Plain (Slot (b - 48)))) (pieces.Plain (Byte b)) ≡ pieces.Plain f → pick c (slot g w xs (b - 48)) (b ∷ []) ++ [] ≡ flatText g w f
-    outer true z = append-nil (slot g w xs (b - 48)) ∙ inner (ltb (b - 48) 4) refl z
-    outer false z = let y : f ≡ Byte b = cc in ap (flatText g w) (sym y)
+-- no digit below 4
+clear : List ℕ → Bool
+clear l = all (λ b. negated (between 48 b 51)) l
 
--- a byte of a template that stands for a record
+clear-fill : (g : Settings) (w : List ℕ) (xs : List Tree) (l : List ℕ) → clear l ≡ true → fill (slot g w xs) l ≡ fill (wordText g w) l
+unfolding clear fill all
+clear-fill g w xs [] e = refl
+clear-fill g w xs (b ∷ l) e = one-byte (between 48 b 57) refl (clear-fill g w xs l rest)
+  where
+    here : between 48 b 51 ≡ false
+    here = go (between 48 b 51) e
+      where
+        go : (x : Bool) → both (negated x) (clear l) ≡ true → x ≡ false
+        go true z = never (cc)
+        go false z = refl
+
+    rest : clear l ≡ true
+    rest = go (between 48 b 51) e
+      where
+        go : (x : Bool) → both (negated x) (clear l) ≡ true → clear l ≡ true
+        go true z = never (cc)
+        go false z = z
+
+    one-byte : (c : Bool) → between 48 b 57 ≡ c → fill (slot g w xs) l ≡ fill (wordText g w) l → pick c (slot g w xs (b - 48)) (b ∷ []) ++ fill (slot g w xs) l ≡ pick c (wordText g w (b - 48)) (b ∷ []) ++ fill (wordText g w) l
+    one-byte false z y = ap (λ (x : List ℕ). b ∷ x) y
+    one-byte true z y =
+        let q : ltb (b - 48) 4 ≡ false = high b (range 48 b 57 z .0) here in
+        ap (λ (x : List ℕ). slot g w xs (b - 48) ++ x) y
+        ∙ ap (λ (x : Bool). pick x (text g (getD xs (b - 48) null)) (wordText g w (b - 48)) ++ fill (wordText g w) l) q
+
+each-clear : List (List ℕ) → Bool
+each-clear [] = true
+each-clear (l ∷ ls) = both (clear l) (each-clear ls)
+
+all-clear : (ls : List (List ℕ)) → T (each-clear ls) → (k : ℕ) → clear (getD ls k []) ≡ true
+unfolding each-clear clear all
+all-clear [] t k = refl
+all-clear (l ∷ ls) t zero = go (clear l) (both-left (clear l) (each-clear ls) t)
+  where
+    go : (b : Bool) → T b → b ≡ true
+    go true x = refl
+    go false x = absurd x
+all-clear (l ∷ ls) t (suc k) = all-clear ls (both-right (clear l) (each-clear ls) t) k
+
+clear-part : (c : ℕ) → 4 ≤ c → clear (partOf c) ≡ true
+unfolding partOf parts each-clear all clear
+clear-part zero h = absurd (let v : ⊥ = omega arith in v)
+clear-part (suc zero) h = absurd (let v : ⊥ = omega arith in v)
+clear-part (suc (suc zero)) h = absurd (let v : ⊥ = omega arith in v)
+clear-part (suc (suc (suc zero))) h = absurd (let v : ⊥ = omega arith in v)
+clear-part (suc (suc (suc (suc k)))) h = all-clear (drop 4 parts) tt k
+
+small-mod : (c : ℕ) → c < 4 → c % 4 ≡ c
+small-mod c h = omega arith
+
+-- the text of an end's code
+end-part : (g : Settings) (w : List ℕ) (xs : List Tree) (c : ℕ) → c < 4 → fill (slot g w xs) (partOf c) ≡ text g (getD xs c null)
+unfolding fill
+end-part g w xs c h =
+    ap (fill (slot g w xs)) (digit-part c h)
+    ∙ end-fills (slot g w xs) c [] (lt→ltb c 4 h)
+    ∙ append-nil (slot g w xs c)
+    ∙ ap (λ (b : Bool). pick b (text g (getD xs c null)) (wordText g w c)) (lt-ltb c 4 h)
+
+-- a code of a template that is written as it is
+pub plain-piece : (g : Settings) (w : List ℕ) {s : List ℕ} {es : List end.End} {xs : List Tree} → Are s es xs → (c : ℕ) (f : flat.Flat) → pieceOf c (getD es (c % 4) (Column 0 0)) ≡ pieces.Plain f → fill (slot g w xs) (partOf c) ≡ flatText g w f
+unfolding pieceOf flatText partText
+plain-piece g w {s} {es} {xs} a c f e = go (ltb c 4) refl e
+  where
+    go : (b : Bool) → ltb c 4 ≡ b → pick b (endPiece (getD es (c % 4) (Column 0 0))) (pieces.Plain (Words c)) ≡ pieces.Plain f → fill (slot g w xs) (partOf c) ≡ flatText g w f
+    go true q z =
+        let h = ltb-true c 4 q in
+        end-part g w xs c h
+        ∙ plain-end g w (getD es c (Column 0 0)) (getD xs c null) f (end-is g w a c h) (ap (λ (j : ℕ). endPiece (getD es j (Column 0 0))) (sym (small-mod c h)) ∙ z)
+    go false q z =
+        let y : f ≡ Words c = cc in
+        clear-fill g w xs (partOf c) (clear-part c (ltb-false c 4 q))
+        ∙ ap (λ (b : Bool). pick b [] (fill (wordText g w) (partOf c))) (sym q)
+        ∙ ap (flatText g w) (sym y)
+
+-- a code of a template that stands for a record
 pub record Child (g : Settings) (s : List ℕ) (p z : ℕ) (l : List ℕ) : Type 0 where
   pub x : Tree
   pub inside : Inside s p z
@@ -173,29 +249,28 @@ pub record Child (g : Settings) (s : List ℕ) (p z : ℕ) (l : List ℕ) : Type
   pub fit : sound x ≡ true
   pub filled : l ≡ text g x
 
-pub node-piece : (g : Settings) (w : List ℕ) {s : List ℕ} {es : List end.End} {xs : List Tree} → Are s es xs → (b p z : ℕ) → pieceOf b es ≡ pieces.Node p z → Child g s p z (fill (slot g w xs) (b ∷ []))
-unfolding pieceOf fill
-node-piece g w {s} {es} {xs} a b p z e = outer (between 48 b 57) e
+pub node-piece : (g : Settings) (w : List ℕ) {s : List ℕ} {es : List end.End} {xs : List Tree} → Are s es xs → (c p z : ℕ) → pieceOf c (getD es (c % 4) (Column 0 0)) ≡ pieces.Node p z → Child g s p z (fill (slot g w xs) (partOf c))
+unfolding pieceOf
+node-piece g w {s} {es} {xs} a c p z e = go (ltb c 4) refl e
   where
-    inner : (c : Bool) → ltb (b - 48) 4 ≡ c → pick c (endPiece (getD es (b - 48) (Column 0 0))) (pieces.Plain (Slot (b - 48))) ≡ pieces.Node p z → Child g s p z (pick c (text g (getD xs (b - 48) null)) (wordText g w (b - 48)) ++ [])
-    inner true q y =
-        let i = end-is g w a (b - 48) (ltb-true (b - 48) 4 q) in
-        let n = node-end (getD es (b - 48) (Column 0 0)) (getD xs (b - 48) null) p z i y in
-        record { x = getD xs (b - 48) null; inside = n .0; bytes = n .1; fit = i .fit; filled = append-nil (text g (getD xs (b - 48) null)) }
-    inner false q y = never (cc)
+    go : (b : Bool) → ltb c 4 ≡ b → pick b (endPiece (getD es (c % 4) (Column 0 0))) (pieces.Plain (Words c)) ≡ pieces.Node p z → Child g s p z (fill (slot g w xs) (partOf c))
+    go true q y =
+        let h = ltb-true c 4 q in
+        let i = end-is g w a c h in
+        let n = node-end (getD es c (Column 0 0)) (getD xs c null) p z i (ap (λ (j : ℕ). endPiece (getD es j (Column 0 0))) (sym (small-mod c h)) ∙ y) in
+        record { x = getD xs c null; inside = n .0; bytes = n .1; fit = i .fit; filled = end-part g w xs c h }
+    go false q y = never (cc)
 
-    outer : (c : Bool) → pick c (pick (ltb (b - 48) 4) (endPiece (getD es (b - 48) (Column 0 0))) (pieces.Plain (Slot (b - 48)))) (pieces.Plain (Byte b)) ≡ pieces.Node p z → Child g s p z (pick c (slot g w xs (b - 48)) (b ∷ []) ++ [])
-    outer true y = inner (ltb (b - 48) 4) refl y
-    outer false y = never (cc)
-
--- one byte more of a template
-pub fill-next : (f : ℕ → List ℕ) (bytes : List ℕ) (n k : ℕ) → k < n → k < length bytes → fill f (take (k + 1) (take n bytes)) ≡ fill f (take k (take n bytes)) ++ fill f (getD bytes k 0 ∷ [])
-fill-next f bytes n k h l =
-    let a : take (k + 1) (take n bytes) ≡ take (k + 1) bytes = take-take (k + 1) n bytes (omega arith) in
-    let b : take k (take n bytes) ≡ take k bytes = take-take k n bytes (omega arith) in
-    ap (fill f) (a ∙ ap (λ (j : ℕ). take j bytes) (add-one k) ∙ take-suc bytes k 0 l)
-    ∙ fill-append f (take k bytes) (getD bytes k 0 ∷ [])
-    ∙ ap (λ (x : List ℕ). fill f x ++ fill f (getD bytes k 0 ∷ [])) (sym b)
+-- one code more of a template
+pub fill-next : (f : ℕ → List ℕ) (codes : List ℕ) (n k : ℕ) → k < n → k < length codes → fill f (spelt (take (k + 1) (take n codes))) ≡ fill f (spelt (take k (take n codes))) ++ fill f (partOf (getD codes k 0))
+unfolding spelt
+fill-next f codes n k h l =
+    let a : take (k + 1) (take n codes) ≡ take (k + 1) codes = take-take (k + 1) n codes (omega arith) in
+    let b : take k (take n codes) ≡ take k codes = take-take k n codes (omega arith) in
+    ap (λ (x : List ℕ). fill f (spelt x)) (a ∙ ap (λ (j : ℕ). take j codes) (add-one k) ∙ take-suc codes k 0 l)
+    ∙ ap (fill f) (spelt-append (take k codes) (getD codes k 0 ∷ []) ∙ ap (λ (x : List ℕ). spelt (take k codes) ++ x) (append-nil (partOf (getD codes k 0))))
+    ∙ fill-append f (spelt (take k codes)) (partOf (getD codes k 0))
+    ∙ ap (λ (x : List ℕ). fill f (spelt x) ++ fill f (partOf (getD codes k 0))) (sym b)
 
 -- Nodes with operands.
 
@@ -362,22 +437,63 @@ unfolding nodeOp
 node-number (one o x a n e f) = n
 node-number (two o x y a n p q) = n
 
-module _ (g : Settings) (w : List ℕ) {s : List ℕ} {es : List end.End} {xs : List Tree} (a : Are s es xs) (bytes : List ℕ) (n k : ℕ) (h : k < n) (l : k < length bytes) {at here r : ℕ} {l₀ out m : List ℕ} (laid : Lays at (fill (slot g w xs) (take k (take n bytes))) l₀ out here) where
-  pub plain-step : (f : flat.Flat) → pieceOf (getD bytes k 0) es ≡ pieces.Plain f → Lays here (flatText g w f) out m r → Lays at (fill (slot g w xs) (take (k + 1) (take n bytes))) l₀ m r
-  plain-step f e x = lays-of (sym (fill-next (slot g w xs) bytes n k h l ∙ ap (λ (y : List ℕ). fill (slot g w xs) (take k (take n bytes)) ++ y) (plain-piece g w a (getD bytes k 0) f e))) (lays-then laid x)
+module _ (g : Settings) (w : List ℕ) {s : List ℕ} {es : List end.End} {xs : List Tree} (a : Are s es xs) (codes : List ℕ) (n k : ℕ) (h : k < n) (l : k < length codes) {at here r : ℕ} {l₀ out m : List ℕ} (laid : Lays at (fill (slot g w xs) (spelt (take k (take n codes)))) l₀ out here) where
+  pub plain-step : (f : flat.Flat) → pieceOf (getD codes k 0) (getD es (getD codes k 0 % 4) (Column 0 0)) ≡ pieces.Plain f → Lays here (flatText g w f) out m r → Lays at (fill (slot g w xs) (spelt (take (k + 1) (take n codes)))) l₀ m r
+  plain-step f e x = lays-of (sym (fill-next (slot g w xs) codes n k h l ∙ ap (λ (y : List ℕ). fill (slot g w xs) (spelt (take k (take n codes))) ++ y) (plain-piece g w a (getD codes k 0) f e))) (lays-then laid x)
 
-  pub node-step : (p z : ℕ) (e : pieceOf (getD bytes k 0) es ≡ pieces.Node p z) → Lays here (text g (node-piece g w a (getD bytes k 0) p z e .x)) out m r → Lays at (fill (slot g w xs) (take (k + 1) (take n bytes))) l₀ m r
-  node-step p z e x = lays-of (sym (fill-next (slot g w xs) bytes n k h l ∙ ap (λ (y : List ℕ). fill (slot g w xs) (take k (take n bytes)) ++ y) (node-piece g w a (getD bytes k 0) p z e .filled))) (lays-then laid x)
+  pub node-step : (p z : ℕ) (e : pieceOf (getD codes k 0) (getD es (getD codes k 0 % 4) (Column 0 0)) ≡ pieces.Node p z) → Lays here (text g (node-piece g w a (getD codes k 0) p z e .x)) out m r → Lays at (fill (slot g w xs) (spelt (take (k + 1) (take n codes)))) l₀ m r
+  node-step p z e x = lays-of (sym (fill-next (slot g w xs) codes n k h l ∙ ap (λ (y : List ℕ). fill (slot g w xs) (spelt (take k (take n codes))) ++ y) (node-piece g w a (getD codes k 0) p z e .filled))) (lays-then laid x)
 
-pub all-filled : (f : ℕ → List ℕ) (bytes : List ℕ) (n k : ℕ) → n ≤ k → fill f (take k (take n bytes)) ≡ fill f (take n bytes)
-all-filled f bytes n k h = ap (fill f) (take-all k (take n bytes) (rw length-take (omega arith)))
+pub all-filled : (f : ℕ → List ℕ) (codes : List ℕ) (n k : ℕ) → n ≤ k → fill f (spelt (take k (take n codes))) ≡ fill f (spelt (take n codes))
+all-filled f codes n k h = ap (λ (x : List ℕ). fill f (spelt x)) (take-all k (take n codes) (rw length-take (omega arith)))
 
 -- the items are shorter than their node
 rest-length : (s : List ℕ) (to : ℕ) → to ≤ length s → length (take (length s - to) (drop to s)) ≡ length s - to
 rest-length s to h = ap length (take-all (length s - to) (drop to s) (rw length-drop (omega arith))) ∙ length-drop to s
 
-pub items-fall : (s : List ℕ) (to t : ℕ) → 6 ≤ to → to ≤ length s → 2 * length s + 1 ≡ t → 2 * length (take (length s - to) (drop to s)) + 2 < t
+pub items-fall : (s : List ℕ) (to t : ℕ) → 6 ≤ to → to ≤ length s → 2 * length s + 2 ≡ t → 2 * length (take (length s - to) (drop to s)) + 3 < t
 items-fall s to t a b e = let r = rest-length s to b in omega arith
 
 pub items-short : (s : List ℕ) (to : ℕ) → to ≤ length s → length s ≤ 32768 → length (take (length s - to) (drop to s)) ≤ 32768
 items-short s to b h = let r = rest-length s to b in omega arith
+
+-- An operator between its sides.
+
+infix-kind : (kind op : ℕ) → infixOf kind op ≡ true → kind ≡ 10
+unfolding infixOf
+infix-kind kind op e = go (eqb kind 10) refl e
+  where
+    go : (b : Bool) → eqb kind 10 ≡ b → pick b (pick (between 18 op 40) false (pick (between 47 op 48) false true)) false ≡ true → kind ≡ 10
+    go true q z = eqb-true kind 10 q
+    go false q z = never (cc)
+
+pub infix-node : {s : List ℕ} {kind op m : ℕ} {t : Tree} → infixOf kind op ≡ true → Node s kind op m t → Node s 10 op m t × (infixOf 10 op ≡ true)
+infix-node {s} {kind} {op} {m} {t} i n =
+    let k = infix-kind kind op i in
+    (subst (λ (j : ℕ). Node s j op m t) k n, ap (λ (j : ℕ). infixOf j op) (sym k) ∙ i)
+
+-- the five steps of its text
+pub infix-step : {s : List ℕ} {op m : ℕ} {t : Tree} (g : Settings) → Node s 10 op m t → infixOf 10 op ≡ true → {a b : Bool}
+    → ((x : Tree) → part s 8 m ≡ encode x → a ≡ leftBare op x) → ((y : Tree) → part s m (length s) ≡ encode y → b ≡ rightBare op y)
+    → {at i j k n r : ℕ} {l₀ l₁ l₂ l₃ l₄ l₅ : List ℕ}
+    → Lays at (pick a [] (40 ∷ [])) l₀ l₁ i
+    → ((x : Tree) → part s 8 m ≡ encode x → sound x ≡ true → Lays i (text g x) l₁ l₂ j)
+    → ((o : Op) → op ≡ opNumber o → Lays j (infixText a (word o) b) l₂ l₃ k)
+    → ((y : Tree) → part s m (length s) ≡ encode y → sound y ≡ true → Lays k (text g y) l₃ l₄ n)
+    → Lays n (pick b [] (41 ∷ [])) l₄ l₅ r → Lays at (text g t) l₀ l₅ r
+infix-step g (one o x k n e f) inf ha hb l1 l2 l3 l4 l5 = absurd (let v : ⊥ = omega (arith, k) in v)
+infix-step {s} {op} {m} g (two o x y k n p q) inf {a} {b} ha hb l1 l2 l3 l4 l5 =
+    let ex = stands-part p .1 in
+    let ey = stands-part q .1 in
+    let av : a ≡ leftBare (opNumber o) x = ha x ex ∙ ap (λ (j : ℕ). leftBare j x) n in
+    let bv : b ≡ rightBare (opNumber o) y = hb y ey ∙ ap (λ (j : ℕ). rightBare j y) n in
+    let w : text g (dyadic o x y) ≡ _ =
+    infix-parts g o x y
+    (is-between o ∙ ap (λ (j : ℕ). between 47 j 48) (sym n) ∙ infix-between op inf)
+    (is-spatial o ∙ ap (λ (j : ℕ). between 18 j 25) (sym n) ∙ infix-spatial op inf)
+    (is-temporal o ∙ ap (λ (j : ℕ). between 26 j 40) (sym n) ∙ infix-temporal op inf) in
+    let z : pick a [] (40 ∷ []) ++ (text g x ++ (infixText a (word o) b ++ (text g y ++ pick b [] (41 ∷ [])))) ≡ text g (dyadic o x y) =
+    ap (λ (c : Bool). pick c [] (40 ∷ []) ++ (text g x ++ (infixText c (word o) b ++ (text g y ++ pick b [] (41 ∷ []))))) av
+    ∙ ap (λ (c : Bool). pick (leftBare (opNumber o) x) [] (40 ∷ []) ++ (text g x ++ (infixText (leftBare (opNumber o) x) (word o) c ++ (text g y ++ pick c [] (41 ∷ []))))) bv
+    ∙ sym w in
+    lays-of z (lays-then l1 (lays-then (l2 x ex (p .fit)) (lays-then (l3 o n) (lays-then (l4 y ey (q .fit)) l5))))

@@ -1,4 +1,4 @@
--- How the walk sees a node: a template, in which the digits 0 to 3 stand for operands or ends, 4 for the operator, 5 to 7 for the collations, 8 for the precision.
+-- How the walk sees a node: an operator between its sides, or a template of codes, of which 0 to 3 stand for operands or ends, 4 for the operator, 5 to 7 for the collations, 8 for the precision.
 use Prim.Native.Nat.{ℕ, _+_, _-_, _≤_, _<_}
 use mathlib.Core.Path.{_≡_}
 use mathlib.Core.List.{List, [], _∷_, _++_}
@@ -20,13 +20,13 @@ use Rattle.literal.specs.Literal.{nullText, boolText, unboundedText, numText, s
 use Rattle.sql.specs.Ends.{isColumn}
 use Rattle.sql.specs.Ends as sqlEnds
 use Rattle.sql.specs.declared.Operand as operand
-use Rattle.sql.specs.Template.{fill, held}
+use Rattle.sql.specs.Template.{fill, held, partOf}
 use Rattle.sql.specs.declared.End as end
 use Rattle.sql.specs.declared.End.the-variants.{Column, Instant, Other, Open, Null}
 use Rattle.sql.specs.declared.Template as template
-use Rattle.gpkg.specs.Text.{isId, isMonadic, startOf, stopOf, endsOf, word, text}
+use Rattle.gpkg.specs.Text.{isId, isLiteralOrId, isMonadic, startOf, stopOf, endsOf, word, text}
 use Rattle.gpkg.specs.declared.Flat as flat
-use Rattle.gpkg.specs.declared.Flat.the-variants.{Byte, Slot, Opened, Nothing}
+use Rattle.gpkg.specs.declared.Flat.the-variants.{Words, Opened, Nothing}
 use Rattle.gpkg.specs.declared.Piece as piece
 use Rattle.gpkg.specs.declared.Piece.the-variants as pieces
 
@@ -179,15 +179,15 @@ endPiece (Other a e) = pieces.Node a e
 endPiece Open = pieces.Plain Opened
 endPiece Null = pieces.Plain Nothing
 
-unfoldable pub pieceOf : ℕ → List end.End → piece.Piece
-pieceOf b e =
-    pick (between 48 b 57)
-    (pick (ltb (b - 48) 4) (endPiece (getD e (b - 48) (Column 0 0))) (pieces.Plain (Slot (b - 48))))
-    (pieces.Plain (Byte b))
+unfoldable pub pieceOf : ℕ → end.End → piece.Piece
+pieceOf code x = pick (ltb code 4) (endPiece x) (pieces.Plain (Words code))
+
+-- the text of a code from 4 on
+unfoldable pub partText : Settings → List ℕ → ℕ → List ℕ
+partText g w code = pick (ltb code 4) [] (fill (wordText g w) (partOf code))
 
 unfoldable pub flatText : Settings → List ℕ → flat.Flat → List ℕ
-flatText g w (Byte b) = b ∷ []
-flatText g w (Slot j) = wordText g w j
+flatText g w (Words code) = partText g w code
 flatText g w Opened = unboundedText
 flatText g w Nothing = nullText
 
@@ -233,12 +233,20 @@ spatialTemplate op a b =
     (52 ∷ 40 ∷ 48 ∷ 44 ∷ 32 ∷ 49 ∷ 41 ∷ [])))
     (52 ∷ 40 ∷ 48 ∷ 44 ∷ 32 ∷ 49 ∷ 41 ∷ [])
 
--- the template of an operator between its sides, by which of them are bare
-unfoldable pub infixTemplate : Bool → Bool → List ℕ
-infixTemplate a b =
-    pick a
-    (pick b (48 ∷ 32 ∷ 52 ∷ 32 ∷ 49 ∷ []) (48 ∷ 32 ∷ 52 ∷ 32 ∷ 40 ∷ 49 ∷ 41 ∷ []))
-    (pick b (40 ∷ 48 ∷ 41 ∷ 32 ∷ 52 ∷ 32 ∷ 49 ∷ []) (40 ∷ 48 ∷ 41 ∷ 32 ∷ 52 ∷ 32 ∷ 40 ∷ 49 ∷ 41 ∷ []))
+-- a node that is written as its operator between its sides, by the numbers of kind and operator
+unfoldable pub infixOf : ℕ → ℕ → Bool
+infixOf kind op = pick (eqb kind 10) (pick (between 18 op 40) false (pick (between 47 op 48) false true)) false
+
+-- which of its sides are written without brackets
+unfoldable pub leftBare : ℕ → Tree → Bool
+leftBare op t = pick (between 41 op 44) true (isLiteralOrId t)
+
+unfoldable pub rightBare : ℕ → Tree → Bool
+rightBare op u = pick (between 41 op 44) true (pick (between 45 op 46) false (isLiteralOrId u))
+
+-- the operator, with the brackets that close the left and open the right side
+unfoldable pub infixText : Bool → List ℕ → Bool → List ℕ
+infixText a w b = pick a (32 ∷ []) (41 ∷ 32 ∷ []) ++ (w ++ pick b (32 ∷ []) (32 ∷ 40 ∷ []))
 
 -- a node with operands: its ends, its operator
 unfoldable pub nodeEnds : Tree → List Tree

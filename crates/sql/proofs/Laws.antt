@@ -11,7 +11,8 @@ use lib.Seq.{take-suc, take-suc-set, take-all}
 use mathlib.Core.Bool.{Bool, true, false}
 use Rattle.choice.specs.Choice.{pick}
 use Rattle.sql.specs.Condition.{Cond, and, or, isNotNull, notNull, brackets, print, checkId, checkIds}
-use Rattle.sql.specs.Template.{templateOf, guardedText, guardedBothText, checkIdText, checkIdsText, eitherText}
+use Rattle.sql.specs.TemplateLaws.{digit-part}
+use Rattle.sql.specs.Template.{templateOf, spelt, partOf, parts, guardedText, guardedBothText, checkIdText, checkIdsText, eitherText}
 
 pub grow : (b b₀ s : List ℕ) (n k : ℕ) → n + k < length b → k < length s → take (n + k) b ≡ take n b₀ ++ take k s
     → take (n + (k + 1)) (set b (n + k) (getD s k 0)) ≡ take n b₀ ++ take (k + 1) s
@@ -25,6 +26,17 @@ grow b b₀ s n k h l e =
 -- bytes pushed behind what is known
 pub then : {x y z : List ℕ} (c : List ℕ) → x ≡ y ++ c → y ≡ z → x ≡ z ++ c
 then c p q = p ∙ ap (λ (l : List ℕ). l ++ c) q
+
+-- the front of a guard, of one column and of two
+pub one-front : (i : ℕ) → i < 4 → spelt (23 ∷ i ∷ 24 ∷ []) ≡ 34 ∷ (48 + i) ∷ 34 ∷ 32 ∷ 73 ∷ 83 ∷ 32 ∷ 78 ∷ 79 ∷ 84 ∷ 32 ∷ 78 ∷ 85 ∷ 76 ∷ 76 ∷ 32 ∷ 65 ∷ 78 ∷ 68 ∷ 32 ∷ 40 ∷ []
+unfolding spelt partOf parts
+one-front i h = ap (λ (x : List ℕ). 34 ∷ (x ++ (34 ∷ 32 ∷ 73 ∷ 83 ∷ 32 ∷ 78 ∷ 79 ∷ 84 ∷ 32 ∷ 78 ∷ 85 ∷ 76 ∷ 76 ∷ 32 ∷ 65 ∷ 78 ∷ 68 ∷ 32 ∷ 40 ∷ []))) (digit-part i h)
+
+pub two-fronts : (i j : ℕ) → i < 4 → j < 4 → spelt (23 ∷ i ∷ 25 ∷ j ∷ 26 ∷ []) ≡ 34 ∷ (48 + i) ∷ 34 ∷ 32 ∷ 73 ∷ 83 ∷ 32 ∷ 78 ∷ 79 ∷ 84 ∷ 32 ∷ 78 ∷ 85 ∷ 76 ∷ 76 ∷ 32 ∷ 65 ∷ 78 ∷ 68 ∷ 32 ∷ 34 ∷ (48 + j) ∷ 34 ∷ 32 ∷ 78 ∷ 79 ∷ 84 ∷ 32 ∷ 78 ∷ 85 ∷ 76 ∷ 76 ∷ 32 ∷ 65 ∷ 78 ∷ 68 ∷ 32 ∷ 40 ∷ []
+unfolding spelt partOf parts
+two-fronts i j h g =
+    ap (λ (x : List ℕ). 34 ∷ (x ++ (34 ∷ 32 ∷ 73 ∷ 83 ∷ 32 ∷ 78 ∷ 79 ∷ 84 ∷ 32 ∷ 78 ∷ 85 ∷ 76 ∷ 76 ∷ 32 ∷ 65 ∷ 78 ∷ 68 ∷ 32 ∷ 34 ∷ (partOf j ++ (34 ∷ 32 ∷ 78 ∷ 79 ∷ 84 ∷ 32 ∷ 78 ∷ 85 ∷ 76 ∷ 76 ∷ 32 ∷ 65 ∷ 78 ∷ 68 ∷ 32 ∷ 40 ∷ []))))) (digit-part i h)
+    ∙ ap (λ (x : List ℕ). 34 ∷ (48 + i) ∷ 34 ∷ 32 ∷ 73 ∷ 83 ∷ 32 ∷ 78 ∷ 79 ∷ 84 ∷ 32 ∷ 78 ∷ 85 ∷ 76 ∷ 76 ∷ 32 ∷ 65 ∷ 78 ∷ 68 ∷ 32 ∷ 34 ∷ (x ++ (34 ∷ 32 ∷ 78 ∷ 79 ∷ 84 ∷ 32 ∷ 78 ∷ 85 ∷ 76 ∷ 76 ∷ 32 ∷ 65 ∷ 78 ∷ 68 ∷ 32 ∷ 40 ∷ []))) (digit-part j g)
 
 -- guards on texts are the guards of the condition
 pub one-guard : (column : ℕ → Bool) (i : ℕ) (base : Cond) → checkIdText (column i) (48 + i) (templateOf base) ≡ templateOf (checkId column i base)
@@ -52,9 +64,9 @@ unfolding print eitherText
 either-or c d = ap (λ (l : List ℕ). 40 ∷ l) (sym (append-assoc (templateOf c) (41 ∷ []) (32 ∷ 79 ∷ 82 ∷ 32 ∷ 40 ∷ (templateOf d ++ (41 ∷ [])))))
 
 -- no more than there is
-pub least-take : (s : List ℕ) (n : ℕ) → n ≡ min 96 (length s) → take n s ≡ take 96 s
+pub least-take : (s : List ℕ) (n : ℕ) → n ≡ min 24 (length s) → take n s ≡ take 24 s
 least-take s n e =
     ⊎-elim
-    (λ (z : 96 - length s ≡ 0). let u : n ≡ 96 = omega arith in rw u)
-    (λ (z : 0 < 96 - length s). take-all n s (omega arith) ∙ sym (take-all 96 s (omega arith)))
-    (eq-zero-or-pos (96 - length s))
+    (λ (z : 24 - length s ≡ 0). let u : n ≡ 24 = omega arith in rw u)
+    (λ (z : 0 < 24 - length s). take-all n s (omega arith) ∙ sym (take-all 24 s (omega arith)))
+    (eq-zero-or-pos (24 - length s))

@@ -2,7 +2,7 @@
 use Prim.Native.Nat.{ℕ, _+_, _-_}
 use mathlib.Core.List.{List, [], _∷_, _++_}
 use mathlib.Core.Bool.{Bool}
-use lib.ListN.{take}
+use lib.ListN.{take, getD}
 use Rattle.choice.specs.Choice.{pick, between}
 use Rattle.sql.specs.Condition.{Cond, print}
 use Rattle.sql.specs.declared.Template as template
@@ -15,9 +15,55 @@ digitOf j = (48 + j) ∷ []
 abbrev pub templateOf : Cond → List ℕ
 templateOf c = print digitOf c
 
+-- The parts that a text is put together from, by code: 0 to 8 stand for themselves as digits (0 to 3 operands or ends, 4 the operator's word,
+-- 5 to 7 the collations, 8 the precision); from 9 on they are `(` `)` and space, then ` COLLATE ` ` AND ` `, ` `(ST_ReducePrecision(` `), `
+-- `, ST_ReducePrecision(` `))`, then the signs > < = != between spaces, then `"` `" IS NOT NULL AND (` `" IS NOT NULL AND "` `" NOT NULL AND (`,
+-- then `) OR (` `) AND (` `NOT((`.
+unfoldable pub parts : List (List ℕ)
+parts =
+    (48 ∷ [])
+    ∷ (49 ∷ [])
+    ∷ (50 ∷ [])
+    ∷ (51 ∷ [])
+    ∷ (52 ∷ [])
+    ∷ (53 ∷ [])
+    ∷ (54 ∷ [])
+    ∷ (55 ∷ [])
+    ∷ (56 ∷ [])
+    ∷ (40 ∷ [])
+    ∷ (41 ∷ [])
+    ∷ (32 ∷ [])
+    ∷ (32 ∷ 67 ∷ 79 ∷ 76 ∷ 76 ∷ 65 ∷ 84 ∷ 69 ∷ 32 ∷ [])
+    ∷ (32 ∷ 65 ∷ 78 ∷ 68 ∷ 32 ∷ [])
+    ∷ (44 ∷ 32 ∷ [])
+    ∷ (40 ∷ 83 ∷ 84 ∷ 95 ∷ 82 ∷ 101 ∷ 100 ∷ 117 ∷ 99 ∷ 101 ∷ 80 ∷ 114 ∷ 101 ∷ 99 ∷ 105 ∷ 115 ∷ 105 ∷ 111 ∷ 110 ∷ 40 ∷ [])
+    ∷ (41 ∷ 44 ∷ 32 ∷ [])
+    ∷ (44 ∷ 32 ∷ 83 ∷ 84 ∷ 95 ∷ 82 ∷ 101 ∷ 100 ∷ 117 ∷ 99 ∷ 101 ∷ 80 ∷ 114 ∷ 101 ∷ 99 ∷ 105 ∷ 115 ∷ 105 ∷ 111 ∷ 110 ∷ 40 ∷ [])
+    ∷ (41 ∷ 41 ∷ [])
+    ∷ (32 ∷ 62 ∷ 32 ∷ [])
+    ∷ (32 ∷ 60 ∷ 32 ∷ [])
+    ∷ (32 ∷ 61 ∷ 32 ∷ [])
+    ∷ (32 ∷ 33 ∷ 61 ∷ 32 ∷ [])
+    ∷ (34 ∷ [])
+    ∷ (34 ∷ 32 ∷ 73 ∷ 83 ∷ 32 ∷ 78 ∷ 79 ∷ 84 ∷ 32 ∷ 78 ∷ 85 ∷ 76 ∷ 76 ∷ 32 ∷ 65 ∷ 78 ∷ 68 ∷ 32 ∷ 40 ∷ [])
+    ∷ (34 ∷ 32 ∷ 73 ∷ 83 ∷ 32 ∷ 78 ∷ 79 ∷ 84 ∷ 32 ∷ 78 ∷ 85 ∷ 76 ∷ 76 ∷ 32 ∷ 65 ∷ 78 ∷ 68 ∷ 32 ∷ 34 ∷ [])
+    ∷ (34 ∷ 32 ∷ 78 ∷ 79 ∷ 84 ∷ 32 ∷ 78 ∷ 85 ∷ 76 ∷ 76 ∷ 32 ∷ 65 ∷ 78 ∷ 68 ∷ 32 ∷ 40 ∷ [])
+    ∷ (41 ∷ 32 ∷ 79 ∷ 82 ∷ 32 ∷ 40 ∷ [])
+    ∷ (41 ∷ 32 ∷ 65 ∷ 78 ∷ 68 ∷ 32 ∷ 40 ∷ [])
+    ∷ (78 ∷ 79 ∷ 84 ∷ 40 ∷ 40 ∷ [])
+    ∷ []
+
+unfoldable pub partOf : ℕ → List ℕ
+partOf code = getD parts code []
+
+-- codes as text
+unfoldable pub spelt : List ℕ → List ℕ
+spelt [] = []
+spelt (code ∷ codes) = partOf code ++ spelt codes
+
 -- what a template of the code holds
 abbrev pub held : template.Template → List ℕ
-held t = take (t .len) (t .bytes)
+held t = spelt (take (t .len) (t .codes))
 
 -- a template filled: each digit gives way to the text of its number
 unfoldable pub fill : (ℕ → List ℕ) → List ℕ → List ℕ

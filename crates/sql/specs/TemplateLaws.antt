@@ -1,5 +1,5 @@
 -- Laws of templates: filling is done part by part, and a condition's template filled is the condition printed.
-use Prim.Native.Nat.{ℕ, suc, _+_, _-_, _≤_, _<_}
+use Prim.Native.Nat.{ℕ, zero, suc, _+_, _-_, _≤_, _<_}
 use mathlib.Core.Path.{_≡_, refl, ap, sym, _∙_}
 use mathlib.Core.List.{List, [], _∷_, _++_, append-assoc, append-nil}
 use mathlib.Core.Bool.{Bool, true, false}
@@ -10,8 +10,23 @@ use borrow.Author.Tests.{le-leb}
 use Rattle.choice.specs.Choice.{pick, both, between}
 use Rattle.choice.specs.Table.{both-left, both-right}
 use Rattle.sql.specs.Condition.{Cond, Sign, test, isNotNull, notNull, and, or, not, brackets, lt, gt, eq, ne, print, printSign, checkId, checkIds}
-use Rattle.sql.specs.Template.{fill, digitOf, templateOf}
+use Rattle.sql.specs.Template.{fill, digitOf, templateOf, parts, partOf, spelt}
 use Rattle.sql.specs.Translators.{Translator, tAfter, tBefore, tContains, tDisjoint, tDuring, tEquals, tFinishedBy, tFinishes, tIntersects, tMeets, tMetBy, tOverlappedBy, tOverlaps, tStartedBy, tStarts, translate}
+
+-- codes one behind the other
+pub spelt-append : (a b : List ℕ) → spelt (a ++ b) ≡ spelt a ++ spelt b
+unfolding spelt
+spelt-append [] b = refl
+spelt-append (x ∷ a) b = ap (λ (l : List ℕ). partOf x ++ l) (spelt-append a b) ∙ sym (append-assoc (partOf x) (spelt a) (spelt b))
+
+-- an end's code is its digit
+pub digit-part : (i : ℕ) → i < 4 → partOf i ≡ (48 + i) ∷ []
+unfolding partOf parts
+digit-part zero h = refl
+digit-part (suc zero) h = refl
+digit-part (suc (suc zero)) h = refl
+digit-part (suc (suc (suc zero))) h = refl
+digit-part (suc (suc (suc (suc i)))) h = absurd (let v : ⊥ = omega arith in v)
 
 pub fill-append : (slot : ℕ → List ℕ) (a b : List ℕ) → fill slot (a ++ b) ≡ fill slot a ++ fill slot b
 unfolding fill
@@ -31,7 +46,7 @@ small (not c) = small c
 small (brackets c) = small c
 
 -- an end's digit gives way to the end
-end-fills : (slot : ℕ → List ℕ) (j : ℕ) (r : List ℕ) → T (ltb j 4) → fill slot ((48 + j) ∷ r) ≡ slot j ++ fill slot r
+pub end-fills : (slot : ℕ → List ℕ) (j : ℕ) (r : List ℕ) → T (ltb j 4) → fill slot ((48 + j) ∷ r) ≡ slot j ++ fill slot r
 unfolding fill
 end-fills slot j r t =
     let h : j < 4 = ltb→lt j 4 t in

@@ -6,7 +6,7 @@ ghost use Prim.Native.Nat.{ℕ, _+_, _≤_, _<_, min};
 ghost use lib.ListN.{length, take};
 ghost use Rattle.sql.specs.Condition.{checkId, checkIds};
 ghost use Rattle.sql.specs.Ends.{isColumn, isInterval, columns, startOf, stopOf, unfoldExpressions};
-ghost use Rattle.sql.specs.Template.{held, templateOf, guardedText, guardedBothText, checkIdText, checkIdsText, eitherText};
+ghost use Rattle.sql.specs.Template.{held, spelt, templateOf, guardedText, guardedBothText, checkIdText, checkIdsText, eitherText};
 ghost use Rattle.sql.specs.Translators.{tAfter, tBefore, tContains, tDisjoint, tDuring, tEquals, tFinishedBy, tFinishes, tIntersects, tMeets, tMetBy, tOverlappedBy, tOverlaps, tStartedBy, tStarts, translate};
 
 // An end of an operand: the record that holds it lies from the first offset to the second in the tree.
@@ -27,11 +27,62 @@ pub enum Operand {
     Interval(End, End),
 }
 
-// A condition in which the digits 0 to 3 stand for the ends.
+// A text in parts, each by its code (specs/Template.antt has them): 0 to 3 are the ends.
 pub struct Template {
-    pub bytes: [u8; 96],
+    pub codes: [u8; 24],
     pub len: usize,
 }
+
+// An end.
+const E0: u8 = 0;
+
+const E1: u8 = 1;
+
+const E2: u8 = 2;
+
+const E3: u8 = 3;
+
+// `(`
+const OPEN: u8 = 9;
+
+// `)`
+const CLOSE: u8 = 10;
+
+// `))`
+const CLOSE_BOTH: u8 = 18;
+
+// ` > `
+const GREATER: u8 = 19;
+
+// ` < `
+const LESS: u8 = 20;
+
+// ` = `
+const EQUAL: u8 = 21;
+
+// ` != `
+const UNEQUAL: u8 = 22;
+
+// `"`
+const QUOTE: u8 = 23;
+
+// `" IS NOT NULL AND (`
+const IS_NOT_NULL: u8 = 24;
+
+// `" IS NOT NULL AND "`
+const IS_NOT_NULL_QUOTE: u8 = 25;
+
+// `" NOT NULL AND (`
+const NOT_NULL: u8 = 26;
+
+// `) OR (`
+const OR: u8 = 27;
+
+// `) AND (`
+const AND: u8 = 28;
+
+// `NOT((`
+const NOT: u8 = 29;
 
 fn is_column(e: End) -> bool
     ensures { λ r. ⌜ r ≡ isColumn e ⌝ }
@@ -45,28 +96,28 @@ fn is_column(e: End) -> bool
     }
 }
 
-// A template with some bytes behind it.
+// A template with some codes behind it.
 fn push(t: Template, s: &[u8]) -> Template
-    requires { ⌜ t .len + length (now s) ≤ 96 ⌝ }
-    ensures { λ r. ⌜ (held r ≡ held t ++ now (s .entry)) × (r .len ≡ t .len + length (now (s .entry))) ⌝ }
+    requires { ⌜ t .len + length (now s) ≤ 24 ⌝ }
+    ensures { λ r. ⌜ (held r ≡ held t ++ spelt (now (s .entry))) × (r .len ≡ t .len + length (now (s .entry))) ⌝ }
 {
-    let mut bytes = t.bytes;
+    let mut codes = t.codes;
     let n = t.len;
     let mut k = 0;
     while k < s.len() {
-        bytes[n + k] = s[k];
+        codes[n + k] = s[k];
         k += 1;
     }
-    Template { bytes, len: n + k }
+    Template { codes, len: n + k }
 }
 
-// The template of some bytes.
+// The template of some codes.
 fn sql(s: &[u8]) -> Template
-    requires { ⌜ length (now s) ≤ 96 ⌝ }
-    ensures { λ r. ⌜ (held r ≡ now (s .entry)) × (r .len ≡ length (now (s .entry))) ⌝ }
+    requires { ⌜ length (now s) ≤ 24 ⌝ }
+    ensures { λ r. ⌜ (held r ≡ spelt (now (s .entry))) × (r .len ≡ length (now (s .entry))) ⌝ }
 {
-    let bytes = [0u8; 96];
-    push(Template { bytes, len: 0 }, s)
+    let codes = [0u8; 24];
+    push(Template { codes, len: 0 }, s)
 }
 
 fn least(a: usize, b: usize) -> usize
@@ -75,39 +126,36 @@ fn least(a: usize, b: usize) -> usize
     if a <= b { a } else { b }
 }
 
-// The template of a node's text, as far as there is room: no text of a node is longer.
+// The template of some codes, as far as there is room: no node has more.
 pub fn plain(s: &[u8]) -> Template
-    ensures { λ r. ⌜ (held r ≡ take 96 (now (s .entry))) × (r .len ≤ 96) ⌝ }
+    ensures { λ r. ⌜ (held r ≡ spelt (take 24 (now (s .entry)))) × (r .len ≤ 24) ⌝ }
 {
-    let n = least(96, s.len());
+    let n = least(24, s.len());
     sql(&s[..n])
 }
 
-// `("i" IS NOT NULL AND (base))` without its outer brackets, i a digit.
+// `"i" IS NOT NULL AND (base)`
 fn guarded(i: u8, base: &[u8]) -> Template
-    requires { ⌜ length (now base) ≤ 5 ⌝ }
-    ensures { λ r. ⌜ (held r ≡ guardedText i (now (base .entry))) × (r .len ≡ 22 + length (now (base .entry))) ⌝ }
+    requires { ⌜ (length (now base) ≡ 3) × (i < 4) ⌝ }
+    ensures { λ r. ⌜ (held r ≡ guardedText (48 + i) (spelt (now (base .entry)))) × (r .len ≡ 7) ⌝ }
 {
-    let quoted = [b'"', i, b'"'];
-    let t = push(sql(&quoted), b" IS NOT NULL AND (");
-    push(push(t, base), b")")
+    let front = [QUOTE, i, IS_NOT_NULL];
+    push(push(sql(&front), base), &[CLOSE])
 }
 
-// `"i" IS NOT NULL AND "j" NOT NULL AND (base)`, i and j digits.
+// `"i" IS NOT NULL AND "j" NOT NULL AND (base)`
 fn guarded_both(i: u8, j: u8, base: &[u8]) -> Template
-    requires { ⌜ length (now base) ≤ 5 ⌝ }
-    ensures { λ r. ⌜ (held r ≡ guardedBothText i j (now (base .entry))) × (r .len ≡ 39 + length (now (base .entry))) ⌝ }
+    requires { ⌜ (length (now base) ≡ 3) × (i < 4) × (j < 4) ⌝ }
+    ensures { λ r. ⌜ (held r ≡ guardedBothText (48 + i) (48 + j) (spelt (now (base .entry)))) × (r .len ≡ 9) ⌝ }
 {
-    let first = [b'"', i, b'"'];
-    let second = [b'"', j, b'"'];
-    let t = push(push(sql(&first), b" IS NOT NULL AND "), &second);
-    push(push(push(t, b" NOT NULL AND ("), base), b")")
+    let front = [QUOTE, i, IS_NOT_NULL_QUOTE, j, NOT_NULL];
+    push(push(sql(&front), base), &[CLOSE])
 }
 
 // Guards the base by a column.
 fn check_id(e: End, i: u8, base: &[u8]) -> Template
-    requires { ⌜ length (now base) ≤ 5 ⌝ }
-    ensures { λ r. ⌜ (held r ≡ checkIdText (isColumn e) i (now (base .entry))) × (r .len ≤ 44) ⌝ }
+    requires { ⌜ (length (now base) ≡ 3) × (i < 4) ⌝ }
+    ensures { λ r. ⌜ (held r ≡ checkIdText (isColumn e) (48 + i) (spelt (now (base .entry)))) × (r .len ≤ 9) ⌝ }
 {
     if is_column(e) {
         guarded(i, base)
@@ -118,8 +166,8 @@ fn check_id(e: End, i: u8, base: &[u8]) -> Template
 
 // Guards the base by two columns, in argument order.
 fn check_ids(e: End, i: u8, f: End, j: u8, base: &[u8]) -> Template
-    requires { ⌜ length (now base) ≤ 5 ⌝ }
-    ensures { λ r. ⌜ (held r ≡ checkIdsText (isColumn e) (isColumn f) i j (now (base .entry))) × (r .len ≤ 44) ⌝ }
+    requires { ⌜ (length (now base) ≡ 3) × (i < 4) × (j < 4) ⌝ }
+    ensures { λ r. ⌜ (held r ≡ checkIdsText (isColumn e) (isColumn f) (48 + i) (48 + j) (spelt (now (base .entry)))) × (r .len ≤ 9) ⌝ }
 {
     if is_column(e) {
         if is_column(f) {
@@ -134,55 +182,55 @@ fn check_ids(e: End, i: u8, f: End, j: u8, base: &[u8]) -> Template
 
 // `(t) OR (u)`
 fn either(t: Template, u: Template) -> Template
-    requires { ⌜ (t .len ≤ 44) × (u .len ≤ 44) ⌝ }
-    ensures { λ r. ⌜ (held r ≡ eitherText (held t) (held u)) × (r .len ≡ 8 + (t .len + u .len)) ⌝ }
+    requires { ⌜ (t .len ≤ 9) × (u .len ≤ 9) ⌝ }
+    ensures { λ r. ⌜ (held r ≡ eitherText (held t) (held u)) × (r .len ≡ 3 + (t .len + u .len)) ⌝ }
 {
-    let a = t.bytes;
+    let a = t.codes;
     let n = t.len;
-    let b = u.bytes;
+    let b = u.codes;
     let m = u.len;
-    let x = push(push(sql(b"("), &a[..n]), b") OR (");
-    push(push(x, &b[..m]), b")")
+    let x = push(push(sql(&[OPEN]), &a[..n]), &[OR]);
+    push(push(x, &b[..m]), &[CLOSE])
 }
 
 // Mixed (instant and interval) arguments.
 
 pub fn t_after_sql(a: bool, b: bool, e: [End; 4]) -> Template
-    ensures { λ r. ⌜ (held r ≡ templateOf (tAfter a b (columns e))) × (r .len ≤ 96) ⌝ }
+    ensures { λ r. ⌜ (held r ≡ templateOf (tAfter a b (columns e))) × (r .len ≤ 24) ⌝ }
 {
     let e1 = e[1];
     let e2 = e[2];
     if a {
         if b {
-            return check_ids(e1, b'1', e2, b'2', b"0 > 3");
+            return check_ids(e1, E1, e2, E2, &[E0, GREATER, E3]);
         }
-        return check_id(e1, b'1', b"0 > 2");
+        return check_id(e1, E1, &[E0, GREATER, E2]);
     }
     if b {
-        return check_id(e2, b'2', b"0 > 3");
+        return check_id(e2, E2, &[E0, GREATER, E3]);
     }
-    sql(b"0 > 2")
+    sql(&[E0, GREATER, E2])
 }
 
 pub fn t_before_sql(a: bool, b: bool, e: [End; 4]) -> Template
-    ensures { λ r. ⌜ (held r ≡ templateOf (tBefore a b (columns e))) × (r .len ≤ 96) ⌝ }
+    ensures { λ r. ⌜ (held r ≡ templateOf (tBefore a b (columns e))) × (r .len ≤ 24) ⌝ }
 {
     let e0 = e[0];
     let e3 = e[3];
     if a {
         if b {
-            return check_ids(e0, b'0', e3, b'3', b"1 < 2");
+            return check_ids(e0, E0, e3, E3, &[E1, LESS, E2]);
         }
-        return check_id(e0, b'0', b"1 < 2");
+        return check_id(e0, E0, &[E1, LESS, E2]);
     }
     if b {
-        return check_id(e3, b'3', b"0 < 2");
+        return check_id(e3, E3, &[E0, LESS, E2]);
     }
-    sql(b"0 < 2")
+    sql(&[E0, LESS, E2])
 }
 
 pub fn t_disjoint_sql(a: bool, b: bool, e: [End; 4]) -> Template
-    ensures { λ r. ⌜ (held r ≡ templateOf (tDisjoint a b (columns e))) × (r .len ≤ 96) ⌝ }
+    ensures { λ r. ⌜ (held r ≡ templateOf (tDisjoint a b (columns e))) × (r .len ≤ 24) ⌝ }
 {
     let e0 = e[0];
     let e1 = e[1];
@@ -190,118 +238,150 @@ pub fn t_disjoint_sql(a: bool, b: bool, e: [End; 4]) -> Template
     let e3 = e[3];
     if a {
         if b {
-            let before = check_ids(e0, b'0', e3, b'3', b"1 < 2");
-            return either(before, check_ids(e1, b'1', e2, b'2', b"0 > 3"));
+            let before = check_ids(e0, E0, e3, E3, &[E1, LESS, E2]);
+            return either(before, check_ids(e1, E1, e2, E2, &[E0, GREATER, E3]));
         }
-        let before = check_id(e0, b'0', b"1 < 2");
-        return either(before, check_id(e1, b'1', b"0 > 2"));
+        let before = check_id(e0, E0, &[E1, LESS, E2]);
+        return either(before, check_id(e1, E1, &[E0, GREATER, E2]));
     }
     if b {
-        let before = check_id(e3, b'3', b"0 < 2");
-        return either(before, check_id(e2, b'2', b"0 > 3"));
+        let before = check_id(e3, E3, &[E0, LESS, E2]);
+        return either(before, check_id(e2, E2, &[E0, GREATER, E3]));
     }
-    sql(b"0 != 2")
+    sql(&[E0, UNEQUAL, E2])
 }
 
 pub fn t_equals_sql(a: bool, b: bool, e: [End; 4]) -> Template
-    ensures { λ r. ⌜ (held r ≡ templateOf (tEquals a b (columns e))) × (r .len ≤ 96) ⌝ }
+    ensures { λ r. ⌜ (held r ≡ templateOf (tEquals a b (columns e))) × (r .len ≤ 24) ⌝ }
 {
     if a {
         if b {
-            return sql(b"(0 = 2) AND (1 = 3)");
+            return sql(&[OPEN, E0, EQUAL, E2, AND, E1, EQUAL, E3, CLOSE]);
         }
-        return sql(b"(0 = 2) AND (1 = 2)");
+        return sql(&[OPEN, E0, EQUAL, E2, AND, E1, EQUAL, E2, CLOSE]);
     }
     if b {
-        return sql(b"(0 = 2) AND (0 = 3)");
+        return sql(&[OPEN, E0, EQUAL, E2, AND, E0, EQUAL, E3, CLOSE]);
     }
-    sql(b"0 = 2")
+    sql(&[E0, EQUAL, E2])
 }
 
 pub fn t_intersects_sql(a: bool, b: bool, e: [End; 4]) -> Template
-    ensures { λ r. ⌜ (held r ≡ templateOf (tIntersects a b (columns e))) × (r .len ≤ 96) ⌝ }
+    ensures { λ r. ⌜ (held r ≡ templateOf (tIntersects a b (columns e))) × (r .len ≤ 24) ⌝ }
 {
     if a {
         if b {
-            return sql(b"NOT((1 < 2) OR (0 > 3))");
+            return sql(&[NOT, E1, LESS, E2, OR, E0, GREATER, E3, CLOSE_BOTH]);
         }
-        return sql(b"NOT((1 < 2) OR (0 > 2))");
+        return sql(&[NOT, E1, LESS, E2, OR, E0, GREATER, E2, CLOSE_BOTH]);
     }
     if b {
-        return sql(b"NOT((0 < 2) OR (0 > 3))");
+        return sql(&[NOT, E0, LESS, E2, OR, E0, GREATER, E3, CLOSE_BOTH]);
     }
-    sql(b"0 = 2")
+    sql(&[E0, EQUAL, E2])
 }
 
 // Intervals only.
 
 pub fn t_contains_sql(a: bool, b: bool, e: [End; 4]) -> Template
-    ensures { λ r. ⌜ (held r ≡ templateOf (tContains a b (columns e))) × (r .len ≤ 96) ⌝ }
+    ensures { λ r. ⌜ (held r ≡ templateOf (tContains a b (columns e))) × (r .len ≤ 24) ⌝ }
 {
-    sql(b"(0 < 2) AND (1 > 3)")
+    sql(&[OPEN, E0, LESS, E2, AND, E1, GREATER, E3, CLOSE])
 }
 
 pub fn t_during_sql(a: bool, b: bool, e: [End; 4]) -> Template
-    ensures { λ r. ⌜ (held r ≡ templateOf (tDuring a b (columns e))) × (r .len ≤ 96) ⌝ }
+    ensures { λ r. ⌜ (held r ≡ templateOf (tDuring a b (columns e))) × (r .len ≤ 24) ⌝ }
 {
-    sql(b"(0 > 2) AND (1 < 3)")
+    sql(&[OPEN, E0, GREATER, E2, AND, E1, LESS, E3, CLOSE])
 }
 
 pub fn t_finished_by_sql(a: bool, b: bool, e: [End; 4]) -> Template
-    ensures { λ r. ⌜ (held r ≡ templateOf (tFinishedBy a b (columns e))) × (r .len ≤ 96) ⌝ }
+    ensures { λ r. ⌜ (held r ≡ templateOf (tFinishedBy a b (columns e))) × (r .len ≤ 24) ⌝ }
 {
-    sql(b"(0 < 2) AND (1 = 3)")
+    sql(&[OPEN, E0, LESS, E2, AND, E1, EQUAL, E3, CLOSE])
 }
 
 pub fn t_finishes_sql(a: bool, b: bool, e: [End; 4]) -> Template
-    ensures { λ r. ⌜ (held r ≡ templateOf (tFinishes a b (columns e))) × (r .len ≤ 96) ⌝ }
+    ensures { λ r. ⌜ (held r ≡ templateOf (tFinishes a b (columns e))) × (r .len ≤ 24) ⌝ }
 {
-    sql(b"(0 > 2) AND (1 = 3)")
+    sql(&[OPEN, E0, GREATER, E2, AND, E1, EQUAL, E3, CLOSE])
 }
 
 pub fn t_meets_sql(a: bool, b: bool, e: [End; 4]) -> Template
-    ensures { λ r. ⌜ (held r ≡ templateOf (tMeets a b (columns e))) × (r .len ≤ 96) ⌝ }
+    ensures { λ r. ⌜ (held r ≡ templateOf (tMeets a b (columns e))) × (r .len ≤ 24) ⌝ }
 {
     let e0 = e[0];
     let e3 = e[3];
-    check_ids(e0, b'0', e3, b'3', b"1 = 2")
+    check_ids(e0, E0, e3, E3, &[E1, EQUAL, E2])
 }
 
 pub fn t_met_by_sql(a: bool, b: bool, e: [End; 4]) -> Template
-    ensures { λ r. ⌜ (held r ≡ templateOf (tMetBy a b (columns e))) × (r .len ≤ 96) ⌝ }
+    ensures { λ r. ⌜ (held r ≡ templateOf (tMetBy a b (columns e))) × (r .len ≤ 24) ⌝ }
 {
     let e1 = e[1];
     let e2 = e[2];
-    check_ids(e1, b'1', e2, b'2', b"0 = 3")
+    check_ids(e1, E1, e2, E2, &[E0, EQUAL, E3])
 }
 
 pub fn t_overlapped_by_sql(a: bool, b: bool, e: [End; 4]) -> Template
-    ensures { λ r. ⌜ (held r ≡ templateOf (tOverlappedBy a b (columns e))) × (r .len ≤ 96) ⌝ }
+    ensures { λ r. ⌜ (held r ≡ templateOf (tOverlappedBy a b (columns e))) × (r .len ≤ 24) ⌝ }
 {
-    sql(b"(0 > 2) AND (0 < 3) AND (1 > 3)")
+    sql(
+        &[
+            OPEN,
+            E0,
+            GREATER,
+            E2,
+            AND,
+            E0,
+            LESS,
+            E3,
+            AND,
+            E1,
+            GREATER,
+            E3,
+            CLOSE,
+        ],
+    )
 }
 
 pub fn t_overlaps_sql(a: bool, b: bool, e: [End; 4]) -> Template
-    ensures { λ r. ⌜ (held r ≡ templateOf (tOverlaps a b (columns e))) × (r .len ≤ 96) ⌝ }
+    ensures { λ r. ⌜ (held r ≡ templateOf (tOverlaps a b (columns e))) × (r .len ≤ 24) ⌝ }
 {
-    sql(b"(0 < 2) AND (1 > 2) AND (1 < 3)")
+    sql(
+        &[
+            OPEN,
+            E0,
+            LESS,
+            E2,
+            AND,
+            E1,
+            GREATER,
+            E2,
+            AND,
+            E1,
+            LESS,
+            E3,
+            CLOSE,
+        ],
+    )
 }
 
 pub fn t_started_by_sql(a: bool, b: bool, e: [End; 4]) -> Template
-    ensures { λ r. ⌜ (held r ≡ templateOf (tStartedBy a b (columns e))) × (r .len ≤ 96) ⌝ }
+    ensures { λ r. ⌜ (held r ≡ templateOf (tStartedBy a b (columns e))) × (r .len ≤ 24) ⌝ }
 {
-    sql(b"(0 = 2) AND (1 > 3)")
+    sql(&[OPEN, E0, EQUAL, E2, AND, E1, GREATER, E3, CLOSE])
 }
 
 pub fn t_starts_sql(a: bool, b: bool, e: [End; 4]) -> Template
-    ensures { λ r. ⌜ (held r ≡ templateOf (tStarts a b (columns e))) × (r .len ≤ 96) ⌝ }
+    ensures { λ r. ⌜ (held r ≡ templateOf (tStarts a b (columns e))) × (r .len ≤ 24) ⌝ }
 {
-    sql(b"(0 = 2) AND (1 < 3)")
+    sql(&[OPEN, E0, EQUAL, E2, AND, E1, LESS, E3, CLOSE])
 }
 
 // The template of a temporal operator, by the operator's number.
 pub fn temporal_sql(op: usize, a: bool, b: bool, e: [End; 4]) -> Template
-    ensures { λ r. ⌜ (held r ≡ templateOf (translate op a b (columns e))) × (r .len ≤ 96) ⌝ }
+    ensures { λ r. ⌜ (held r ≡ templateOf (translate op a b (columns e))) × (r .len ≤ 24) ⌝ }
 {
     match op {
         26 => t_after_sql(a, b, e),

@@ -1,4 +1,4 @@
--- What the calls ensure, put together.
+-- Each kind lays its own text.
 use native.Mathlib.Omega.{arith}
 use mathlib.Core.Path.{_≡_, refl, ap, sym, _∙_}
 use mathlib.Core.List.{List, [], _∷_, _++_, append-assoc, append-nil}
@@ -11,7 +11,6 @@ use Rattle.gpkg.proofs.LaysLaws.{lays-placed, lays-none, lays-of, lays-
 use Rattle.gpkg.specs.Plan.{leafText, collation, nameOf, settingsIn, precise}
 use Rattle.literal.specs.Literal.{decimal, numText, boolText, dateText, timestampText, spatialText, quoted, collate, strText}
 use Rattle.record.specs.Record.{le16}
-use Rattle.literal.specs.Literal.{openEnd}
 use lib.Dec.{eqb}
 use borrow.Author.Needs.{needs}
 use Rattle.gpkg.proofs.put_leaf.Statement.{statement}
@@ -23,6 +22,7 @@ use Rattle.gpkg.proofs.put_bool.Reads as put-bool-reads
 use Rattle.gpkg.proofs.put_date.Reads as put-date-reads
 use Rattle.gpkg.proofs.put_from.Reads as put-from-reads
 use Rattle.gpkg.proofs.put_num.Reads as put-num-reads
+use Rattle.gpkg.proofs.put_open_end.Reads as put-open-end-reads
 use Rattle.gpkg.proofs.put_spatial.Reads as put-spatial-reads
 use Rattle.gpkg.proofs.put_str.Reads as put-str-reads
 use Rattle.gpkg.proofs.put_timestamp.Reads as put-timestamp-reads
@@ -38,11 +38,8 @@ slice-aggregate-put c = search needs
 put-requires : tie.Need-put-requires
 put-requires c κs = search needs
 
-slice-aggregate-put-2 : tie.Need-slice-aggregate-put-2
-slice-aggregate-put-2 c = search needs
-
-put-requires-2 : tie.Need-put-requires-2
-put-requires-2 c κs = search needs
+put-open-end-requires : tie.Need-put-open-end-requires
+put-open-end-requires c κs = search needs
 
 byte-at-requires : tie.Need-byte-at-requires
 byte-at-requires c κs = search needs
@@ -79,8 +76,8 @@ same-length-2 : tie.Need-same-length-2
 same-length-2 c = search needs
 
 returns-2 : tie.Need-returns-2
-unfolding leafText quoted openEnd
-returns-2 c = rw (sym (c .before .before .before .before .before .before .word-at .ensures .0) ∙ c .before .before .before .before .before .match .keys2) (c .before .before .put2 .ensures)
+unfolding leafText
+returns-2 c = rw (sym (c .before .before .before .before .before .word-at .ensures .0) ∙ c .before .before .before .before .match .keys2) (c .before .before .put-open-end .ensures)
 
 same-length-3 : tie.Need-same-length-3
 same-length-3 c = search needs
@@ -138,8 +135,7 @@ put-leaf-spec =
     word-at-requires
     slice-aggregate-put
     put-requires
-    slice-aggregate-put-2
-    put-requires-2
+    put-open-end-requires
     byte-at-requires
     put-bool-requires
     put-num-requires

@@ -10,6 +10,7 @@ use denote.Ref.{now}
 use borrow.Author.Tests.{eq-eqb, ne-eqb, lt-ltb, le-ltb, le-leb, lt-leb}
 use Rattle.gpkg.proofs.LaysLaws.{lays-placed, lays-none, lays-of, lays-then}
 use Rattle.gpkg.specs.Plan.{spatialTemplate}
+use Rattle.sql.specs.Template.{spelt, partOf, parts}
 use Rattle.gpkg.proofs.spatial_template.Statement.{statement}
 use Rattle.gpkg.proofs.spatial_template.Tie as tie
 use Rattle.gpkg.proofs.spatial_template.Reads as reads
@@ -27,7 +28,7 @@ plain-requires : tie.Need-plain-requires
 plain-requires c κs = search needs
 
 returns : tie.Need-returns
-unfolding spatialTemplate
+unfolding spatialTemplate spelt partOf parts
 returns c = rw (sym (c .before .before .before .before .before .within .ensures) ∙ c .before .before .before .before .if1 .taken, c .before .before .before .if2 .taken, c .before .before .if3 .taken) (c .plain .ensures)
 
 slice-aggregate-plain-2 : tie.Need-slice-aggregate-plain-2
@@ -37,7 +38,7 @@ plain-requires-2 : tie.Need-plain-requires-2
 plain-requires-2 c κs = search needs
 
 returns-2 : tie.Need-returns-2
-unfolding spatialTemplate
+unfolding spatialTemplate spelt partOf parts
 returns-2 c = rw (sym (c .before .before .before .before .before .within .ensures) ∙ c .before .before .before .before .if1 .taken, c .before .before .before .if2 .taken, c .before .before .if3 .left) (c .plain2 .ensures)
 
 slice-aggregate-plain-3 : tie.Need-slice-aggregate-plain-3
@@ -47,7 +48,7 @@ plain-requires-3 : tie.Need-plain-requires-3
 plain-requires-3 c κs = search needs
 
 returns-3 : tie.Need-returns-3
-unfolding spatialTemplate
+unfolding spatialTemplate spelt partOf parts
 returns-3 c = rw (sym (c .before .before .before .before .before .within .ensures) ∙ c .before .before .before .before .if1 .taken, c .before .before .before .if2 .left, c .before .before .if4 .taken) (c .plain3 .ensures)
 
 slice-aggregate-plain-4 : tie.Need-slice-aggregate-plain-4
@@ -57,7 +58,7 @@ plain-requires-4 : tie.Need-plain-requires-4
 plain-requires-4 c κs = search needs
 
 returns-4 : tie.Need-returns-4
-unfolding spatialTemplate
+unfolding spatialTemplate spelt partOf parts
 returns-4 c = rw (sym (c .before .before .before .before .before .within .ensures) ∙ c .before .before .before .before .if1 .taken, c .before .before .before .if2 .left, c .before .before .if4 .left) (c .plain4 .ensures)
 
 slice-aggregate-plain-5 : tie.Need-slice-aggregate-plain-5
@@ -67,7 +68,7 @@ plain-requires-5 : tie.Need-plain-requires-5
 plain-requires-5 c κs = search needs
 
 returns-5 : tie.Need-returns-5
-unfolding spatialTemplate
+unfolding spatialTemplate spelt partOf parts
 returns-5 c = rw (sym (c .before .before .before .within .ensures) ∙ c .before .before .if1 .left) (c .plain5 .ensures)
 
 pub spatial-template-spec : {M : Type 1} → statement M

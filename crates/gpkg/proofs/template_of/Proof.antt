@@ -38,7 +38,7 @@ monadic-template-requires : tie.Need-monadic-template-requires
 monadic-template-requires c κs = search needs
 
 returns : tie.Need-returns
-returns c = (λ g t h a. template-one g (c .before .before .before .before .if1 .taken) h (c .before .before .before .word-at .ensures .0) (c .before .before .word-at2 .ensures .0) (held (c .monadic-template .result)) (c .monadic-template .ensures .0 g), c .monadic-template .ensures .1)
+returns c = (λ g t h inf a. template-one g (c .before .before .before .before .if1 .taken) h (c .before .before .before .word-at .ensures .0) (c .before .before .word-at2 .ensures .0) (held (c .monadic-template .result)) (c .monadic-template .ensures .0 g), c .monadic-template .ensures .1)
 
 sub-dyadic-template : tie.Need-sub-dyadic-template
 sub-dyadic-template c = search needs
@@ -62,7 +62,7 @@ dyadic-template-requires : tie.Need-dyadic-template-requires
 dyadic-template-requires c κs = search needs
 
 returns-2 : tie.Need-returns-2
-returns-2 c = (λ g t h a. template-two g (c .before .before .before .if1 .left) h (c .before .before .before .before .before .args .e) a (held (c .dyadic-template .result)) (c .dyadic-template .ensures .0 g), c .dyadic-template .ensures .1)
+returns-2 c = (λ g t h inf a. template-two g (c .before .before .before .if1 .left) h inf (c .before .before .before .before .before .args .e) a (held (c .dyadic-template .result)) (c .dyadic-template .ensures .0 g), c .dyadic-template .ensures .1)
 
 pub template-of-spec : {M : Type 1} → statement M
 template-of-spec =

@@ -1,10 +1,7 @@
 use native.Mathlib.Omega.{arith}
 use mathlib.Core.Path.{_≡_, refl, ap, sym, _∙_}
-use Rattle.sql.proofs.Laws.{then, one-guard, two-guards, either-or}
-use Rattle.sql.specs.Ends.{isColumn, columns}
-use Rattle.sql.specs.Condition.{test, lt, gt, eq, ne, print, checkId, checkIds}
-use Rattle.sql.specs.Template.{guardedText, guardedBothText, checkIdText, checkIdsText, eitherText, templateOf, held}
-use Rattle.sql.specs.Translators.{tAfter, tBefore, tContains, tDisjoint, tDuring, tEquals, tFinishedBy, tFinishes, tIntersects, tMeets, tMetBy, tOverlappedBy, tOverlaps, tStartedBy, tStarts, translate}
+use Rattle.sql.proofs.Laws.{then, one-front, two-fronts}
+use Rattle.sql.specs.Template.{spelt, partOf, parts, guardedText, guardedBothText}
 use borrow.Author.Needs.{needs}
 use Rattle.sql.proofs.guarded.Statement.{statement}
 use Rattle.sql.proofs.guarded.Tie as tie
@@ -19,24 +16,18 @@ slice-aggregate-sql c = search needs
 sql-requires : tie.Need-sql-requires
 sql-requires c κs = search needs
 
-slice-aggregate-push : tie.Need-slice-aggregate-push
-slice-aggregate-push c = search needs
-
 push-requires : tie.Need-push-requires
 push-requires c κs = search needs
+
+slice-aggregate-push : tie.Need-slice-aggregate-push
+slice-aggregate-push c = search needs
 
 push-requires-2 : tie.Need-push-requires-2
 push-requires-2 c κs = search needs
 
-slice-aggregate-push-2 : tie.Need-slice-aggregate-push-2
-slice-aggregate-push-2 c = search needs
-
-push-requires-3 : tie.Need-push-requires-3
-push-requires-3 c κs = search needs
-
 returns : tie.Need-returns
-unfolding guardedText
-returns c = (then _ (c .push3 .ensures .0) (then _ (c .before .before .push2 .ensures .0) (then _ (c .before .before .before .push .ensures .0) (c .before .before .before .before .before .sql .ensures .0))), omega arith)
+unfolding guardedText spelt partOf parts
+returns c = (then _ (c .push2 .ensures .0) (then _ (c .before .before .push .ensures .0) (c .before .before .before .sql .ensures .0 ∙ one-front (c .before .before .before .before .before .before .args .i) (omega arith))), omega arith)
 
 pub guarded-spec : {M : Type 1} → statement M
 guarded-spec =
@@ -44,9 +35,7 @@ guarded-spec =
     (tie.spec
     slice-aggregate-sql
     sql-requires
-    slice-aggregate-push
     push-requires
+    slice-aggregate-push
     push-requires-2
-    slice-aggregate-push-2
-    push-requires-3
     returns)

@@ -1,10 +1,7 @@
 use native.Mathlib.Omega.{arith}
 use mathlib.Core.Path.{_≡_, refl, ap, sym, _∙_}
-use Rattle.sql.proofs.Laws.{then, one-guard, two-guards, either-or}
-use Rattle.sql.specs.Ends.{isColumn, columns}
-use Rattle.sql.specs.Condition.{test, lt, gt, eq, ne, print, checkId, checkIds}
-use Rattle.sql.specs.Template.{guardedText, guardedBothText, checkIdText, checkIdsText, eitherText, templateOf, held}
-use Rattle.sql.specs.Translators.{tAfter, tBefore, tContains, tDisjoint, tDuring, tEquals, tFinishedBy, tFinishes, tIntersects, tMeets, tMetBy, tOverlappedBy, tOverlaps, tStartedBy, tStarts, translate}
+use Rattle.sql.proofs.Laws.{then, one-front, two-fronts}
+use Rattle.sql.specs.Template.{spelt, partOf, parts, guardedText, guardedBothText}
 use borrow.Author.Needs.{needs}
 use Rattle.sql.proofs.guarded_both.Statement.{statement}
 use Rattle.sql.proofs.guarded_both.Tie as tie
@@ -19,36 +16,18 @@ slice-aggregate-sql c = search needs
 sql-requires : tie.Need-sql-requires
 sql-requires c κs = search needs
 
-slice-aggregate-push : tie.Need-slice-aggregate-push
-slice-aggregate-push c = search needs
-
 push-requires : tie.Need-push-requires
 push-requires c κs = search needs
 
-slice-aggregate-push-2 : tie.Need-slice-aggregate-push-2
-slice-aggregate-push-2 c = search needs
+slice-aggregate-push : tie.Need-slice-aggregate-push
+slice-aggregate-push c = search needs
 
 push-requires-2 : tie.Need-push-requires-2
 push-requires-2 c κs = search needs
 
-slice-aggregate-push-3 : tie.Need-slice-aggregate-push-3
-slice-aggregate-push-3 c = search needs
-
-push-requires-3 : tie.Need-push-requires-3
-push-requires-3 c κs = search needs
-
-push-requires-4 : tie.Need-push-requires-4
-push-requires-4 c κs = search needs
-
-slice-aggregate-push-4 : tie.Need-slice-aggregate-push-4
-slice-aggregate-push-4 c = search needs
-
-push-requires-5 : tie.Need-push-requires-5
-push-requires-5 c κs = search needs
-
 returns : tie.Need-returns
-unfolding guardedBothText
-returns c = (then _ (c .push5 .ensures .0) (then _ (c .before .before .push4 .ensures .0) (then _ (c .before .before .before .push3 .ensures .0) (then _ (c .before .before .before .before .before .push2 .ensures .0) (then _ (c .before .before .before .before .before .before .before .push .ensures .0) (c .before .before .before .before .before .before .before .before .before .sql .ensures .0))))), omega arith)
+unfolding guardedBothText spelt partOf parts
+returns c = (then _ (c .push2 .ensures .0) (then _ (c .before .before .push .ensures .0) (c .before .before .before .sql .ensures .0 ∙ two-fronts (c .before .before .before .before .before .before .args .i) (c .before .before .before .before .before .before .args .j) (omega arith) (omega arith))), omega arith)
 
 pub guarded-both-spec : {M : Type 1} → statement M
 guarded-both-spec =
@@ -56,13 +35,7 @@ guarded-both-spec =
     (tie.spec
     slice-aggregate-sql
     sql-requires
-    slice-aggregate-push
     push-requires
-    slice-aggregate-push-2
+    slice-aggregate-push
     push-requires-2
-    slice-aggregate-push-3
-    push-requires-3
-    push-requires-4
-    slice-aggregate-push-4
-    push-requires-5
     returns)

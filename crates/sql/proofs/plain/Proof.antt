@@ -1,8 +1,9 @@
--- The first 96 bytes of s, as far as there are.
+-- The first 24 bytes of s, as far as there are.
 use native.Mathlib.Omega.{arith}
-use mathlib.Core.Path.{sym, _∙_}
+use mathlib.Core.Path.{ap, sym, _∙_}
 use lib.Seq.{length-take-le}
 use Rattle.sql.proofs.Laws.{least-take}
+use Rattle.sql.specs.Template.{spelt}
 use borrow.Author.Needs.{needs}
 use Rattle.sql.proofs.plain.Statement.{statement}
 use Rattle.sql.proofs.plain.Tie as tie
@@ -23,7 +24,7 @@ sql-requires c κs = let h = length-take-le (c .before .least .result) (c .befor
 returns : tie.Need-returns
 returns c =
     let h = length-take-le (c .before .before .least .result) (c .before .before .before .before .args .s .now) (omega (arith, c .before .before .least .ensures)) in
-    (c .sql .ensures .0 ∙ least-take _ _ (c .before .before .least .ensures), omega (arith, c .before .before .least .ensures))
+    (c .sql .ensures .0 ∙ ap spelt (least-take _ _ (c .before .before .least .ensures)), omega (arith, c .before .before .least .ensures))
 
 pub plain-spec : {M : Type 1} → statement M
 plain-spec = tie.close (tie.spec least-requires slice-aggregate-sql sql-requires returns)

@@ -1,4 +1,4 @@
--- What is held so far: what the template held, and the first k bytes of s.
+-- What is held so far: what the template held, and the first k codes of s.
 use borrow.Author.Needs.{needs}
 use native.Mathlib.Omega.{arith}
 use mathlib.Core.Path.{_≡_, refl, ap, sym, _∙_}
@@ -8,28 +8,30 @@ use native.Mathlib.Nat.{add-zero}
 use lib.ListN.{getD, length, take, set, length-set}
 use lib.Seq.{take-all}
 use Rattle.sql.proofs.Laws.{grow}
+use Rattle.sql.specs.TemplateLaws.{spelt-append}
+use Rattle.sql.specs.Template.{spelt}
 use Rattle.sql.proofs.push.Statement.{statement}
 use Rattle.sql.proofs.push.Tie as tie
 use Rattle.sql.proofs.push.Reads as reads
 use Rattle.sql.proofs.push.Lts as lts
 
 abbrev Inv-loop : tie.InvT-loop
-Inv-loop s bytes₀ n k₀ bytes k = (k ≤ length s) × (length bytes ≡ 96) × (take (n + k) bytes ≡ take n bytes₀ ++ take k s)
+Inv-loop s codes₀ n k₀ codes k = (k ≤ length s) × (length codes ≡ 24) × (take (n + k) codes ≡ take n codes₀ ++ take k s)
 
 abbrev μ-loop : tie.MeasureT-loop
-μ-loop s bytes₀ n k₀ bytes k = length s - k
+μ-loop s codes₀ n k₀ codes k = length s - k
 
 loop-holds : tie.Need-loop-holds Inv-loop μ-loop
 loop-holds c = (omega arith, search needs, rw (add-zero, append-nil))
 
-shared-slice-read-bytes : tie.Need-shared-slice-read-bytes Inv-loop μ-loop
-shared-slice-read-bytes c = search needs
+shared-slice-read-codes : tie.Need-shared-slice-read-codes Inv-loop μ-loop
+shared-slice-read-codes c = search needs
 
-add-bytes : tie.Need-add-bytes Inv-loop μ-loop
-add-bytes c = search needs
+add-codes : tie.Need-add-codes Inv-loop μ-loop
+add-codes c = search needs
 
-array-write-bytes : tie.Need-array-write-bytes Inv-loop μ-loop
-array-write-bytes c = search needs
+array-write-codes : tie.Need-array-write-codes Inv-loop μ-loop
+array-write-codes c = search needs
 
 add-k : tie.Need-add-k Inv-loop μ-loop
 add-k c = search needs
@@ -41,7 +43,7 @@ loop-again : tie.Need-loop-again Inv-loop μ-loop
 loop-again c =
     let i = c .before .before .before .before .args in
     let l = c .before .before .loop in
-    (omega arith, simp length-set (l .inv .1), grow (l .bytes) (i .t .bytes) (i .s .now) (i .t .len) (l .k) (omega arith) (omega arith) (l .inv .2))
+    (omega arith, simp length-set (l .inv .1), grow (l .codes) (i .t .codes) (i .s .now) (i .t .len) (l .k) (omega arith) (omega arith) (l .inv .2))
 
 add-t13 : tie.Need-add-t13 Inv-loop μ-loop
 add-t13 c = search needs
@@ -51,7 +53,7 @@ returns c =
     let i = c .before .before .before .args in
     let l = c .before .loop in
     let e : l .k ≡ length (i .s .now) = omega arith in
-    (l .inv .2 ∙ ap (λ (x : List ℕ). take (i .t .len) (i .t .bytes) ++ x) (take-all (l .k) (i .s .now) (omega arith)), omega arith)
+    (ap spelt (l .inv .2 ∙ ap (λ (x : List ℕ). take (i .t .len) (i .t .codes) ++ x) (take-all (l .k) (i .s .now) (omega arith))) ∙ spelt-append (take (i .t .len) (i .t .codes)) (i .s .now), omega arith)
 
 pub push-spec : {M : Type 1} → statement M
 push-spec =
@@ -60,9 +62,9 @@ push-spec =
     Inv-loop
     μ-loop
     loop-holds
-    shared-slice-read-bytes
-    add-bytes
-    array-write-bytes
+    shared-slice-read-codes
+    add-codes
+    array-write-codes
     add-k
     loop-less
     loop-again

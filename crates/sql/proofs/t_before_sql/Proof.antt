@@ -3,7 +3,7 @@ use mathlib.Core.Path.{_≡_, refl, ap, sym, _∙_}
 use Rattle.sql.proofs.Laws.{then, one-guard, two-guards, either-or}
 use Rattle.sql.specs.Ends.{isColumn, columns}
 use Rattle.sql.specs.Condition.{test, lt, gt, eq, ne, print, checkId, checkIds}
-use Rattle.sql.specs.Template.{guardedText, guardedBothText, checkIdText, checkIdsText, eitherText, templateOf, held}
+use Rattle.sql.specs.Template.{spelt, partOf, parts, guardedText, guardedBothText, checkIdText, checkIdsText, eitherText, templateOf, held}
 use Rattle.sql.specs.Translators.{tAfter, tBefore, tContains, tDisjoint, tDuring, tEquals, tFinishedBy, tFinishes, tIntersects, tMeets, tMetBy, tOverlappedBy, tOverlaps, tStartedBy, tStarts, translate}
 use borrow.Author.Needs.{needs}
 use Rattle.sql.proofs.t_before_sql.Statement.{statement}
@@ -27,7 +27,7 @@ check-ids-requires : tie.Need-check-ids-requires
 check-ids-requires c κs = search needs
 
 returns : tie.Need-returns
-unfolding tBefore print
+unfolding tBefore print spelt partOf parts
 returns c = rw (c .before .before .before .if1 .taken, c .before .before .if2 .taken) (c .check-ids .ensures .0 ∙ two-guards (columns (c .before .before .before .before .before .before .args .t3)) 0 3 (test 1 lt 2), omega arith)
 
 slice-aggregate-check-id : tie.Need-slice-aggregate-check-id
@@ -37,7 +37,7 @@ check-id-requires : tie.Need-check-id-requires
 check-id-requires c κs = search needs
 
 returns-2 : tie.Need-returns-2
-unfolding tBefore print
+unfolding tBefore print spelt partOf parts
 returns-2 c = rw (c .before .before .before .if1 .taken, c .before .before .if2 .left) (c .check-id .ensures .0 ∙ one-guard (columns (c .before .before .before .before .before .before .args .t3)) 0 (test 1 lt 2), omega arith)
 
 slice-aggregate-check-id-2 : tie.Need-slice-aggregate-check-id-2
@@ -47,7 +47,7 @@ check-id-requires-2 : tie.Need-check-id-requires-2
 check-id-requires-2 c κs = search needs
 
 returns-3 : tie.Need-returns-3
-unfolding tBefore print
+unfolding tBefore print spelt partOf parts
 returns-3 c = rw (c .before .before .before .if1 .left, c .before .before .if3 .taken) (c .check-id2 .ensures .0 ∙ one-guard (columns (c .before .before .before .before .before .before .args .t3)) 3 (test 0 lt 2), omega arith)
 
 slice-aggregate-sql : tie.Need-slice-aggregate-sql
@@ -57,7 +57,7 @@ sql-requires : tie.Need-sql-requires
 sql-requires c κs = search needs
 
 returns-4 : tie.Need-returns-4
-unfolding tBefore print
+unfolding tBefore print spelt partOf parts
 returns-4 c = rw (c .before .before .before .if1 .left, c .before .before .if3 .left) (c .sql .ensures .0, omega arith)
 
 pub t-before-sql-spec : {M : Type 1} → statement M

@@ -3,7 +3,7 @@ use mathlib.Core.Path.{_≡_, refl, ap, sym, _∙_}
 use Rattle.sql.proofs.Laws.{then, one-guard, two-guards, either-or}
 use Rattle.sql.specs.Ends.{isColumn, columns}
 use Rattle.sql.specs.Condition.{test, lt, gt, eq, ne, print, checkId, checkIds}
-use Rattle.sql.specs.Template.{guardedText, guardedBothText, checkIdText, checkIdsText, eitherText, templateOf, held}
+use Rattle.sql.specs.Template.{spelt, partOf, parts, guardedText, guardedBothText, checkIdText, checkIdsText, eitherText, templateOf, held}
 use Rattle.sql.specs.Translators.{tAfter, tBefore, tContains, tDisjoint, tDuring, tEquals, tFinishedBy, tFinishes, tIntersects, tMeets, tMetBy, tOverlappedBy, tOverlaps, tStartedBy, tStarts, translate}
 use borrow.Author.Needs.{needs}
 use Rattle.sql.proofs.t_disjoint_sql.Statement.{statement}
@@ -43,7 +43,7 @@ either-requires : tie.Need-either-requires
 either-requires c κs = search needs
 
 returns : tie.Need-returns
-unfolding tDisjoint print
+unfolding tDisjoint print spelt partOf parts
 returns c =
     let col = columns (c .before .before .before .before .before .before .before .before .before .before .before .args .t3) in
     let p : held (c .before .before .before .check-ids .result) ≡ templateOf (checkIds col 0 3 (test 1 lt 2)) = c .before .before .before .check-ids .ensures .0 ∙ two-guards col 0 3 (test 1 lt 2) in
@@ -67,7 +67,7 @@ either-requires-2 : tie.Need-either-requires-2
 either-requires-2 c κs = search needs
 
 returns-2 : tie.Need-returns-2
-unfolding tDisjoint print
+unfolding tDisjoint print spelt partOf parts
 returns-2 c =
     let col = columns (c .before .before .before .before .before .before .before .before .before .before .before .args .t3) in
     let p : held (c .before .before .before .check-id .result) ≡ templateOf (checkId col 0 (test 1 lt 2)) = c .before .before .before .check-id .ensures .0 ∙ one-guard col 0 (test 1 lt 2) in
@@ -91,7 +91,7 @@ either-requires-3 : tie.Need-either-requires-3
 either-requires-3 c κs = search needs
 
 returns-3 : tie.Need-returns-3
-unfolding tDisjoint print
+unfolding tDisjoint print spelt partOf parts
 returns-3 c =
     let col = columns (c .before .before .before .before .before .before .before .before .before .before .before .args .t3) in
     let p : held (c .before .before .before .check-id3 .result) ≡ templateOf (checkId col 3 (test 0 lt 2)) = c .before .before .before .check-id3 .ensures .0 ∙ one-guard col 3 (test 0 lt 2) in
@@ -106,7 +106,7 @@ sql-requires : tie.Need-sql-requires
 sql-requires c κs = search needs
 
 returns-4 : tie.Need-returns-4
-unfolding tDisjoint print
+unfolding tDisjoint print spelt partOf parts
 returns-4 c = rw (c .before .before .before .if1 .left, c .before .before .if3 .left) (c .sql .ensures .0, omega arith)
 
 pub t-disjoint-sql-spec : {M : Type 1} → statement M

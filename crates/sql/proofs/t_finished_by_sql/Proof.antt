@@ -3,7 +3,7 @@ use mathlib.Core.Path.{_≡_, refl, ap, sym, _∙_}
 use Rattle.sql.proofs.Laws.{then, one-guard, two-guards, either-or}
 use Rattle.sql.specs.Ends.{isColumn, columns}
 use Rattle.sql.specs.Condition.{test, lt, gt, eq, ne, print, checkId, checkIds}
-use Rattle.sql.specs.Template.{guardedText, guardedBothText, checkIdText, checkIdsText, eitherText, templateOf, held}
+use Rattle.sql.specs.Template.{spelt, partOf, parts, guardedText, guardedBothText, checkIdText, checkIdsText, eitherText, templateOf, held}
 use Rattle.sql.specs.Translators.{tAfter, tBefore, tContains, tDisjoint, tDuring, tEquals, tFinishedBy, tFinishes, tIntersects, tMeets, tMetBy, tOverlappedBy, tOverlaps, tStartedBy, tStarts, translate}
 use borrow.Author.Needs.{needs}
 use Rattle.sql.proofs.t_finished_by_sql.Statement.{statement}
@@ -19,7 +19,7 @@ sql-requires : tie.Need-sql-requires
 sql-requires c κs = search needs
 
 returns : tie.Need-returns
-unfolding tFinishedBy print
+unfolding tFinishedBy print spelt partOf parts
 returns c = (c .sql .ensures .0, omega arith)
 
 pub t-finished-by-sql-spec : {M : Type 1} → statement M

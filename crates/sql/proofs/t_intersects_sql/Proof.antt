@@ -3,7 +3,7 @@ use mathlib.Core.Path.{_≡_, refl, ap, sym, _∙_}
 use Rattle.sql.proofs.Laws.{then, one-guard, two-guards, either-or}
 use Rattle.sql.specs.Ends.{isColumn, columns}
 use Rattle.sql.specs.Condition.{test, lt, gt, eq, ne, print, checkId, checkIds}
-use Rattle.sql.specs.Template.{guardedText, guardedBothText, checkIdText, checkIdsText, eitherText, templateOf, held}
+use Rattle.sql.specs.Template.{spelt, partOf, parts, guardedText, guardedBothText, checkIdText, checkIdsText, eitherText, templateOf, held}
 use Rattle.sql.specs.Translators.{tAfter, tBefore, tContains, tDisjoint, tDuring, tEquals, tFinishedBy, tFinishes, tIntersects, tMeets, tMetBy, tOverlappedBy, tOverlaps, tStartedBy, tStarts, translate}
 use borrow.Author.Needs.{needs}
 use Rattle.sql.proofs.t_intersects_sql.Statement.{statement}
@@ -19,7 +19,7 @@ sql-requires : tie.Need-sql-requires
 sql-requires c κs = search needs
 
 returns : tie.Need-returns
-unfolding tIntersects print
+unfolding tIntersects print spelt partOf parts
 returns c = rw (c .before .before .before .if1 .taken, c .before .before .if2 .taken) (c .sql .ensures .0, omega arith)
 
 slice-aggregate-sql-2 : tie.Need-slice-aggregate-sql-2
@@ -29,7 +29,7 @@ sql-requires-2 : tie.Need-sql-requires-2
 sql-requires-2 c κs = search needs
 
 returns-2 : tie.Need-returns-2
-unfolding tIntersects print
+unfolding tIntersects print spelt partOf parts
 returns-2 c = rw (c .before .before .before .if1 .taken, c .before .before .if2 .left) (c .sql2 .ensures .0, omega arith)
 
 slice-aggregate-sql-3 : tie.Need-slice-aggregate-sql-3
@@ -39,7 +39,7 @@ sql-requires-3 : tie.Need-sql-requires-3
 sql-requires-3 c κs = search needs
 
 returns-3 : tie.Need-returns-3
-unfolding tIntersects print
+unfolding tIntersects print spelt partOf parts
 returns-3 c = rw (c .before .before .before .if1 .left, c .before .before .if3 .taken) (c .sql3 .ensures .0, omega arith)
 
 slice-aggregate-sql-4 : tie.Need-slice-aggregate-sql-4
@@ -49,7 +49,7 @@ sql-requires-4 : tie.Need-sql-requires-4
 sql-requires-4 c κs = search needs
 
 returns-4 : tie.Need-returns-4
-unfolding tIntersects print
+unfolding tIntersects print spelt partOf parts
 returns-4 c = rw (c .before .before .before .if1 .left, c .before .before .if3 .left) (c .sql4 .ensures .0, omega arith)
 
 pub t-intersects-sql-spec : {M : Type 1} → statement M

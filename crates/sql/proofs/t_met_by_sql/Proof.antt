@@ -3,7 +3,7 @@ use mathlib.Core.Path.{_≡_, refl, ap, sym, _∙_}
 use Rattle.sql.proofs.Laws.{then, one-guard, two-guards, either-or}
 use Rattle.sql.specs.Ends.{isColumn, columns}
 use Rattle.sql.specs.Condition.{test, lt, gt, eq, ne, print, checkId, checkIds}
-use Rattle.sql.specs.Template.{guardedText, guardedBothText, checkIdText, checkIdsText, eitherText, templateOf, held}
+use Rattle.sql.specs.Template.{spelt, partOf, parts, guardedText, guardedBothText, checkIdText, checkIdsText, eitherText, templateOf, held}
 use Rattle.sql.specs.Translators.{tAfter, tBefore, tContains, tDisjoint, tDuring, tEquals, tFinishedBy, tFinishes, tIntersects, tMeets, tMetBy, tOverlappedBy, tOverlaps, tStartedBy, tStarts, translate}
 use borrow.Author.Needs.{needs}
 use Rattle.sql.proofs.t_met_by_sql.Statement.{statement}
@@ -25,7 +25,7 @@ check-ids-requires : tie.Need-check-ids-requires
 check-ids-requires c κs = search needs
 
 returns : tie.Need-returns
-unfolding tMetBy print
+unfolding tMetBy print spelt partOf parts
 returns c = (c .check-ids .ensures .0 ∙ two-guards (columns (c .before .before .before .before .args .t3)) 1 2 (test 0 eq 3), omega arith)
 
 pub t-met-by-sql-spec : {M : Type 1} → statement M
