@@ -5,7 +5,9 @@ use mathlib.Core.List.{List, [], _∷_, _++_, append-assoc}
 use native.Mathlib.Omega.{arith}
 use lib.ListN.{length, length-append}
 use lib.Seq.{sets, length-sets}
-use Rattle.literal.specs.Placed.{placed}
+use Rattle.literal.specs.Placed.{placed, placedEnd, fits}
+use mathlib.Core.Bool.{Bool, true, false}
+use Rattle.choice.specs.Choice.{pick}
 use Rattle.literal.specs.PlacedLaws.{sets-append, placed-fits, length-placed}
 use Rattle.gpkg.specs.Lays.{Lays, capped}
 
@@ -59,3 +61,17 @@ lays-past {at} t l a = record {
   kept = refl;
   laid = λ h g. ap (λ (x : List ℕ). sets l at x) (sym (empty t at a g));
 }
+
+moved : (out : List ℕ) (at e : ℕ) (t : List ℕ) → e ≡ placedEnd out at t → at < e → e ≡ at + length t
+unfolding placedEnd
+moved out at e t q h = go (fits out at (length t)) q
+  where
+    go : (b : Bool) → e ≡ pick b (at + length t) at → e ≡ at + length t
+    go true z = z
+    go false z = absurd (let v : ⊥ = omega arith in v)
+
+-- one write that tells where it ended
+pub lays-moved : {at : ℕ} {t entry exit : List ℕ} {e r : ℕ} → exit ≡ placed entry at t → e ≡ placedEnd entry at t → at < e → r ≡ capped (e + 0) → Lays at t entry exit r
+lays-moved {at} {t} {entry} {exit} {e} {r} x q h p =
+    let z : e ≡ at + length t = moved entry at e t q h in
+    lays-placed (length t) x (p ∙ ap capped (let y : e + 0 ≡ at + length t = omega arith in y)) refl

@@ -1,4 +1,5 @@
 ghost use mathlib.Core.Path.{_≡_};
+ghost use mathlib.Core.Bool.{true};
 ghost use Prim.Native.Nat.{_+_, _-_, _*_, _≤_, _<_};
 ghost use lib.IntN.{natAbs};
 ghost use lib.Dec.{leb};
@@ -110,7 +111,21 @@ pub fn byte_at(s: &[u8], at: usize) -> usize
     if at < s.len() { wide(s[at]) } else { 0 }
 }
 
-pub fn word_at(s: &[u8], at: usize) -> usize
+// n bytes from `at` lie in `len` bytes. No sum is made, so `at` may be any number.
+fn lies(len: usize, at: usize, n: usize) -> bool
+    ensures { λ r. ⌜ (r ≡ true → at + n ≤ len) ⌝ }
+{
+    if len < n {
+        return false;
+    }
+    if len - n < at {
+        return false;
+    }
+    true
+}
+
+// A word of which a part may lie past the end.
+fn word_past(s: &[u8], at: usize) -> usize
     ensures { λ r. ⌜ (r ≡ le16 (now (s .entry)) at) × (r < 65536) ⌝ }
 {
     if at < s.len() {
@@ -120,28 +135,55 @@ pub fn word_at(s: &[u8], at: usize) -> usize
     }
 }
 
-pub fn dword_at(s: &[u8], at: usize) -> usize
+pub fn word_at(s: &[u8], at: usize) -> usize
+    ensures { λ r. ⌜ (r ≡ le16 (now (s .entry)) at) × (r < 65536) ⌝ }
+{
+    if lies(s.len(), at, 2) {
+        return word_in(s, at);
+    }
+    word_past(s, at)
+}
+
+fn dword_past(s: &[u8], at: usize) -> usize
     ensures { λ r. ⌜ (r ≡ le32 (now (s .entry)) at) × (r < 4294967296) ⌝ }
 {
     if s.len() < 2 {
-        return word_at(s, at);
+        return word_past(s, at);
     }
     if s.len() - 2 < at {
-        return word_at(s, at);
+        return word_past(s, at);
     }
-    word_at(s, at) + word_at(s, at + 2) * 65536
+    word_past(s, at) + word_past(s, at + 2) * 65536
+}
+
+pub fn dword_at(s: &[u8], at: usize) -> usize
+    ensures { λ r. ⌜ (r ≡ le32 (now (s .entry)) at) × (r < 4294967296) ⌝ }
+{
+    if lies(s.len(), at, 4) {
+        return dword_in(s, at);
+    }
+    dword_past(s, at)
+}
+
+fn qword_past(s: &[u8], at: usize) -> usize
+    ensures { λ r. ⌜ (r ≡ le64 (now (s .entry)) at) × (r < 18446744073709551616) ⌝ }
+{
+    if s.len() < 4 {
+        return dword_past(s, at);
+    }
+    if s.len() - 4 < at {
+        return dword_past(s, at);
+    }
+    dword_past(s, at) + dword_past(s, at + 4) * 4294967296
 }
 
 fn qword_at(s: &[u8], at: usize) -> usize
     ensures { λ r. ⌜ (r ≡ le64 (now (s .entry)) at) × (r < 18446744073709551616) ⌝ }
 {
-    if s.len() < 4 {
-        return dword_at(s, at);
+    if lies(s.len(), at, 8) {
+        return qword_in(s, at);
     }
-    if s.len() - 4 < at {
-        return dword_at(s, at);
-    }
-    dword_at(s, at) + dword_at(s, at + 4) * 4294967296
+    qword_past(s, at)
 }
 
 // Two's complement without a wrapping step: n less 2^64 is −1 less what n lacks of 2^64 − 1, and that fits.

@@ -1,56 +1,28 @@
--- `tree::dword_at` meets its contract: where the upper word lies past the end, the lower is all.
-use mathlib.Core.Path.{sym, _∙_}
-use native.Mathlib.Omega.{arith}
-use Rattle.tree.proofs.Laws as laws
+-- Where all of it lies in s it is read at once.
 use borrow.Author.Needs.{needs}
 use Rattle.tree.proofs.dword_at.Statement.{statement}
 use Rattle.tree.proofs.dword_at.Tie as tie
+use Rattle.tree.proofs.dword_at.Reads as reads
+use Rattle.tree.proofs.dword_at.Lts as lts
+use Rattle.tree.proofs.dword_in.Reads as dword-in-reads
+use Rattle.tree.proofs.dword_past.Reads as dword-past-reads
+use Rattle.tree.proofs.lies.Reads as lies-reads
 
-word-at-requires : tie.Need-word-at-requires
-word-at-requires c κs = search needs
+lies-requires : tie.Need-lies-requires
+lies-requires c κs = search needs
+
+dword-in-requires : tie.Need-dword-in-requires
+dword-in-requires c κs = c .before .lies .ensures (c .if1 .taken)
 
 returns : tie.Need-returns
-returns c = (c .word-at .ensures .0 ∙ sym (laws.dword-past (c .before .before .before .args .s .now) (c .before .before .before .args .at) (omega arith)), omega arith)
+returns c = search needs
 
-sub-if2 : tie.Need-sub-if2
-sub-if2 c = search needs
-
-word-at-requires-2 : tie.Need-word-at-requires-2
-word-at-requires-2 c κs = search needs
+dword-past-requires : tie.Need-dword-past-requires
+dword-past-requires c κs = search needs
 
 returns-2 : tie.Need-returns-2
-returns-2 c = (c .word-at2 .ensures .0 ∙ sym (laws.dword-past (c .before .before .before .before .args .s .now) (c .before .before .before .before .args .at) (omega arith)), omega arith)
-
-word-at-requires-3 : tie.Need-word-at-requires-3
-word-at-requires-3 c κs = search needs
-
-add-word-at : tie.Need-add-word-at
-add-word-at c = search needs
-
-word-at-requires-4 : tie.Need-word-at-requires-4
-word-at-requires-4 c κs = search needs
-
-mul-result : tie.Need-mul-result
-mul-result c = search needs
-
-add-result : tie.Need-add-result
-add-result c = search needs
-
-returns-3 : tie.Need-returns-3
-returns-3 c = search needs
+returns-2 c = search needs
 
 pub dword-at-spec : {M : Type 1} → statement M
 dword-at-spec =
-    tie.close
-    (tie.spec
-    word-at-requires
-    returns
-    sub-if2
-    word-at-requires-2
-    returns-2
-    word-at-requires-3
-    add-word-at
-    word-at-requires-4
-    mul-result
-    add-result
-    returns-3)
+    tie.close (tie.spec lies-requires dword-in-requires returns dword-past-requires returns-2)

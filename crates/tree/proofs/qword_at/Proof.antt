@@ -1,56 +1,28 @@
--- `tree::qword_at` meets its contract: where the upper half lies past the end, the lower is all.
-use mathlib.Core.Path.{sym, _∙_}
-use native.Mathlib.Omega.{arith}
-use Rattle.tree.proofs.Laws as laws
+-- Where all of it lies in s it is read at once.
 use borrow.Author.Needs.{needs}
 use Rattle.tree.proofs.qword_at.Statement.{statement}
 use Rattle.tree.proofs.qword_at.Tie as tie
+use Rattle.tree.proofs.qword_at.Reads as reads
+use Rattle.tree.proofs.qword_at.Lts as lts
+use Rattle.tree.proofs.lies.Reads as lies-reads
+use Rattle.tree.proofs.qword_in.Reads as qword-in-reads
+use Rattle.tree.proofs.qword_past.Reads as qword-past-reads
 
-dword-at-requires : tie.Need-dword-at-requires
-dword-at-requires c κs = search needs
+lies-requires : tie.Need-lies-requires
+lies-requires c κs = search needs
+
+qword-in-requires : tie.Need-qword-in-requires
+qword-in-requires c κs = c .before .lies .ensures (c .if1 .taken)
 
 returns : tie.Need-returns
-returns c = (c .dword-at .ensures .0 ∙ sym (laws.qword-past (c .before .before .before .args .s .now) (c .before .before .before .args .at) (omega arith)), omega arith)
+returns c = search needs
 
-sub-if2 : tie.Need-sub-if2
-sub-if2 c = search needs
-
-dword-at-requires-2 : tie.Need-dword-at-requires-2
-dword-at-requires-2 c κs = search needs
+qword-past-requires : tie.Need-qword-past-requires
+qword-past-requires c κs = search needs
 
 returns-2 : tie.Need-returns-2
-returns-2 c = (c .dword-at2 .ensures .0 ∙ sym (laws.qword-past (c .before .before .before .before .args .s .now) (c .before .before .before .before .args .at) (omega arith)), omega arith)
-
-dword-at-requires-3 : tie.Need-dword-at-requires-3
-dword-at-requires-3 c κs = search needs
-
-add-dword-at : tie.Need-add-dword-at
-add-dword-at c = search needs
-
-dword-at-requires-4 : tie.Need-dword-at-requires-4
-dword-at-requires-4 c κs = search needs
-
-mul-result : tie.Need-mul-result
-mul-result c = search needs
-
-add-result : tie.Need-add-result
-add-result c = search needs
-
-returns-3 : tie.Need-returns-3
-returns-3 c = search needs
+returns-2 c = search needs
 
 pub qword-at-spec : {M : Type 1} → statement M
 qword-at-spec =
-    tie.close
-    (tie.spec
-    dword-at-requires
-    returns
-    sub-if2
-    dword-at-requires-2
-    returns-2
-    dword-at-requires-3
-    add-dword-at
-    dword-at-requires-4
-    mul-result
-    add-result
-    returns-3)
+    tie.close (tie.spec lies-requires qword-in-requires returns qword-past-requires returns-2)

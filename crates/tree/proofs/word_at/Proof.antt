@@ -1,40 +1,28 @@
--- `tree::word_at` meets its contract: past the end both bytes count as 0.
-use mathlib.Core.Path.{sym}
-use native.Mathlib.Omega.{arith}
-use Rattle.tree.proofs.Laws as laws
+-- Where all of it lies in s it is read at once.
 use borrow.Author.Needs.{needs}
 use Rattle.tree.proofs.word_at.Statement.{statement}
 use Rattle.tree.proofs.word_at.Tie as tie
+use Rattle.tree.proofs.word_at.Reads as reads
+use Rattle.tree.proofs.word_at.Lts as lts
+use Rattle.tree.proofs.lies.Reads as lies-reads
+use Rattle.tree.proofs.word_in.Reads as word-in-reads
+use Rattle.tree.proofs.word_past.Reads as word-past-reads
 
-byte-at-requires : tie.Need-byte-at-requires
-byte-at-requires c κs = search needs
+lies-requires : tie.Need-lies-requires
+lies-requires c κs = search needs
 
-add-byte-at : tie.Need-add-byte-at
-add-byte-at c = search needs
-
-byte-at-requires-2 : tie.Need-byte-at-requires-2
-byte-at-requires-2 c κs = search needs
-
-mul-result : tie.Need-mul-result
-mul-result c = search needs
-
-add-result : tie.Need-add-result
-add-result c = search needs
+word-in-requires : tie.Need-word-in-requires
+word-in-requires c κs = c .before .lies .ensures (c .if1 .taken)
 
 returns : tie.Need-returns
 returns c = search needs
 
+word-past-requires : tie.Need-word-past-requires
+word-past-requires c κs = search needs
+
 returns-2 : tie.Need-returns-2
-returns-2 c = (sym (laws.word-past (c .before .before .args .s .now) _ (c .if1 .left)), omega arith)
+returns-2 c = search needs
 
 pub word-at-spec : {M : Type 1} → statement M
 word-at-spec =
-    tie.close
-    (tie.spec
-    byte-at-requires
-    add-byte-at
-    byte-at-requires-2
-    mul-result
-    add-result
-    returns
-    returns-2)
+    tie.close (tie.spec lies-requires word-in-requires returns word-past-requires returns-2)
