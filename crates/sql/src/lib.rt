@@ -33,56 +33,90 @@ pub struct Template {
     pub len: usize,
 }
 
-// An end.
-const E0: u8 = 0;
+// The operands or ends.
+pub const E0: u8 = 0;
 
-const E1: u8 = 1;
+pub const E1: u8 = 1;
 
-const E2: u8 = 2;
+pub const E2: u8 = 2;
 
-const E3: u8 = 3;
+pub const E3: u8 = 3;
+
+// The operator's word.
+pub const WORD: u8 = 4;
+
+// The names of the collations.
+pub const CI: u8 = 5;
+
+pub const AI: u8 = 6;
+
+pub const CAI: u8 = 7;
+
+// 1E-p.
+pub const PRECISION: u8 = 8;
 
 // `(`
-const OPEN: u8 = 9;
+pub const OPEN: u8 = 9;
 
 // `)`
-const CLOSE: u8 = 10;
+pub const CLOSE: u8 = 10;
+
+// ` `
+pub const SPACE: u8 = 11;
+
+// ` COLLATE `
+pub const COLLATE: u8 = 12;
+
+// ` AND ` between the bounds of BETWEEN.
+pub const UPTO: u8 = 13;
+
+// `, `
+pub const COMMA: u8 = 14;
+
+// `(ST_ReducePrecision(`
+pub const REDUCE: u8 = 15;
+
+// `), `
+pub const CLOSE_COMMA: u8 = 16;
+
+// `, ST_ReducePrecision(`
+pub const COMMA_REDUCE: u8 = 17;
 
 // `))`
-const CLOSE_BOTH: u8 = 18;
+pub const CLOSE_BOTH: u8 = 18;
 
 // ` > `
-const GREATER: u8 = 19;
+pub const GREATER: u8 = 19;
 
 // ` < `
-const LESS: u8 = 20;
+pub const LESS: u8 = 20;
 
 // ` = `
-const EQUAL: u8 = 21;
+pub const EQUAL: u8 = 21;
 
 // ` != `
-const UNEQUAL: u8 = 22;
+pub const UNEQUAL: u8 = 22;
 
 // `"`
-const QUOTE: u8 = 23;
+pub const QUOTE: u8 = 23;
 
 // `" IS NOT NULL AND (`
-const IS_NOT_NULL: u8 = 24;
+pub const IS_NOT_NULL: u8 = 24;
 
 // `" IS NOT NULL AND "`
-const IS_NOT_NULL_QUOTE: u8 = 25;
+pub const IS_NOT_NULL_QUOTE: u8 = 25;
 
 // `" NOT NULL AND (`
-const NOT_NULL: u8 = 26;
+pub const NOT_NULL: u8 = 26;
 
 // `) OR (`
-const OR: u8 = 27;
+pub const OR: u8 = 27;
 
 // `) AND (`
-const AND: u8 = 28;
+pub const AND: u8 = 28;
 
 // `NOT((`
-const NOT: u8 = 29;
+pub const NOT: u8 = 29;
 
 fn is_column(e: End) -> bool
     ensures { λ r. ⌜ r ≡ isColumn e ⌝ }
