@@ -30,6 +30,10 @@ lays-of {at} {t} {u} {entry} {exit} {r} e x = subst (λ (y : List ℕ). Lays at 
 twice : (a b : ℕ) → capped (capped a + b) ≡ capped (a + b)
 twice a b = omega arith
 
+-- two lengths counted one after the other
+pub counted-twice : (at n m : ℕ) {h r : ℕ} → h ≡ capped (at + n) → r ≡ capped (h + m) → r ≡ capped (at + (n + m))
+counted-twice at n m e f = f ∙ ap (λ (k : ℕ). capped (k + m)) e ∙ twice (at + n) m ∙ ap capped (let z : (at + n) + m ≡ at + (n + m) = omega arith in z)
+
 exact : (a : ℕ) → a ≤ 65536 → capped a ≡ a
 exact a h = omega arith
 

@@ -14,9 +14,9 @@ use Rattle.tree.specs.Limits.{mantissaLimit}
 use Rattle.tree.specs.Parse.{le64, signed, mantissa}
 use Rattle.tree.specs.ByteLaws.{le16-le, le32-le, le64-le, signed-twos, twos-low}
 use Rattle.tree.specs.Tree.{Tree, Settings, encode, twos, dateBytes, null, unbounded, bool, num, str, date, timestamp, spatial, id, monadic, dyadic, function, array, interval}
-use Rattle.literal.specs.Literal.{numText, boolText, dateText, timestampText, spatialText}
+use Rattle.literal.specs.Literal.{numText, boolText, dateText, timestampText, spatialText, quoted, collate, strText}
 use Rattle.gpkg.specs.Text.{text}
-use Rattle.gpkg.specs.Plan.{leafText, sound}
+use Rattle.gpkg.specs.Plan.{leafText, sound, nameOf, collation}
 use Rattle.gpkg.proofs.Records.{kindOf}
 
 -- a Bool is not both
@@ -50,3 +50,13 @@ leaf-text g (dyadic o t u) h f = absurd (let v : ⊥ = omega arith in v)
 leaf-text g (function n ts) h f = absurd (let v : ⊥ = omega arith in v)
 leaf-text g (array ts) h f = absurd (let v : ⊥ = omega arith in v)
 leaf-text g (interval t u) h f = absurd (let v : ⊥ = omega arith in v)
+
+-- a Str's collation, by its flags
+pub str-collated : (g : Settings) (f : ℕ) (s : List ℕ) → quoted s ++ collation g f ≡ strText (g .ci) (g .ai) (g .cai) f s
+unfolding strText
+str-collated g f s = ap (λ (l : List ℕ). quoted s ++ pick (eqb f 0) [] l) (go (eqb f 1) (eqb f 2))
+  where
+    go : (a b : Bool) → collate (nameOf g (pick a 5 (pick b 6 7))) ≡ pick a (collate (g .ci)) (pick b (collate (g .ai)) (collate (g .cai)))
+    go true b = refl
+    go false true = refl
+    go false false = refl

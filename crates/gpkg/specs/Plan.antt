@@ -143,15 +143,15 @@ dyadicEnds o t u =
 abbrev pub precise : ℕ → List ℕ
 precise p = 49 ∷ 69 ∷ 45 ∷ decimal p
 
--- the name of a collation by its digit, and a Str's collation by its flags
+-- the name of a collation by its code, and a Str's collation by its flags
 abbrev pub nameOf : Settings → ℕ → List ℕ
 nameOf g j = pick (eqb j 5) (g .ci) (pick (eqb j 6) (g .ai) (g .cai))
 
+abbrev pub flagsCode : ℕ → ℕ
+flagsCode flags = pick (eqb flags 1) 5 (pick (eqb flags 2) 6 7)
+
 abbrev pub collation : Settings → ℕ → List ℕ
-collation g flags =
-    pick (eqb flags 0) []
-    (pick (eqb flags 1) (collate (g .ci))
-    (pick (eqb flags 2) (collate (g .ai)) (collate (g .cai))))
+collation g flags = pick (eqb flags 0) [] (collate (nameOf g (flagsCode flags)))
 
 -- the text that a digit stands for
 abbrev pub wordText : Settings → List ℕ → ℕ → List ℕ

@@ -63,7 +63,7 @@ pub fn put_quoted(s: &[u8], out: &mut [u8], at: usize) -> usize
 }
 
 // Writes ` COLLATE ` and a collation's name.
-pub fn put_collate(name: &[u8], out: &mut [u8], at: usize) -> usize
+fn put_collate(name: &[u8], out: &mut [u8], at: usize) -> usize
     ensures text { λ r. ⌜ now (out .exit) ≡ placed (now (out .entry)) at (collate (now (name .entry))) ⌝ }
     ensures end { λ r. ⌜ r ≡ placedEnd (now (out .entry)) at (collate (now (name .entry))) ⌝ }
 {

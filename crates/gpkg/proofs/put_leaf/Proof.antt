@@ -8,6 +8,7 @@ use lib.ListN.{length, getD, take, drop, length-take, length-drop}
 use denote.Ref.{now}
 use borrow.Author.Tests.{eq-eqb, ne-eqb, lt-ltb, le-ltb, le-leb, lt-leb}
 use Rattle.gpkg.proofs.LaysLaws.{lays-placed, lays-none, lays-of, lays-then}
+use Rattle.gpkg.proofs.Leaves.{str-collated}
 use Rattle.gpkg.specs.Plan.{leafText, collation, nameOf, settingsIn, precise}
 use Rattle.literal.specs.Literal.{decimal, numText, boolText, dateText, timestampText, spatialText, quoted, collate, strText}
 use Rattle.record.specs.Record.{le16}
@@ -20,12 +21,12 @@ use Rattle.gpkg.proofs.put_leaf.Lts as lts
 use Rattle.gpkg.proofs.put.Reads as put-reads
 use Rattle.gpkg.proofs.put_bool.Reads as put-bool-reads
 use Rattle.gpkg.proofs.put_date.Reads as put-date-reads
-use Rattle.gpkg.proofs.put_from.Reads as put-from-reads
 use Rattle.gpkg.proofs.put_num.Reads as put-num-reads
 use Rattle.gpkg.proofs.put_open_end.Reads as put-open-end-reads
 use Rattle.gpkg.proofs.put_spatial.Reads as put-spatial-reads
 use Rattle.gpkg.proofs.put_str.Reads as put-str-reads
 use Rattle.gpkg.proofs.put_timestamp.Reads as put-timestamp-reads
+use Rattle.gpkg.proofs.rest.Reads as rest-reads
 use Rattle.tree.proofs.byte_at.Reads as byte-at-reads
 use Rattle.tree.proofs.word_at.Reads as word-at-reads
 
@@ -62,8 +63,11 @@ put-timestamp-requires c κs = search needs
 put-spatial-requires : tie.Need-put-spatial-requires
 put-spatial-requires c κs = search needs
 
-put-from-requires : tie.Need-put-from-requires
-put-from-requires c κs = search needs
+rest-requires : tie.Need-rest-requires
+rest-requires c κs = search needs
+
+put-requires-2 : tie.Need-put-requires-2
+put-requires-2 c κs = search needs
 
 same-length : tie.Need-same-length
 same-length c = search needs
@@ -97,8 +101,8 @@ same-length-5 : tie.Need-same-length-5
 same-length-5 c = search needs
 
 returns-5 : tie.Need-returns-5
-unfolding leafText strText
-returns-5 c = rw (sym (c .before .before .before .before .before .word-at .ensures .0) ∙ c .before .before .before .before .match .keys5) (c .before .before .put-str .ensures)
+unfolding leafText
+returns-5 c = rw (sym (c .before .before .before .before .before .word-at .ensures .0) ∙ c .before .before .before .before .match .keys5) (lays-of (str-collated (settingsIn (c .before .before .before .before .before .before .before .before .before .args .set .now)) (getD (c .before .before .before .before .before .before .before .before .before .args .s .now) 6 0) (drop 7 (c .before .before .before .before .before .before .before .before .before .args .s .now))) (c .before .before .put-str .ensures))
 
 same-length-6 : tie.Need-same-length-6
 same-length-6 c = search needs
@@ -126,7 +130,7 @@ same-length-9 c = search needs
 
 returns-9 : tie.Need-returns-9
 unfolding leafText
-returns-9 c = let e = c .before .before .before .before .before .word-at .ensures .0 in simp (ne-eqb (le16 (c .before .before .before .before .before .before .before .before .before .args .s .now) 4) 0 (λ z. c .before .before .before .before .match .rest .0 .0 .0 .0 .0 .0 .0 .1 (e ∙ z)), ne-eqb (le16 (c .before .before .before .before .before .before .before .before .before .args .s .now) 4) 1 (λ z. c .before .before .before .before .match .rest .0 .0 .0 .0 .0 .0 .1 (e ∙ z)), ne-eqb (le16 (c .before .before .before .before .before .before .before .before .before .args .s .now) 4) 2 (λ z. c .before .before .before .before .match .rest .0 .0 .0 .0 .0 .1 (e ∙ z)), ne-eqb (le16 (c .before .before .before .before .before .before .before .before .before .args .s .now) 4) 3 (λ z. c .before .before .before .before .match .rest .0 .0 .0 .0 .1 (e ∙ z)), ne-eqb (le16 (c .before .before .before .before .before .before .before .before .before .args .s .now) 4) 4 (λ z. c .before .before .before .before .match .rest .0 .0 .0 .1 (e ∙ z)), ne-eqb (le16 (c .before .before .before .before .before .before .before .before .before .args .s .now) 4) 5 (λ z. c .before .before .before .before .match .rest .0 .0 .1 (e ∙ z)), ne-eqb (le16 (c .before .before .before .before .before .before .before .before .before .args .s .now) 4) 6 (λ z. c .before .before .before .before .match .rest .0 .1 (e ∙ z)), ne-eqb (le16 (c .before .before .before .before .before .before .before .before .before .args .s .now) 4) 7 (λ z. c .before .before .before .before .match .rest .1 (e ∙ z))) (c .before .before .put-from .ensures)
+returns-9 c = let e = c .before .before .before .before .before .before .word-at .ensures .0 in simp (ne-eqb (le16 (c .before .before .before .before .before .before .before .before .before .before .args .s .now) 4) 0 (λ z. c .before .before .before .before .before .match .rest .0 .0 .0 .0 .0 .0 .0 .1 (e ∙ z)), ne-eqb (le16 (c .before .before .before .before .before .before .before .before .before .before .args .s .now) 4) 1 (λ z. c .before .before .before .before .before .match .rest .0 .0 .0 .0 .0 .0 .1 (e ∙ z)), ne-eqb (le16 (c .before .before .before .before .before .before .before .before .before .before .args .s .now) 4) 2 (λ z. c .before .before .before .before .before .match .rest .0 .0 .0 .0 .0 .1 (e ∙ z)), ne-eqb (le16 (c .before .before .before .before .before .before .before .before .before .before .args .s .now) 4) 3 (λ z. c .before .before .before .before .before .match .rest .0 .0 .0 .0 .1 (e ∙ z)), ne-eqb (le16 (c .before .before .before .before .before .before .before .before .before .before .args .s .now) 4) 4 (λ z. c .before .before .before .before .before .match .rest .0 .0 .0 .1 (e ∙ z)), ne-eqb (le16 (c .before .before .before .before .before .before .before .before .before .before .args .s .now) 4) 5 (λ z. c .before .before .before .before .before .match .rest .0 .0 .1 (e ∙ z)), ne-eqb (le16 (c .before .before .before .before .before .before .before .before .before .before .args .s .now) 4) 6 (λ z. c .before .before .before .before .before .match .rest .0 .1 (e ∙ z)), ne-eqb (le16 (c .before .before .before .before .before .before .before .before .before .before .args .s .now) 4) 7 (λ z. c .before .before .before .before .before .match .rest .1 (e ∙ z))) (lays-of (c .before .before .before .before .rest .ensures) (c .before .before .put2 .ensures))
 
 pub put-leaf-spec : {M : Type 1} → statement M
 put-leaf-spec =
@@ -143,7 +147,8 @@ put-leaf-spec =
     put-date-requires
     put-timestamp-requires
     put-spatial-requires
-    put-from-requires
+    rest-requires
+    put-requires-2
     same-length
     returns
     same-length-2

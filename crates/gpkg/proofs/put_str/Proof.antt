@@ -1,4 +1,4 @@
--- What the calls ensure, put together.
+-- The text in quotes, with its collation if the flags ask for one.
 use native.Mathlib.Omega.{arith}
 use mathlib.Core.Path.{_≡_, refl, ap, sym, _∙_}
 use mathlib.Core.List.{List, [], _∷_, _++_, append-assoc, append-nil}
@@ -7,57 +7,97 @@ use Prim.Native.Nat.{ℕ, _+_, _-_, _≤_, _<_, min}
 use lib.ListN.{length, getD, take, drop, length-take, length-drop}
 use denote.Ref.{now}
 use borrow.Author.Tests.{eq-eqb, ne-eqb, lt-ltb, le-ltb, le-leb, lt-leb}
-use Rattle.gpkg.proofs.LaysLaws.{lays-placed, lays-none, lays-of, lays-then}
+use Rattle.gpkg.proofs.LaysLaws.{lays-placed, counted-twice, lays-none, lays-of, lays-then}
 use Rattle.gpkg.specs.Plan.{leafText, collation, nameOf, settingsIn, precise}
 use Rattle.literal.specs.Literal.{decimal, numText, boolText, dateText, timestampText, spatialText, quoted, collate, strText}
+use Rattle.literal.specs.LiteralLaws.{length-quoted, length-collate}
+use lib.ListN.{length-append}
+use Rattle.gpkg.specs.Plan.{nameOf}
 use borrow.Author.Needs.{needs}
 use Rattle.gpkg.proofs.put_str.Statement.{statement}
 use Rattle.gpkg.proofs.put_str.Tie as tie
 use Rattle.gpkg.proofs.put_str.Reads as reads
 use Rattle.gpkg.proofs.put_str.Lts as lts
-use Rattle.gpkg.proofs.put.Reads as put-reads
-use Rattle.gpkg.proofs.put_collation.Reads as put-collation-reads
-use Rattle.gpkg.proofs.put_from.Reads as put-from-reads
+use Rattle.gpkg.proofs.ended.Reads as ended-reads
+use Rattle.gpkg.proofs.flags_code.Reads as flags-code-reads
+use Rattle.gpkg.proofs.name_of.Reads as name-of-reads
+use Rattle.gpkg.proofs.rest.Reads as rest-reads
+use Rattle.literal.proofs.put_collated.Reads as put-collated-reads
+use Rattle.literal.proofs.put_quoted.Reads as put-quoted-reads
 use Rattle.tree.proofs.byte_at.Reads as byte-at-reads
 
-slice-aggregate-put : tie.Need-slice-aggregate-put
-slice-aggregate-put c = search needs
-
-put-requires : tie.Need-put-requires
-put-requires c κs = search needs
-
-put-from-requires : tie.Need-put-from-requires
-put-from-requires c κs = search needs
-
-slice-aggregate-put-2 : tie.Need-slice-aggregate-put-2
-slice-aggregate-put-2 c = search needs
-
-put-requires-2 : tie.Need-put-requires-2
-put-requires-2 c κs = search needs
+rest-requires : tie.Need-rest-requires
+rest-requires c κs = search needs
 
 byte-at-requires : tie.Need-byte-at-requires
 byte-at-requires c κs = search needs
 
-put-collation-requires : tie.Need-put-collation-requires
-put-collation-requires c κs = search needs
+put-quoted-requires : tie.Need-put-quoted-requires
+put-quoted-requires c κs = search needs
+
+add-ended : tie.Need-add-ended
+add-ended c = search needs
+
+ended-requires : tie.Need-ended-requires
+ended-requires c κs = search needs
 
 same-length : tie.Need-same-length
 same-length c = search needs
 
 returns : tie.Need-returns
-unfolding quoted
-returns c = let w = lays-of (ap (λ (k : ℕ). collation (settingsIn (c .before .before .before .before .before .before .before .before .before .before .before .before .before .before .before .before .before .before .before .before .before .before .args .set .now)) k) (c .before .before .before .before .byte-at .ensures .0)) (c .before .before .put-collation .ensures) in lays-of (simp append-assoc) (lays-then (lays-then (c .before .before .before .before .before .before .before .before .before .before .before .before .before .before .before .before .put .ensures) (lays-then (c .before .before .before .before .before .before .before .before .before .before .before .before .put-from .ensures) (c .before .before .before .before .before .before .before .put2 .ensures))) w)
+returns c =
+    let z : collation (settingsIn (c .before .before .before .before .before .before .before .before .before .before .before .args .set .now)) (getD (c .before .before .before .before .before .before .before .before .before .before .before .args .s .now) 6 0) ≡ [] = simp (eq-eqb (getD (c .before .before .before .before .before .before .before .before .before .before .before .args .s .now) 6 0) 0 (sym (c .before .before .before .before .before .before .byte-at .ensures .0) ∙ c .before .before .before .before .before .if1 .taken)) in
+    let e : quoted (c .before .before .before .before .before .before .before .rest .result .now) ≡ quoted (drop 7 (c .before .before .before .before .before .before .before .before .before .before .before .args .s .now)) ++ collation (settingsIn (c .before .before .before .before .before .before .before .before .before .before .before .args .set .now)) (getD (c .before .before .before .before .before .before .before .before .before .before .before .args .s .now) 6 0) = ap quoted (c .before .before .before .before .before .before .before .rest .ensures) ∙ sym (append-nil (quoted (drop 7 (c .before .before .before .before .before .before .before .before .before .before .before .args .s .now)))) ∙ ap (λ (l : List ℕ). quoted (drop 7 (c .before .before .before .before .before .before .before .before .before .before .before .args .s .now)) ++ l) (sym z) in
+    lays-of e (lays-placed _ (c .before .before .before .put-quoted .ensures .0) (c .ended .ensures) (sym (length-quoted (c .before .before .before .before .before .before .before .rest .result .now))))
+
+flags-code-requires : tie.Need-flags-code-requires
+flags-code-requires c κs = search needs
+
+name-of-requires : tie.Need-name-of-requires
+name-of-requires c κs = search needs
+
+put-collated-requires : tie.Need-put-collated-requires
+put-collated-requires c κs = search needs
+
+add-ended-2 : tie.Need-add-ended-2
+add-ended-2 c = search needs
+
+ended-requires-2 : tie.Need-ended-requires-2
+ended-requires-2 c κs = search needs
+
+add-ended-3 : tie.Need-add-ended-3
+add-ended-3 c = search needs
+
+ended-requires-3 : tie.Need-ended-requires-3
+ended-requires-3 c κs = search needs
+
+same-length-2 : tie.Need-same-length-2
+same-length-2 c = search needs
+
+returns-2 : tie.Need-returns-2
+returns-2 c =
+    let q : getD (c .before .before .before .before .before .before .before .before .before .before .before .before .before .before .args .s .now) 6 0 ≡ c .before .before .before .before .before .before .before .before .before .byte-at .result = sym (c .before .before .before .before .before .before .before .before .before .byte-at .ensures .0) in
+    let z : collation (settingsIn (c .before .before .before .before .before .before .before .before .before .before .before .before .before .before .args .set .now)) (getD (c .before .before .before .before .before .before .before .before .before .before .before .before .before .before .args .s .now) 6 0) ≡ collate (c .before .before .before .before .before .before .name-of .result .now) = ap (collation (settingsIn (c .before .before .before .before .before .before .before .before .before .before .before .before .before .before .args .set .now))) q ∙ simp (ne-eqb _ _ (c .before .before .before .before .before .before .before .before .if1 .left)) (ap (λ (k : ℕ). collate (nameOf (settingsIn (c .before .before .before .before .before .before .before .before .before .before .before .before .before .before .args .set .now)) k)) (sym (c .before .before .before .before .before .before .before .flags-code .ensures)) ∙ ap collate (sym (c .before .before .before .before .before .before .name-of .ensures))) in
+    let e : quoted (c .before .before .before .before .before .before .before .before .before .before .rest .result .now) ++ collate (c .before .before .before .before .before .before .name-of .result .now) ≡ quoted (drop 7 (c .before .before .before .before .before .before .before .before .before .before .before .before .before .before .args .s .now)) ++ collation (settingsIn (c .before .before .before .before .before .before .before .before .before .before .before .before .before .before .args .set .now)) (getD (c .before .before .before .before .before .before .before .before .before .before .before .before .before .before .args .s .now) 6 0) = ap (λ (l : List ℕ). quoted l ++ collate (c .before .before .before .before .before .before .name-of .result .now)) (c .before .before .before .before .before .before .before .before .before .before .rest .ensures) ∙ ap (λ (l : List ℕ). quoted (drop 7 (c .before .before .before .before .before .before .before .before .before .before .before .before .before .before .args .s .now)) ++ l) (sym z) in
+    lays-of e (lays-placed _ (c .before .before .before .before .put-collated .ensures .0) (counted-twice _ _ _ (c .before .ended2 .ensures) (c .ended3 .ensures)) (sym (length-append (quoted (c .before .before .before .before .before .before .before .before .before .before .rest .result .now)) (collate (c .before .before .before .before .before .before .name-of .result .now)) ∙ (let y : length (quoted (c .before .before .before .before .before .before .before .before .before .before .rest .result .now)) + length (collate (c .before .before .before .before .before .before .name-of .result .now)) ≡ length (c .before .before .before .before .before .before .before .before .before .before .rest .result .now) + 2 + (length (c .before .before .before .before .before .before .name-of .result .now) + 9) = rw (length-quoted, length-collate) refl in y))))
 
 pub put-str-spec : {M : Type 1} → statement M
 put-str-spec =
     tie.close
     (tie.spec
-    slice-aggregate-put
-    put-requires
-    put-from-requires
-    slice-aggregate-put-2
-    put-requires-2
+    rest-requires
     byte-at-requires
-    put-collation-requires
+    put-quoted-requires
+    add-ended
+    ended-requires
     same-length
-    returns)
+    returns
+    flags-code-requires
+    name-of-requires
+    put-collated-requires
+    add-ended-2
+    ended-requires-2
+    add-ended-3
+    ended-requires-3
+    same-length-2
+    returns-2)

@@ -1,4 +1,4 @@
--- What the calls ensure, put together.
+-- A part that is cut off at the end of the bytes.
 use native.Mathlib.Omega.{arith}
 use mathlib.Core.Path.{_≡_, refl, ap, sym, _∙_}
 use mathlib.Core.List.{List, [], _∷_, _++_, append-assoc, append-nil}
@@ -12,12 +12,11 @@ use Rattle.gpkg.specs.Plan.{leafText, collation, nameOf, settingsIn, pre
 use Rattle.literal.specs.Literal.{decimal, numText, boolText, dateText, timestampText, spatialText, quoted, collate, strText}
 use Rattle.gpkg.proofs.Clip.{clip}
 use borrow.Author.Needs.{needs}
-use Rattle.gpkg.proofs.put_named.Statement.{statement}
-use Rattle.gpkg.proofs.put_named.Tie as tie
-use Rattle.gpkg.proofs.put_named.Reads as reads
-use Rattle.gpkg.proofs.put_named.Lts as lts
+use Rattle.gpkg.proofs.name_at.Statement.{statement}
+use Rattle.gpkg.proofs.name_at.Tie as tie
+use Rattle.gpkg.proofs.name_at.Reads as reads
+use Rattle.gpkg.proofs.name_at.Lts as lts
 use Rattle.gpkg.proofs.least.Reads as least-reads
-use Rattle.gpkg.proofs.put.Reads as put-reads
 use Rattle.tree.proofs.byte_at.Reads as byte-at-reads
 
 add-a : tie.Need-add-a
@@ -35,26 +34,20 @@ add-least c = search needs
 least-requires-2 : tie.Need-least-requires-2
 least-requires-2 c κs = search needs
 
-sub-put : tie.Need-sub-put
-sub-put c = search needs
+sub-result : tie.Need-sub-result
+sub-result c = search needs
 
-part-put-start : tie.Need-part-put-start
-part-put-start c = search needs
+part-result-start : tie.Need-part-result-start
+part-result-start c = search needs
 
-part-put-end : tie.Need-part-put-end
-part-put-end c = search needs
-
-put-requires : tie.Need-put-requires
-put-requires c κs = search needs
-
-same-length : tie.Need-same-length
-same-length c = search needs
+part-result-end : tie.Need-part-result-end
+part-result-end c = search needs
 
 returns : tie.Need-returns
-returns c = lays-of (clip _ _ _ _ _ (c .before .before .before .before .before .before .before .least .ensures) (c .before .before .before .before .before .least2 .ensures ∙ ap (λ (k : ℕ). min (c .before .before .before .before .before .before .before .before .before .before .args .p + 1 + k) (length (c .before .before .before .before .before .before .before .before .before .before .args .set .now))) (c .before .before .before .before .before .before .byte-at .ensures .0))) (c .before .before .put .ensures)
+returns c = clip _ _ _ _ _ (c .before .before .before .least .ensures) (c .before .least2 .ensures ∙ ap (λ (k : ℕ). min (c .before .before .before .before .before .args .p + 1 + k) (length (c .before .before .before .before .before .args .set .now))) (c .before .before .byte-at .ensures .0))
 
-pub put-named-spec : {M : Type 1} → statement M
-put-named-spec =
+pub name-at-spec : {M : Type 1} → statement M
+name-at-spec =
     tie.close
     (tie.spec
     add-a
@@ -62,9 +55,7 @@ put-named-spec =
     byte-at-requires
     add-least
     least-requires-2
-    sub-put
-    part-put-start
-    part-put-end
-    put-requires
-    same-length
+    sub-result
+    part-result-start
+    part-result-end
     returns)
