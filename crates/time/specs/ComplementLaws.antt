@@ -1,9 +1,9 @@
 -- TDisjoint is the negation of TIntersects where no column of the operands is NULL: its guards then pass, and without them it is what
--- TIntersects negates. Neither is Missing there, as every end is found.
+-- TIntersects negates.
 use Prim.Native.Nat.{ℕ}
 use mathlib.Core.Path.{_≡_, refl, sym, _∙_}
 use mathlib.Core.List.{List}
-use mathlib.Core.Bool.{Bool, true, false, false≢true, not}
+use mathlib.Core.Bool.{Bool, true, false, not}
 use lib.Dec.{eqb}
 use Rattle.choice.specs.Choice.{negated}
 use Rattle.choice.specs.ChoiceLaws.{both-true}
@@ -23,8 +23,7 @@ use Rattle.truth.specs.declared.Reading.the-variants.{True as SaysTrue, False a
 use Rattle.truth.specs.Reading.{answered}
 use Rattle.truth.specs.Lex.{LT, GT, EQ, NE}
 use Rattle.truth.specs.Grammar.{not3, or3, truthOf, compared, holds}
-use Rattle.time.specs.Filter.{found}
-use Rattle.time.specs.FilterTruth.{valueOn, condTruth, endValues, temporalTruth, isValue, columnsNonNull}
+use Rattle.time.specs.FilterTruth.{valueOn, condTruth, endValues, temporalTruth, columnsNonNull}
 use Rattle.time.specs.Claims.{Opposite}
 use Rattle.time.specs.TruthLaws.{not3-twice, guard, guard-passes, check-id, check-ids}
 
@@ -81,69 +80,6 @@ open-guard cs (function n ts) h b = refl
 open-guard cs (array ts) h b = refl
 open-guard cs (interval t u) h b = refl
 
--- and it is found
-is-found : (x : Found) → isValue x ≡ true → found x ≡ true
-unfolding isValue
-is-found absent e = e
-is-found (has row.null) e = refl
-is-found (has (val x)) e = refl
-
-end-found : (cs : List Column) (e : Tree) → columnsNonNull cs e ≡ true → found (valueOn cs e) ≡ true
-unfolding valueOn columnsNonNull
-end-found cs null h = refl
-end-found cs unbounded h = refl
-end-found cs (bool x) h = refl
-end-found cs (num m s) h = refl
-end-found cs (str f s) h = refl
-end-found cs (date y m d) h = refl
-end-found cs (timestamp y m d k i s) h = refl
-end-found cs (spatial n s) h = refl
-end-found cs (id s) h = is-found (look s cs) h
-end-found cs (monadic o t) h = refl
-end-found cs (dyadic o t u) h = refl
-end-found cs (function n ts) h = refl
-end-found cs (array ts) h = refl
-end-found cs (interval t u) h = refl
-
--- Truths that are not Missing.
-unfoldable pub isMissing : Truth → Bool
-isMissing True = false
-isMissing False = false
-isMissing Unknown = false
-isMissing Missing = true
-
-known-found : (op : ℕ) (x y : Found) → found x ≡ true → found y ≡ true → isMissing (compared op x y) ≡ false
-unfolding isMissing
-known-found op absent y e f = absurd (false≢true e)
-known-found op (has x) absent e f = absurd (false≢true f)
-known-found op (has row.null) (has y) e f = refl
-known-found op (has (val x)) (has row.null) e f = refl
-known-found op (has (val x)) (has (val y)) e f = go (holds op (order x y))
-  where
-    go : (b : Bool) → isMissing (truthOf b) ≡ false
-    go true = refl
-    go false = refl
-
-known-not : (a : Truth) → isMissing a ≡ false → isMissing (not3 a) ≡ false
-unfolding isMissing
-known-not True e = refl
-known-not False e = refl
-known-not Unknown e = refl
-known-not Missing e = e
-
-known-or : (a b : Truth) → isMissing a ≡ false → isMissing b ≡ false → isMissing (or3 a b) ≡ false
-unfolding isMissing
-known-or True True e f = refl
-known-or True False e f = refl
-known-or True Unknown e f = refl
-known-or True Missing e f = f
-known-or False b e f = f
-known-or Unknown True e f = refl
-known-or Unknown False e f = refl
-known-or Unknown Unknown e f = refl
-known-or Unknown Missing e f = f
-known-or Missing b e f = e
-
 -- the two signs of two instants
 pub ne-eq : (x y : Found) → compared NE x y ≡ not3 (compared EQ x y)
 unfolding holds
@@ -162,12 +98,6 @@ sides a b a' b' e f = cc
 
 both-sides : (a b a' b' : Truth) → a ≡ a' → b ≡ b' → or3 a b ≡ not3 (not3 (or3 a' b'))
 both-sides a b a' b' e f = sides a b a' b' e f ∙ sym (not3-twice (or3 a' b'))
-
-outside : (x y z w : Found) → found x ≡ true → found y ≡ true → found z ≡ true → found w ≡ true
-    → isMissing (not3 (or3 (compared LT x y) (compared GT z w))) ≡ false
-outside x y z w a b c d =
-    known-not (or3 (compared LT x y) (compared GT z w))
-    (known-or (compared LT x y) (compared GT z w) (known-found LT x y a b) (known-found GT z w c d))
 
 -- A truth and its negation are opposite, and so are the answers that reading makes of them.
 abbrev Truths : Truth → Truth → Type 0
@@ -221,32 +151,6 @@ module _ (cs : List Column) (t u : Tree) (p : columnsNonNull cs t ≡ true) (q :
   pub disjoint-intersects : temporalTruth cs TDisjoint t u ≡ not3 (temporalTruth cs TIntersects t u)
   unfolding temporalTruth translate
   disjoint-intersects = complement (isInterval t) (isInterval u)
-
-  start-t : found (valueOn cs (startOf t)) ≡ true
-  start-t = end-found cs (startOf t) (start-non-null cs t p)
-
-  stop-t : found (valueOn cs (stopOf t)) ≡ true
-  stop-t = end-found cs (stopOf t) (stop-non-null cs t p)
-
-  start-u : found (valueOn cs (startOf u)) ≡ true
-  start-u = end-found cs (startOf u) (start-non-null cs u q)
-
-  stop-u : found (valueOn cs (stopOf u)) ≡ true
-  stop-u = end-found cs (stopOf u) (stop-non-null cs u q)
-
-  intersects-by : (a b : Bool) → isMissing (condTruth ends (tIntersects a b cols)) ≡ false
-  unfolding condTruth tIntersects endsOf
-  intersects-by false false = known-found EQ (ends 0) (ends 2) start-t start-u
-  intersects-by false true = outside (ends 0) (ends 2) (ends 0) (ends 3) start-t start-u start-t stop-u
-  intersects-by true false = outside (ends 1) (ends 2) (ends 0) (ends 2) stop-t start-u start-t start-u
-  intersects-by true true = outside (ends 1) (ends 2) (ends 0) (ends 3) stop-t start-u start-t stop-u
-
-  pub intersects-known : isMissing (temporalTruth cs TIntersects t u) ≡ false
-  unfolding temporalTruth translate
-  intersects-known = intersects-by (isInterval t) (isInterval u)
-
-  pub disjoint-known : isMissing (temporalTruth cs TDisjoint t u) ≡ false
-  disjoint-known = rw disjoint-intersects (known-not (temporalTruth cs TIntersects t u) intersects-known)
 
   -- the sentence of demand 3, over the tree and as reading answers
   pub complement-truths : Opposite True False Unknown (temporalTruth cs TDisjoint t u) (temporalTruth cs TIntersects t u)
