@@ -1,4 +1,4 @@
--- A condition whose ends are still to be written: its text with the digits 0 to 3 where the ends go.
+-- A text whose operands or ends are still to be written, with digits where they go, and the parts by code that the code makes such a text of (src/ds/sql.rs, src/ds/gpkg.rs).
 use Prim.Native.Nat.{ℕ, _+_, _-_}
 use mathlib.Core.List.{List, [], _∷_, _++_}
 use mathlib.Core.Bool.{Bool}
