@@ -207,7 +207,8 @@ fn begins_reserved(b: u8) -> bool
     false
 }
 
-fn is_reserved(s: &[u8]) -> bool
+// A word that no name may be, in any letter case.
+pub fn is_reserved(s: &[u8]) -> bool
     ensures { λ r. ⌜ r ≡ reserved (now (s .entry)) ⌝ }
 {
     if s.len() < 2 {
