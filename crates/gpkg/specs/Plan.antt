@@ -221,7 +221,7 @@ twinOf op kind inner =
     (pick (eqb op 1) false
     (pick (eqb kind 9) (pick (eqb op 16) (eqb inner 17) (eqb inner 16)) false)))
 
--- the template of a spatial operator by whether each side is a column
+-- the template of a spatial operator by whether each side is a column: 4(0, 1), 4(ST_ReducePrecision(0, 8), 1) or 4(0, ST_ReducePrecision(1, 8))
 unfoldable pub spatialTemplate : ℕ → Bool → Bool → List ℕ
 spatialTemplate op a b =
     pick (between 21 op 23)

@@ -9,7 +9,8 @@ ghost use Rattle.sql.specs.Ends.{isColumn, isInterval, columns, startOf,
 ghost use Rattle.sql.specs.Template.{held, spelt, templateOf, guardedText, guardedBothText, checkIdText, checkIdsText, eitherText};
 ghost use Rattle.sql.specs.Translators.{tAfter, tBefore, tContains, tDisjoint, tDuring, tEquals, tFinishedBy, tFinishes, tIntersects, tMeets, tMetBy, tOverlappedBy, tOverlaps, tStartedBy, tStarts, translate};
 
-// An end of an operand: the record that holds it lies from the first offset to the second in the tree.
+// An end of an operand: the record that holds it lies from the first offset to the second, counted from the start of the operator's own record
+// in the tree.
 pub enum End {
     Column(usize, usize),
     // A date or a timestamp.

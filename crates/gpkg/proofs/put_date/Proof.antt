@@ -18,6 +18,7 @@ use Rattle.gpkg.proofs.put_date.Tie as tie
 use Rattle.gpkg.proofs.put_date.Reads as reads
 use Rattle.gpkg.proofs.put_date.Lts as lts
 use Rattle.gpkg.proofs.ended.Reads as ended-reads
+use Rattle.literal.proofs.date_len.Reads as date-len-reads
 use Rattle.literal.proofs.put_date.Reads as put-date-reads
 use Rattle.tree.proofs.byte_at.Reads as byte-at-reads
 use Rattle.tree.proofs.word_at.Reads as word-at-reads
@@ -34,6 +35,9 @@ byte-at-requires-2 c κs = search needs
 put-date-requires : tie.Need-put-date-requires
 put-date-requires c κs = search needs
 
+date-len-requires : tie.Need-date-len-requires
+date-len-requires c κs = search needs
+
 ended-requires : tie.Need-ended-requires
 ended-requires c κs = search needs
 
@@ -41,7 +45,7 @@ same-length : tie.Need-same-length
 same-length c = search needs
 
 returns : tie.Need-returns
-returns c = let e : dateText (c .before .before .before .before .before .before .before .word-at .result) (c .before .before .before .before .before .before .byte-at .result) (c .before .before .before .before .before .byte-at2 .result) ≡ dateText (le16 (c .before .before .before .before .before .before .before .before .before .before .args .s .now) 6) (getD (c .before .before .before .before .before .before .before .before .before .before .args .s .now) 8 0) (getD (c .before .before .before .before .before .before .before .before .before .before .args .s .now) 9 0) = cc in lays-of e (lays-placed 12 (c .before .before .before .put-date .ensures .0) (c .ended .ensures) (sym (length-date _ _ _)))
+returns c = let e : dateText (c .before .before .before .before .before .before .before .before .word-at .result) (c .before .before .before .before .before .before .before .byte-at .result) (c .before .before .before .before .before .before .byte-at2 .result) ≡ dateText (le16 (c .before .before .before .before .before .before .before .before .before .before .before .args .s .now) 6) (getD (c .before .before .before .before .before .before .before .before .before .before .before .args .s .now) 8 0) (getD (c .before .before .before .before .before .before .before .before .before .before .before .args .s .now) 9 0) = cc in lays-of e (lays-placed _ (c .before .before .before .before .put-date .ensures .0) (c .ended .ensures) (c .before .date-len .ensures _ _ _))
 
 pub put-date-spec : {M : Type 1} → statement M
 put-date-spec =
@@ -51,6 +55,7 @@ put-date-spec =
     byte-at-requires
     byte-at-requires-2
     put-date-requires
+    date-len-requires
     ended-requires
     same-length
     returns)

@@ -18,6 +18,7 @@ use Rattle.gpkg.proofs.put_timestamp.Tie as tie
 use Rattle.gpkg.proofs.put_timestamp.Reads as reads
 use Rattle.gpkg.proofs.put_timestamp.Lts as lts
 use Rattle.gpkg.proofs.ended.Reads as ended-reads
+use Rattle.literal.proofs.timestamp_len.Reads as timestamp-len-reads
 use Rattle.literal.proofs.put_timestamp.Reads as put-timestamp-reads
 use Rattle.tree.proofs.byte_at.Reads as byte-at-reads
 use Rattle.tree.proofs.word_at.Reads as word-at-reads
@@ -43,6 +44,9 @@ byte-at-requires-5 c κs = search needs
 put-timestamp-requires : tie.Need-put-timestamp-requires
 put-timestamp-requires c κs = search needs
 
+timestamp-len-requires : tie.Need-timestamp-len-requires
+timestamp-len-requires c κs = search needs
+
 ended-requires : tie.Need-ended-requires
 ended-requires c κs = search needs
 
@@ -50,7 +54,7 @@ same-length : tie.Need-same-length
 same-length c = search needs
 
 returns : tie.Need-returns
-returns c = let e : timestampText (c .before .before .before .before .before .before .before .before .before .before .word-at .result) (c .before .before .before .before .before .before .before .before .before .byte-at .result) (c .before .before .before .before .before .before .before .before .byte-at2 .result) (c .before .before .before .before .before .before .before .byte-at3 .result) (c .before .before .before .before .before .before .byte-at4 .result) (c .before .before .before .before .before .byte-at5 .result) ≡ timestampText (le16 (c .before .before .before .before .before .before .before .before .before .before .before .before .before .args .s .now) 6) (getD (c .before .before .before .before .before .before .before .before .before .before .before .before .before .args .s .now) 8 0) (getD (c .before .before .before .before .before .before .before .before .before .before .before .before .before .args .s .now) 9 0) (getD (c .before .before .before .before .before .before .before .before .before .before .before .before .before .args .s .now) 10 0) (getD (c .before .before .before .before .before .before .before .before .before .before .before .before .before .args .s .now) 11 0) (getD (c .before .before .before .before .before .before .before .before .before .before .before .before .before .args .s .now) 12 0) = cc in lays-of e (lays-placed 21 (c .before .before .before .put-timestamp .ensures .0) (c .ended .ensures) (sym (length-timestamp _ _ _ _ _ _)))
+returns c = let e : timestampText (c .before .before .before .before .before .before .before .before .before .before .before .word-at .result) (c .before .before .before .before .before .before .before .before .before .before .byte-at .result) (c .before .before .before .before .before .before .before .before .before .byte-at2 .result) (c .before .before .before .before .before .before .before .before .byte-at3 .result) (c .before .before .before .before .before .before .before .byte-at4 .result) (c .before .before .before .before .before .before .byte-at5 .result) ≡ timestampText (le16 (c .before .before .before .before .before .before .before .before .before .before .before .before .before .before .args .s .now) 6) (getD (c .before .before .before .before .before .before .before .before .before .before .before .before .before .before .args .s .now) 8 0) (getD (c .before .before .before .before .before .before .before .before .before .before .before .before .before .before .args .s .now) 9 0) (getD (c .before .before .before .before .before .before .before .before .before .before .before .before .before .before .args .s .now) 10 0) (getD (c .before .before .before .before .before .before .before .before .before .before .before .before .before .before .args .s .now) 11 0) (getD (c .before .before .before .before .before .before .before .before .before .before .before .before .before .before .args .s .now) 12 0) = cc in lays-of e (lays-placed _ (c .before .before .before .before .put-timestamp .ensures .0) (c .ended .ensures) (c .before .timestamp-len .ensures _ _ _ _ _ _))
 
 pub put-timestamp-spec : {M : Type 1} → statement M
 put-timestamp-spec =
@@ -63,6 +67,7 @@ put-timestamp-spec =
     byte-at-requires-4
     byte-at-requires-5
     put-timestamp-requires
+    timestamp-len-requires
     ended-requires
     same-length
     returns)
