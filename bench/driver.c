@@ -167,6 +167,19 @@ static int takes_part(const struct input *i, int side)
     return side == OURS;
 }
 
+/* What SQLite makes of the text on the row: 1, 0, or 2 for NULL. */
+static int truth(const struct one *o)
+{
+    sqlite3_stmt *s;
+    char *sql = sqlite3_mprintf("SELECT (%s) FROM t", (char *)o->part[0].at);
+    if (sqlite3_prepare_v2(o->base, sql, -1, &s, NULL) || sqlite3_step(s) != SQLITE_ROW)
+        fail("SQLite does not run the text");
+    int said = sqlite3_column_type(s, 0) == SQLITE_NULL ? 2 : sqlite3_column_int(s, 0);
+    sqlite3_finalize(s);
+    sqlite3_free(sql);
+    return said;
+}
+
 /* Both sides must give the same answer, or a ratio of their times says nothing. Returns the bytes of text, or the one answer of a reading. */
 static long long same(const struct input *i)
 {
@@ -178,12 +191,8 @@ static long long same(const struct input *i)
         if (o->tree && (n < 0 || rust_text(o->tree, other, sizeof other) != (size_t)n || memcmp(out, other, (size_t)n)))
             fail("the Rust gives another text");
 #endif
-        if (o->ready) {
-            int r = sqlite3_step(o->ready);
-            sqlite3_reset(o->ready);
-            if (n < 0 || (r == SQLITE_ROW) != (n == 1))
-                fail("SQLite gives another answer");
-        }
+        if (o->ready && n != truth(o))
+            fail("SQLite gives another answer");
     }
     return total;
 }

@@ -86,7 +86,8 @@ def nested(op, levels, leaf, side):
 
 
 CELLS = [('fid', '17'), ('label', 'bolt'), ('shelf', 'top'), ('mass', '12.5'), ('entered', '2024-02-03'), ('exited', None)]
-WIDE = CELLS + [('c%d' % n, 'value %d' % n) for n in range(54)]
+LEFT = CELLS[:-1] + [('exited', '2024-02-20')]    # the same stay after its end: some of the texts are then true
+MORE = [('c%d' % n, 'value %d' % n) for n in range(54)]
 TEXTS = [text(G, t) for t in TIME_FILTERS]
 
 
@@ -120,6 +121,11 @@ def reading(texts, cells, ask=True):
     """With what SQLite needs, where it is asked too: a wide row is none of its tables."""
     query = 'SELECT 1 FROM t WHERE '
     return 'R', [(t.encode(), row(cells), *((table(cells).encode(), (query + t).encode()) if ask else (b'', b''))) for t in texts]
+
+
+def both(texts, more=[]):
+    """Each text on a stay that is open, and on one that has ended."""
+    return 'R', reading(texts, CELLS + more)[1] + reading(texts, LEFT + more)[1]
 
 
 def growth():
@@ -178,5 +184,5 @@ def checked():
 def compared():
     """Label and input, of which the other sides take part."""
     return [('time filters', lowering(TIME_FILTERS)), ('mixed filters', lowering(MIXED_FILTERS)), ('32 KB trees', lowering(large(LONGEST_TREE)))], [
-        ('small texts, 6 columns', reading(TEXTS, CELLS)), ('small texts, 60 columns', reading(TEXTS, WIDE)),
+        ('small texts, 6 columns', both(TEXTS)), ('small texts, 60 columns', both(TEXTS, MORE)),
         ('text of 2 KB, 6 columns', reading([' OR '.join('(%s)' % t for t in TEXTS * 3)], CELLS))]

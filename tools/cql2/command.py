@@ -78,7 +78,7 @@ def filter_bytes(source):
     """What the argument names: standard input, the JSON itself, or a file."""
     if source == '-':
         return sys.stdin.buffer.read()
-    if source.lstrip()[:1] in ('{', '[', '"') or source.strip() in ('true', 'false', 'null'):
+    if source.lstrip('\ufeff \t\r\n')[:1] in ('{', '[', '"') or source.strip() in ('true', 'false', 'null'):
         return source.encode('utf-8', 'surrogateescape')
     try:
         with open(source, 'rb') as f:
@@ -87,13 +87,18 @@ def filter_bytes(source):
         raise BadInput('cannot read the filter %s: %s' % (source, getattr(e, 'strerror', None) or e))
 
 
+CLOCKS = (b'CURRENT_DATE', b'CURRENT_TIME', b'CURRENT_TIMESTAMP')
+
+
 def check_columns(tree, package, name):
     """SQLite would take a quoted name that is no column for a text, in silence."""
     columns = package.columns(name)
     known = {column.lower() for column in columns}
-    for node, _ in tree.walk():
-        if node.kind == records.ID and node.head.decode().lower() not in known:
+    for node in (node for node, _ in tree.walk() if node.kind == records.ID):
+        if node.head.decode().lower() not in known:
             raise BadInput('the table "%s" has no column %s; it has %s' % (name, node.head.decode(), ', '.join(columns)), node.place)
+        if node.head.upper() in CLOCKS:
+            raise BadInput('SQLite takes the name %s for the time of today, not for the column' % node.head.decode(), node.place)
 
 
 def show_rows(package, name, sql, most):
@@ -114,9 +119,11 @@ def show_rows(package, name, sql, most):
 
 def run(arguments):
     options = parser().parse_args(arguments)
+    if options.geopackage is None and (options.table is not None or options.spatialite):
+        raise BadInput('--table and --spatialite go with --geopackage (see ./filter --help)')
     tree = Encoder(options.precision, options.srid, options.function).filter(read_filter(filter_bytes(options.filter)))
     collations = (options.ci, options.ai, options.cai)
-    package = GeoPackage(options.geopackage, collations, options.spatialite) if options.geopackage else None
+    package = GeoPackage(options.geopackage, collations, options.spatialite) if options.geopackage is not None else None
     name = package.table(options.table) if package else None
     proved.build(['lower'])
     sql = lowering.lower(records.settings(options.precision, *collations), tree)

@@ -200,8 +200,12 @@ def stamp(value, place):
     return Node(TIMESTAMP, place, struct.pack('<HBBBBB', *map(int, fields)))
 
 
+# What others write, where the nearest spelling would say the opposite.
+OTHERS = {'!=': '<>', 'isNotNull': 'not, and isNull inside it', 'notNull': 'not, and isNull inside it'}
+
+
 def unknown(name):
-    near = difflib.get_close_matches(name, KNOWN, 1, 0.6) or [x for x in KNOWN if x.lower() == name.lower()]
+    near = name in OTHERS and [OTHERS[name]] or difflib.get_close_matches(name, KNOWN, 1, 0.6) or [x for x in KNOWN if x.lower() == name.lower()]
     hint = 'did you mean %s?' % near[0] if near else 'if it is a function of your database, add --function %s' % shortened(name)
     return 'unknown operator "%s"; %s' % (shortened(name), hint)
 

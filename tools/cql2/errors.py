@@ -26,6 +26,9 @@ class Disagreement(Exception):
 
 def guarded(name, work):
     """Does the work; gives the exit status."""
+    # a stream that the caller closed is None; what is written to it then goes nowhere
+    sys.stdin, sys.stdout, sys.stderr = (stream or open(os.devnull, mode) for stream, mode in
+                                         ((sys.stdin, 'r'), (sys.stdout, 'w'), (sys.stderr, 'w')))
     for stream in (sys.stdout, sys.stderr):
         stream.reconfigure(errors='backslashreplace')
     try:
@@ -38,6 +41,8 @@ def guarded(name, work):
         return told(name, e, 2)
     except RecursionError:
         return told(name, 'the filter nests too deeply to be read (document 01 allows 32 levels)', 2)
+    except UnicodeEncodeError:
+        return told(name, 'an argument is not UTF-8 text', 2)
     except MemoryError:
         return told(name, 'there is not enough memory', 2)
     except KeyboardInterrupt:
@@ -50,5 +55,11 @@ def guarded(name, work):
 
 
 def told(name, message, status):
-    print('%s: %s' % (name, ' '.join(str(message).split())), file=sys.stderr)
+    line = ' '.join(str(message).split())
+    # names out of a filter or a file may hold what a terminal would obey
+    line = ''.join(c if c.isprintable() else c.encode('unicode_escape', 'backslashreplace').decode() for c in line)
+    try:
+        print('%s: %s' % (name, line), file=sys.stderr, flush=True)
+    except OSError:
+        pass    # nobody can be told, but the status still says it
     return status

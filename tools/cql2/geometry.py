@@ -12,7 +12,9 @@ class Writer:
     def __init__(self, precision):
         self.precision = precision
 
-    def geometry(self, value, place):
+    def geometry(self, value, place, sizes=None):
+        """The text; `sizes` takes up how many numbers its positions have."""
+        sizes = set() if sizes is None else sizes
         kind = value.get('type')
         if kind == 'GeometryCollection':
             return self.collection(value, place)
@@ -21,7 +23,6 @@ class Writer:
         only(value, ('type', 'coordinates', 'bbox'), place)
         at = place + '.coordinates'
         coordinates = value.get('coordinates')
-        sizes = set()
         text = self.lists(coordinates, DEPTH[kind], at, sizes)
         if len(sizes) != 1:
             raise BadInput('positions of two and of three numbers are mixed' if sizes else 'there are no positions', at)
@@ -37,13 +38,13 @@ class Writer:
         items = value.get('geometries')
         if not isinstance(items, list) or not items:
             raise BadInput('a GeometryCollection has a list of geometries', place)
-        texts = []
+        texts, sizes = [], set()
         for k, item in enumerate(items):
             at = '%s.geometries[%d]' % (place, k)
             if not isinstance(item, dict) or item.get('type') == 'GeometryCollection':
                 raise BadInput('a GeometryCollection holds simple geometries', at)
-            texts.append(self.geometry(item, at))
-        return 'GEOMETRYCOLLECTION (%s)' % ', '.join(texts)
+            texts.append(self.geometry(item, at, sizes))
+        return 'GEOMETRYCOLLECTION %s(%s)' % ('Z ' if sizes == {3} else '', ', '.join(texts))
 
     def lists(self, value, depth, place, sizes):
         if depth == 0:
@@ -83,6 +84,10 @@ class Writer:
             raise BadInput('a bbox has four or six numbers', at)
         half = len(numbers) // 2
         west, south, east, north = (self.coordinate(x, at) for x in numbers[:2] + numbers[half:half + 2])
+        if float(south) > float(north):
+            raise BadInput('a bbox has its southern edge before its northern', at)
+        if float(west) > float(east) and not -180 <= float(east) < float(west) <= 180:
+            raise BadInput('a bbox has its western edge first, unless it crosses the meridian of 180 degrees', at)
         ring = '((%s %s, %s %s, %s %s, %s %s, %s %s))'
         corners = lambda w, e: ring % (w, south, e, south, e, north, w, north, w, south)
         if float(west) <= float(east):

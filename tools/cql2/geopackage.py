@@ -45,7 +45,7 @@ class GeoPackage:
             raise BadInput('cannot open %s: %s' % (path, e))
 
     def open(self, collations, spatialite):
-        self.connection = sqlite3.connect('file:%s?mode=ro' % quote(os.path.abspath(self.path)), uri=True)
+        self.connection = sqlite3.connect('file:%s?mode=ro' % quote(os.fsencode(os.path.abspath(self.path))), uri=True)
         self.connection.text_factory = lambda data: data.decode('utf-8', 'replace')
         if self.connection.execute('PRAGMA application_id').fetchone()[0] not in APPLICATION_IDS:
             raise BadInput('%s is no GeoPackage: its application_id is another' % self.path)
@@ -69,7 +69,7 @@ class GeoPackage:
     def table(self, name):
         """The table of that name, or the only one with rows of features or attributes."""
         found = [row[0] for row in self.connection.execute(
-            "SELECT table_name FROM gpkg_contents WHERE data_type IN ('features', 'attributes') ORDER BY 1")]
+            "SELECT table_name FROM gpkg_contents WHERE typeof(table_name) = 'text' AND data_type IN ('features', 'attributes') ORDER BY 1")]
         if name is None and len(found) == 1:
             name = found[0]
         if name is None:
@@ -82,7 +82,8 @@ class GeoPackage:
         return name
 
     def columns(self, table):
-        return [row[1] for row in self.connection.execute('PRAGMA table_info(%s)' % quoted(table))]
+        """As SELECT * has them: generated ones too, hidden ones of virtual tables not."""
+        return [row[1] for row in self.connection.execute('PRAGMA table_xinfo(%s)' % quoted(table)) if row[6] != 1]
 
     def count(self, table):
         return self.connection.execute('SELECT count(*) FROM %s' % quoted(table)).fetchone()[0]

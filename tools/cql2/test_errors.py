@@ -43,6 +43,8 @@ BAD = [    # a filter that is not as CQL2-JSON has it, and what the line says
     (op('foo', 1), '$.op: unknown operator "foo"; if it is a function of your database, add --function foo'),
     (op('t_metby', AB, CD), '$.op: unknown operator "t_metby"; did you mean t_metBy?'),
     (op('AND', True, True), '$.op: unknown operator "AND"; did you mean and?'),
+    (op('!=', A, 1), '$.op: unknown operator "!="; did you mean <>?'),
+    (op('\x1b[2J', A), '$.op: unknown operator "\\x1b[2J"; if it is a function of your database, add --function \\x1b[2J'),
     (op('not', op('and', True)), '$.args[0].args: and takes 2 arguments or more, not 1'),
     (op('not'), '$.args: not takes 1 argument, not 0'),
     (op('=', 1, 2, 3), '$.args: = takes 2 arguments, not 3'),
@@ -98,7 +100,12 @@ BAD = [    # a filter that is not as CQL2-JSON has it, and what the line says
     (op('s_within', A, {'type': 'GeometryCollection', 'geometries': []}), '$.args[1]: a GeometryCollection has a list of geometries'),
     (op('s_within', A, {'type': 'GeometryCollection', 'geometries': [1]}),
      '$.args[1].geometries[0]: a GeometryCollection holds simple geometries'),
+    (op('s_within', A, {'type': 'GeometryCollection', 'geometries': [point(1, 2), point(1, 2, 3)]}),
+     '$.args[1].geometries[1].coordinates: positions of two and of three numbers are mixed'),
     (op('s_within', A, {'bbox': [1, 2, 3]}), '$.args[1].bbox: a bbox has four or six numbers'),
+    (op('s_within', A, {'bbox': [1, 2, 3, 0]}), '$.args[1].bbox: a bbox has its southern edge before its northern'),
+    (op('s_within', A, {'bbox': [1000, 0, 500, 1]}),
+     '$.args[1].bbox: a bbox has its western edge first, unless it crosses the meridian of 180 degrees'),
 ]
 
 NAME_RULE = 'a name has 1 to 64 letters, digits and underscores, no digit first, and is none of AND'
@@ -183,6 +190,11 @@ class Errors(unittest.TestCase):
                          'argument --srid: a whole number from 0 to 4294967295 is due (see ./filter --help)')
         self.assertEqual(self.line(run('true', '--colour'), 2), 'unrecognized arguments: --colour (see ./filter --help)')
         self.assertTrue(self.line(run('true', '--ci', 'a b'), 1).startswith('refused (1): a collation of the settings: a name has'))
+
+    def test_closed_streams(self):
+        for closed, status, told in (('- <&-', 2, b'filter: the filter is empty\n'), ('true >&-', 0, b''), ("'{' 2>&-", 2, b''), ("'{' 2>/dev/full", 2, b'')):
+            done = subprocess.run('%s %s' % (FILTER, closed), shell=True, executable='/bin/bash', capture_output=True)
+            self.assertEqual((done.returncode, done.stdout, done.stderr), (status, b'', told), closed)
 
     def test_no_program_and_no_kit(self):
         with tempfile.TemporaryDirectory() as folder:

@@ -149,6 +149,21 @@ fid  label  tray    entry       exit        place
         none = self.other('none.gpkg', 'DELETE FROM gpkg_contents')
         self.assertEqual(self.line('true', '-g', none), 'filter: %s has no table of features or attributes; name one with --table' % none)
 
+    def test_odd_files(self):
+        for k, name in enumerate(("x'74'", 'NULL')):
+            path = os.path.join(self.folder.name, 'name%d.gpkg' % k)
+            connection = sqlite3.connect(path)
+            connection.executescript('PRAGMA application_id = 0x47504B47; CREATE TABLE gpkg_contents (table_name, data_type); '
+                                     "INSERT INTO gpkg_contents VALUES (%s, 'features')" % name)
+            connection.close()
+            self.assertIn('has no table of features or attributes', self.line('true', '-g', path))
+        path = self.other(b'\xff.gpkg'.decode('utf-8', 'surrogateescape'), 'ALTER TABLE stays ADD COLUMN current_date TEXT',
+                          'ALTER TABLE stays ADD COLUMN twice TEXT GENERATED ALWAYS AS (label || label)')
+        self.assertEqual(run(json.dumps(op('=', {'property': 'twice'}, 'cupcup')), '-g', path).returncode, 0)
+        self.assertIn('SQLite takes the name current_date for the time of today', self.line(json.dumps(op('isNull', {'property': 'current_date'})), '-g', path))
+        self.assertEqual(self.line('true', '-g', ''), 'filter: cannot read : No such file or directory')
+        self.assertEqual(self.line('true', '-t', 'stays'), 'filter: --table and --spatialite go with --geopackage (see ./filter --help)')
+
     def test_texts_that_sqlite_cannot_run(self):
         cannot = 'filter: SQLite cannot run this text: '
         self.assertEqual(self.line(json.dumps(op('isNull', {'property': 'zz'})), '-g', self.path),
