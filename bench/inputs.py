@@ -157,7 +157,7 @@ def worst():
         ('row of 2,970 names, last first', reading(['TRUE'], down, False)),
         ('the same, a text of 11,900 names', reading([asked], down, False)),
         ('442 names alike in 61 of 64 bytes', reading([alike], [(n, None) for n in long], False)),
-        ('64 brackets, 480 times', reading([repeated(brackets, ' OR ', LONGEST_TEXT)], CELLS, False)),
+        ('64 brackets, 481 times', reading([repeated(brackets, ' OR ', LONGEST_TEXT)], CELLS, False)),
         ('16,382 NOTs', reading(['NOT ' * 16382 + 'TRUE'], CELLS, False)),
         ('one quoted text of 64 KB', reading(["'%s'=mass" % ('x' * (LONGEST_TEXT - 7))], CELLS, False))]
 

@@ -1,4 +1,3 @@
-
 // ---- Appended by bench/run to the oracle's main.rs: the Rust's lowering for bench/driver.c.
 unsafe extern "C" { fn clock_ns() -> u64; }
 unsafe fn bytes<'a>(at: *const u8, n: usize) -> &'a [u8] { unsafe { std::slice::from_raw_parts(at, n) } }

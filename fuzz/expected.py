@@ -14,8 +14,8 @@ def text_once(g, t):
     """The text of each record is made once, and its bytes past 65,536 are left off: they make no difference, and ends that are doubled at each of
     30 levels would fill the memory."""
     if id(t) not in made:
-        made[id(t)] = written(g, t)[:LONGEST_TEXT + 1]
-    return made[id(t)]
+        made[id(t)] = (t, written(g, t)[:LONGEST_TEXT + 1])    # t is kept, so that its id stays its own
+    return made[id(t)][1]
 
 
 lowering.text = text_once

@@ -24,8 +24,8 @@ class Disagreement(Exception):
     """The proved reader and SQLite say different things of a row: exit status 1."""
 
 
-def guarded(name, work):
-    """Does the work; gives the exit status."""
+def guarded(name, work, enough=0):
+    """Does the work; gives the exit status, `enough` where the reader of its output leaves before the end."""
     # a stream that the caller closed is None; what is written to it then goes nowhere
     sys.stdin, sys.stdout, sys.stderr = (stream or open(os.devnull, mode) for stream, mode in
                                          ((sys.stdin, 'r'), (sys.stdout, 'w'), (sys.stderr, 'w')))
@@ -40,7 +40,7 @@ def guarded(name, work):
     except (BadInput, sqlite3.Error) as e:
         return told(name, e, 2)
     except RecursionError:
-        return told(name, 'the filter nests too deeply to be read (document 01 allows 32 levels)', 2)
+        return told(name, Refused(4, 'the filter lies deeper than 32 levels'), 1)
     except UnicodeEncodeError:
         return told(name, 'an argument is not UTF-8 text', 2)
     except MemoryError:
@@ -50,8 +50,7 @@ def guarded(name, work):
     except OSError as e:
         # what is still to be written has nowhere to go, and must not be tried again at exit
         os.dup2(os.open(os.devnull, os.O_WRONLY), sys.stdout.fileno())
-        # a reader that has enough is no error
-        return 0 if isinstance(e, BrokenPipeError) else told(name, e.strerror or e, 2)
+        return enough if isinstance(e, BrokenPipeError) else told(name, e.strerror or e, 2)
 
 
 def told(name, message, status):

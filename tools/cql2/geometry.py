@@ -7,7 +7,7 @@ DEPTH = {'Point': 0, 'LineString': 1, 'MultiPoint': 1, 'Polygon': 2, 'MultiLineS
 
 
 class Writer:
-    """Writes coordinates to a number of digits after the point, as the Rust's `to_wkt` does."""
+    """Writes coordinates to a number of digits after the point, closing zeros dropped."""
 
     def __init__(self, precision):
         self.precision = precision

@@ -6,7 +6,6 @@ from .encode import RULES
 from .errors import BadInput, Refused
 
 WORDS = {
-    1: 'a collation of the settings: %s' % RULES[records.ID],
     2: 'the filter is longer than 32,768 bytes as records (it has %d)',
     4: 'this lies deeper than 32 levels',
     8: 'the SQL text would be longer than 65,535 bytes',
@@ -25,6 +24,8 @@ def lower(settings, tree):
     number = refusal_of(line)
     if number is None:
         return line
+    if number == 1:
+        raise BadInput('a collation of the settings: %s' % RULES[records.ID])
     if number in (6, 7):
         raise explained(number, settings, tree)
     if number not in WORDS:

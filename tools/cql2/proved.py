@@ -62,14 +62,13 @@ def follow(output, total):
 
 
 def tick(started, ended):
-    """After three seconds says what is going on, as the first build takes minutes; on a terminal with the time."""
-    if ended.wait(3):
+    """On a terminal, after three seconds, says what is going on and for how long: the first build takes minutes."""
+    if not sys.stderr.isatty() or ended.wait(3):
         return
     print('proving the programs (some minutes, the first time only)', file=sys.stderr, flush=True)
-    while sys.stderr.isatty() and not ended.wait(1):
+    while not ended.wait(1):
         print('\rproving, %d s ' % (time.monotonic() - started), end='', file=sys.stderr, flush=True)
-    if sys.stderr.isatty():
-        print('\r\033[K', end='', file=sys.stderr, flush=True)
+    print('\r\033[K', end='', file=sys.stderr, flush=True)
 
 
 def run(name, cases):

@@ -1,7 +1,7 @@
 """Reads the JSON text of a filter. Numbers are kept as they are written, so that no digit is lost to a float."""
 import json
 
-from .errors import BadInput
+from .errors import BadInput, Refused
 
 
 class Number:
@@ -48,9 +48,9 @@ def read_filter(data):
     try:
         return json.loads(text, parse_int=Number, parse_float=Number, parse_constant=no_number, object_pairs_hook=members)
     except json.JSONDecodeError as e:
-        raise BadInput('the filter is not JSON: %s at line %d, column %d' % (e.msg, e.lineno, e.colno))
+        raise BadInput('the filter is not JSON: %s at line %d, column %d' % (e.msg.removesuffix(' starting at'), e.lineno, e.colno))
     except RecursionError:
-        raise BadInput('the filter nests too deeply to be read (document 01 allows 32 levels)')
+        raise Refused(4, 'the filter lies deeper than 32 levels')
 
 
 def no_number(text):

@@ -14,7 +14,7 @@ def point(data):
     """The text of a GeoPackage's point in two dimensions, without envelope; None for all else."""
     if len(data) != 29 or data[:4] != b'GP\0\1' or data[8:13] != b'\1\1\0\0\0':
         return None
-    return 'POINT (%g %g)' % struct.unpack('<dd', data[13:])
+    return 'POINT (%.10g %.10g)' % struct.unpack('<dd', data[13:])
 
 
 def cell(value):

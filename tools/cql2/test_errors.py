@@ -38,8 +38,6 @@ BAD = [    # a filter that is not as CQL2-JSON has it, and what the line says
     ('{"op": "=", "args": [NaN, 2]}', 'NaN is no JSON number'),
     ('{"op": "=", "args": [-Infinity, 2]}', '-Infinity is no JSON number'),
     ('{"op": "=", "op": "=", "args": [1, 2]}', 'the member "op" stands twice in one object'),
-    ('[' * 5000, 'the filter nests too deeply to be read (document 01 allows 32 levels)'),
-    (nested(450), 'the filter nests too deeply to be read (document 01 allows 32 levels)'),
     (op('foo', 1), '$.op: unknown operator "foo"; if it is a function of your database, add --function foo'),
     (op('t_metby', AB, CD), '$.op: unknown operator "t_metby"; did you mean t_metBy?'),
     (op('AND', True, True), '$.op: unknown operator "AND"; did you mean and?'),
@@ -175,6 +173,10 @@ class Errors(unittest.TestCase):
             self.assertTrue(line.startswith('refused (6) at $.args[0].op: ' + NAME_RULE), line)
         self.assertEqual(self.line(run('true', '--function', 'not'), 2), 'argument --function: not is an operator (see ./filter --help)')
 
+    def test_too_deep_to_be_read(self):
+        for data in ('[' * 5000, nested(450)):
+            self.assertEqual(self.line(run('-', data=data.encode()), 1), 'refused (4): the filter lies deeper than 32 levels')
+
     def test_bytes_that_are_no_text(self):
         self.assertEqual(self.line(run('-', data=b'"\xff"'), 2), 'the filter is not UTF-8 text (byte 1)')
         self.assertEqual(self.line(run('-', data=bytes(range(256))), 2), 'the filter is not UTF-8 text (byte 128)')
@@ -189,7 +191,7 @@ class Errors(unittest.TestCase):
         self.assertEqual(self.line(run('true', '--srid', '-1'), 2),
                          'argument --srid: a whole number from 0 to 4294967295 is due (see ./filter --help)')
         self.assertEqual(self.line(run('true', '--colour'), 2), 'unrecognized arguments: --colour (see ./filter --help)')
-        self.assertTrue(self.line(run('true', '--ci', 'a b'), 1).startswith('refused (1): a collation of the settings: a name has'))
+        self.assertTrue(self.line(run('true', '--ci', 'a b'), 2).startswith('a collation of the settings: a name has'))
 
     def test_closed_streams(self):
         for closed, status, told in (('- <&-', 2, b'filter: the filter is empty\n'), ('true >&-', 0, b''), ("'{' 2>&-", 2, b''), ("'{' 2>/dev/full", 2, b'')):
