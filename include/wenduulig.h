@@ -5,8 +5,8 @@
  * The library is for x86-64 Linux.
  *
  * Settings, trees and rows are handed in as the records below. Any bytes may be handed in: what breaks a rule is refused
- * by a number, in document 01's order, and never read out of bounds. Both functions are proved to give the numbers and
- * bytes below on all inputs (crates/capi, crates/gpkg, crates/truth).
+ * by a number and never read out of bounds. Both functions are proved to give the numbers and bytes below on all inputs
+ * (crates/capi, crates/gpkg, crates/truth).
  *
  * Records. Length, 4 bytes; kind, 2 bytes; body. Numbers are little-endian; the length counts kind and body.
  *    0 Null, 1 Unbounded (..)   empty
@@ -47,6 +47,8 @@
  *                        < > <= >= = <> != of columns, quoted texts and NULL, a column with IS NULL, IS NOT NULL or
  *                        NOT NULL, TRUE, FALSE, NULL, joined by NOT, AND, OR and brackets
  *   13      text, row    a name in the text is absent from the row
+ * Of several, lowering gives 1 first, then 2; then 3 to 6, record by record in reading order, a parent first, and of one
+ * record the lowest; then 7, 8 and 9. Reading gives the lowest.
  *
  * Memory. The caller lends every byte and keeps it: nothing is allocated, freed or kept after the return. A pointer is
  * followed by the number of bytes that it lends. It is not NULL, also where that number is 0. `out` overlaps neither
