@@ -269,6 +269,39 @@ static void test_texts(void)
     expect_text(200, "NOT(('2024-02-29' < '-2021-01-01') OR ('2024-02-29' > c))", "sheet K");
 }
 
+/* A record of a kind that has a fixed body before an optional text. */
+static void put_fields(struct bytes *b, unsigned kind, const uint8_t *fields, size_t n, const char *rest)
+{
+    size_t start = begin(b, kind);
+    put(b, fields, n);
+    put_text(b, rest);
+    end(b, start);
+}
+
+/* The kinds that the sheets above leave out, by the header's layout. */
+static void test_kinds(void)
+{
+    const uint8_t yes[] = {1}, half[] = {0xFB, 255, 255, 255, 255, 255, 255, 255, 1}, icase[] = {1};
+    const uint8_t second[] = {0xE8, 7, 1, 2, 3, 4, 5}, wgs84[] = {0xE6, 0x10, 0, 0};
+    make_settings(&settings);
+    tree.n = 0;
+    size_t start = begin(&tree, WENDUULIG_FUNCTION);
+    put_named(&tree, "f");
+    put_fields(&tree, WENDUULIG_BOOL, yes, sizeof yes, "");
+    put_fields(&tree, WENDUULIG_NUM, half, sizeof half, "");
+    put_fields(&tree, WENDUULIG_STR, icase, sizeof icase, "x y");
+    put_fields(&tree, WENDUULIG_TIMESTAMP, second, sizeof second, "");
+    put_fields(&tree, WENDUULIG_SPATIAL, wgs84, sizeof wgs84, "POINT (1 2)");
+    size_t monadic = begin_op(&tree, WENDUULIG_MONADIC, WENDUULIG_IS_NOT_NULL);
+    put_id(&tree, "a");
+    end(&tree, monadic);
+    end(&tree, start);
+    expect_text(200,
+                "f(TRUE, -0.5, 'x y' COLLATE NC, '2024-01-02T03:04:05', ST_GeomFromText('POINT (1 2)', 4326), "
+                "a IS NOT NULL)",
+                "a Bool, a Num, a Str, a Timestamp, a Spatial and a Monadic in a Function");
+}
+
 /* 1 to 3, by what stands in document 01's list. */
 static void test_outer_refusals(void)
 {
@@ -464,6 +497,7 @@ static void test_stack(void)
 int main(void)
 {
     test_texts();
+    test_kinds();
     test_outer_refusals();
     test_inner_refusals();
     test_length_refusals();
