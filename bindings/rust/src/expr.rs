@@ -215,7 +215,8 @@ impl E {
         E::Interval(Box::new(start), Box::new(end))
     }
 
-    /// The records, laid out as include/wenduulig.h says. Every tree has some; what breaks a rule is refused when they are lowered.
+    /// The records, laid out as include/wenduulig.h says. Every tree has some; what breaks a rule is refused when they are
+    /// lowered.
     pub fn encode(&self) -> Vec<u8> {
         let mut out = Vec::new();
         let mut open = vec![Step::Begin(self)];
