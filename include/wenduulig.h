@@ -2,32 +2,60 @@
  *
  * Build and link:   rt staticlib capi
  *                   cc -Iinclude your.c target/staticlib/libcapi.a
+ * The library is for x86-64 Linux.
  *
- * The bytes of settings, trees and rows are the records of document 01 (all numbers little-endian). Any bytes may be
- * handed in: what breaks a rule is refused by a number, in document 01's order, and never read out of bounds. Both
- * functions are proved to give the numbers and bytes below on all inputs (crates/capi, crates/gpkg, crates/truth).
+ * Settings, trees and rows are handed in as the records below. Any bytes may be handed in: what breaks a rule is refused
+ * by a number and never read out of bounds. Both functions are proved to give the numbers and bytes below on all inputs
+ * (crates/capi, crates/gpkg, crates/truth).
+ *
+ * Records. Length, 4 bytes; kind, 2 bytes; body. Numbers are little-endian; the length counts kind and body.
+ *    0 Null, 1 Unbounded (..)   empty
+ *    2 Bool        a byte, 0 or 1
+ *    3 Num         mantissa m, 8 bytes, two's complement, |m| < 10^15; scale s, a byte, 0 to 9: m / 10^s
+ *    4 Str         flags, a byte: 0 plain, 1 ignoring case, 2 accents, 3 both; 0 to 4,096 bytes 0x20 to 0x7E but no '
+ *    5 Date        year, 2 bytes, 1 to 9999; month, a byte; day, a byte: a day that the Gregorian calendar has
+ *    6 Timestamp   a date; hour, 0 to 23, minute and second, 0 to 59, a byte each
+ *    7 Spatial     SRID, 4 bytes, unsigned; 1 to 4,096 letters, digits, space , ( ) - .
+ *    8 Id          a name
+ *    9 Monadic     operator, 2 bytes; one record
+ *   10 Dyadic      operator, 2 bytes; two records
+ *   11 Function    length byte, name; records to the end
+ *   12 Array       records to the end
+ *   13 Interval    two records
+ *  100 settings    precision, a byte, 0 to 15; three times length byte, name: collations for case, accents, both
+ *  200 a column    length byte, name; a byte 0 for NULL, or 1 and 0 to 64 bytes as in Str. A row is a run of these.
+ * A name has 1 to 64 letters, digits, underscores, no digit first, and is in any letter case none of AND BETWEEN COLLATE
+ * DIV FALSE IN IS ISNULL LIKE NOT NOTNULL NULL OR TRUE. Letters are those of ASCII.
  *
  *   number  where        the refusal
- *    1      settings     not exactly one record of kind 100: a precision 0 to 15 and three names
+ *    1      settings     not exactly one record of kind 100 with a precision of 0 to 15 and three names
  *    2      tree         longer than 32,768 bytes
- *    3      tree         a record's length is broken, or bytes are left over
+ *    3      tree         a record is missing where one is due, a length is below 2 or passes the end around it, or bytes
+ *                        are left over
  *    4      tree         a record lies deeper than 32, the root being 1
- *    5      tree         the kind is above 13, or the operator does not stand at this kind
- *    6      tree         a field, a body's size, a name or a text breaks its rule
- *    7      tree         an Interval, an interval operator's operand or the list of BETWEEN is out of place
+ *    5      tree         a record's kind is above 13, an operator's number above 52, or an operator stands at the wrong
+ *                        number of operands
+ *    6      tree         a field, a body's size, a name or a text breaks its rule above
+ *    7      tree         an Interval is no direct operand of a temporal operator, a temporal operator other than TAfter,
+ *                        TBefore, TDisjoint, TEquals and TIntersects lacks an Interval on a side, or the right side of
+ *                        BETWEEN or NOT BETWEEN is no Array of exactly two
  *    8      text         longer than 65,535 bytes
  *    9      buffer       shorter than the text
  *   10      text, row    the text is longer than 65,535 bytes or the row than 32,768
- *   11      row          breaks its form, or two of its names are equal in any letter case
- *   12      text         outside the grammar, or more than 64 brackets one inside another
+ *   11      row          no run of records of kind 200 as above, or two of its names are equal in any letter case
+ *   12      text         outside the grammar, or more than 64 brackets one inside another. The grammar: comparisons by
+ *                        < > <= >= = <> != of columns, quoted texts and NULL, a column with IS NULL, IS NOT NULL or
+ *                        NOT NULL, TRUE, FALSE, NULL, joined by NOT, AND, OR and brackets
  *   13      text, row    a name in the text is absent from the row
+ * Of several, lowering gives 1 first, then 2; then 3 to 6, record by record in reading order, a parent first, and of one
+ * record the lowest; then 7, 8 and 9. Reading gives the lowest.
  *
  * Memory. The caller lends every byte and keeps it: nothing is allocated, freed or kept after the return. A pointer is
  * followed by the number of bytes that it lends. It is not NULL, also where that number is 0. `out` overlaps neither
  * `settings` nor `tree`. Other parts may overlap; they are only read.
  *
- * Threads. There is no state: any number of calls may run at once, as long as no two share an `out`. Each needs less
- * than 128 KiB of stack, and every call ends. Of the C library only memcpy and memset are called.
+ * Threads. There is no state: any number of calls may run at once, as long as no call's `out` overlaps bytes of another
+ * call. Each needs less than 128 KiB of stack, and every call ends. Of the C library only memcpy and memset are called.
  */
 #ifndef WENDUULIG_H
 #define WENDUULIG_H
@@ -39,10 +67,88 @@
 extern "C" {
 #endif
 
-/* The limits of document 01, in bytes. A buffer of WENDUULIG_TEXT_MAX bytes is never refused by 9. */
+/* The limits, in bytes. A buffer of WENDUULIG_TEXT_MAX bytes is never refused by 9. */
 #define WENDUULIG_TREE_MAX 32768
 #define WENDUULIG_TEXT_MAX 65535
 #define WENDUULIG_ROW_MAX 32768
+
+/* The kinds of records. */
+enum wenduulig_kind {
+    WENDUULIG_NULL = 0,
+    WENDUULIG_UNBOUNDED = 1,
+    WENDUULIG_BOOL = 2,
+    WENDUULIG_NUM = 3,
+    WENDUULIG_STR = 4,
+    WENDUULIG_DATE = 5,
+    WENDUULIG_TIMESTAMP = 6,
+    WENDUULIG_SPATIAL = 7,
+    WENDUULIG_ID = 8,
+    WENDUULIG_MONADIC = 9,
+    WENDUULIG_DYADIC = 10,
+    WENDUULIG_FUNCTION = 11,
+    WENDUULIG_ARRAY = 12,
+    WENDUULIG_INTERVAL = 13,
+    WENDUULIG_SETTINGS = 100,
+    WENDUULIG_COLUMN = 200
+};
+
+/* The operators, in the order of Op in ogc-cql2. Of one operand (kind 9): MINUS, NEG (which is NOT), CASE_I, ACCENT_I,
+ * IS_NULL and IS_NOT_NULL. Of two (kind 10): MINUS and all others. */
+enum wenduulig_op {
+    WENDUULIG_PLUS = 0,
+    WENDUULIG_MINUS = 1,
+    WENDUULIG_MULT = 2,
+    WENDUULIG_DIV = 3,
+    WENDUULIG_INT_DIV = 4,
+    WENDUULIG_MOD = 5,
+    WENDUULIG_EXP = 6,
+    WENDUULIG_NEG = 7,
+    WENDUULIG_EQ = 8,
+    WENDUULIG_NEQ = 9,
+    WENDUULIG_LT = 10,
+    WENDUULIG_GT = 11,
+    WENDUULIG_LTE = 12,
+    WENDUULIG_GTE = 13,
+    WENDUULIG_AND = 14,
+    WENDUULIG_OR = 15,
+    WENDUULIG_CASE_I = 16,
+    WENDUULIG_ACCENT_I = 17,
+    WENDUULIG_S_INTERSECTS = 18,
+    WENDUULIG_S_EQUALS = 19,
+    WENDUULIG_S_DISJOINT = 20,
+    WENDUULIG_S_TOUCHES = 21,
+    WENDUULIG_S_WITHIN = 22,
+    WENDUULIG_S_OVERLAPS = 23,
+    WENDUULIG_S_CROSSES = 24,
+    WENDUULIG_S_CONTAINS = 25,
+    WENDUULIG_T_AFTER = 26,
+    WENDUULIG_T_BEFORE = 27,
+    WENDUULIG_T_CONTAINS = 28,
+    WENDUULIG_T_DISJOINT = 29,
+    WENDUULIG_T_DURING = 30,
+    WENDUULIG_T_EQUALS = 31,
+    WENDUULIG_T_FINISHED_BY = 32,
+    WENDUULIG_T_FINISHES = 33,
+    WENDUULIG_T_INTERSECTS = 34,
+    WENDUULIG_T_MEETS = 35,
+    WENDUULIG_T_MET_BY = 36,
+    WENDUULIG_T_OVERLAPPED_BY = 37,
+    WENDUULIG_T_OVERLAPS = 38,
+    WENDUULIG_T_STARTED_BY = 39,
+    WENDUULIG_T_STARTS = 40,
+    WENDUULIG_A_EQUALS = 41,
+    WENDUULIG_A_CONTAINS = 42,
+    WENDUULIG_A_CONTAINED_BY = 43,
+    WENDUULIG_A_OVERLAPS = 44,
+    WENDUULIG_IS_LIKE = 45,
+    WENDUULIG_IS_NOT_LIKE = 46,
+    WENDUULIG_IS_BETWEEN = 47,
+    WENDUULIG_IS_NOT_BETWEEN = 48,
+    WENDUULIG_IS_IN_LIST = 49,
+    WENDUULIG_IS_NOT_IN_LIST = 50,
+    WENDUULIG_IS_NULL = 51,
+    WENDUULIG_IS_NOT_NULL = 52
+};
 
 /* What wenduulig_read answers where it does not refuse. */
 enum wenduulig_truth {

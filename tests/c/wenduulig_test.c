@@ -88,14 +88,14 @@ static void put_leaf(struct bytes *b, unsigned kind)
 
 static void put_id(struct bytes *b, const char *name)
 {
-    size_t start = begin(b, 8);
+    size_t start = begin(b, WENDUULIG_ID);
     put_text(b, name);
     end(b, start);
 }
 
 static void put_date(struct bytes *b, unsigned year, unsigned month, unsigned day)
 {
-    size_t start = begin(b, 5);
+    size_t start = begin(b, WENDUULIG_DATE);
     put_byte(b, year & 255);
     put_byte(b, year >> 8);
     put_byte(b, month);
@@ -106,7 +106,7 @@ static void put_date(struct bytes *b, unsigned year, unsigned month, unsigned da
 static void make_settings(struct bytes *b)
 {
     b->n = 0;
-    size_t start = begin(b, 100);
+    size_t start = begin(b, WENDUULIG_SETTINGS);
     put_byte(b, 7);
     put_named(b, "NC");
     put_named(b, "NA");
@@ -118,9 +118,9 @@ static void make_settings(struct bytes *b)
 static void make_sheet_j(struct bytes *b)
 {
     b->n = 0;
-    size_t start = begin_op(b, 10, 29);
+    size_t start = begin_op(b, WENDUULIG_DYADIC, WENDUULIG_T_DISJOINT);
     put_id(b, "a");
-    size_t interval = begin(b, 13);
+    size_t interval = begin(b, WENDUULIG_INTERVAL);
     put_id(b, "b");
     put_id(b, "c");
     end(b, interval);
@@ -135,8 +135,8 @@ static void make_deep(struct bytes *b, int levels)
     size_t starts[64];
     b->n = 0;
     for (int i = 1; i < levels; i++)
-        starts[i] = begin_op(b, 9, 7);
-    put_leaf(b, 0);
+        starts[i] = begin_op(b, WENDUULIG_MONADIC, WENDUULIG_NEG);
+    put_leaf(b, WENDUULIG_NULL);
     for (int i = 1; i < levels; i++)
         end(b, starts[i]);
 }
@@ -145,9 +145,9 @@ static void make_deep(struct bytes *b, int levels)
 static void make_long(struct bytes *b, int n, const char *name)
 {
     b->n = 0;
-    size_t start = begin(b, 12);
+    size_t start = begin(b, WENDUULIG_ARRAY);
     for (int i = 0; i < n; i++)
-        put_leaf(b, 1);
+        put_leaf(b, WENDUULIG_UNBOUNDED);
     if (*name)
         put_id(b, name);
     end(b, start);
@@ -156,7 +156,7 @@ static void make_long(struct bytes *b, int n, const char *name)
 /* A column of a row; NULL where there is no value. */
 static void put_column(struct bytes *b, const char *name, const char *value)
 {
-    size_t start = begin(b, 200);
+    size_t start = begin(b, WENDUULIG_COLUMN);
     put_named(b, name);
     put_byte(b, value ? 1 : 0);
     if (value)
@@ -256,17 +256,50 @@ static void test_texts(void)
     expect_text(strlen(sheet_j), sheet_j, "sheet J into a buffer of exactly its length");
     expect_text(WENDUULIG_TEXT_MAX, sheet_j, "sheet J into the largest buffer");
     tree.n = 0;
-    put_leaf(&tree, 0);
+    put_leaf(&tree, WENDUULIG_NULL);
     expect_text(4, "NULL", "sheet A");
     tree.n = 0;
-    size_t start = begin_op(&tree, 10, 34);
+    size_t start = begin_op(&tree, WENDUULIG_DYADIC, WENDUULIG_T_INTERSECTS);
     put_date(&tree, 2024, 2, 29);
-    size_t interval = begin(&tree, 13);
-    put_leaf(&tree, 1);
+    size_t interval = begin(&tree, WENDUULIG_INTERVAL);
+    put_leaf(&tree, WENDUULIG_UNBOUNDED);
     put_id(&tree, "c");
     end(&tree, interval);
     end(&tree, start);
     expect_text(200, "NOT(('2024-02-29' < '-2021-01-01') OR ('2024-02-29' > c))", "sheet K");
+}
+
+/* A record of a kind that has a fixed body before an optional text. */
+static void put_fields(struct bytes *b, unsigned kind, const uint8_t *fields, size_t n, const char *rest)
+{
+    size_t start = begin(b, kind);
+    put(b, fields, n);
+    put_text(b, rest);
+    end(b, start);
+}
+
+/* The kinds that the sheets above leave out, by the header's layout. */
+static void test_kinds(void)
+{
+    const uint8_t yes[] = {1}, half[] = {0xFB, 255, 255, 255, 255, 255, 255, 255, 1}, icase[] = {1};
+    const uint8_t second[] = {0xE8, 7, 1, 2, 3, 4, 5}, wgs84[] = {0xE6, 0x10, 0, 0};
+    make_settings(&settings);
+    tree.n = 0;
+    size_t start = begin(&tree, WENDUULIG_FUNCTION);
+    put_named(&tree, "f");
+    put_fields(&tree, WENDUULIG_BOOL, yes, sizeof yes, "");
+    put_fields(&tree, WENDUULIG_NUM, half, sizeof half, "");
+    put_fields(&tree, WENDUULIG_STR, icase, sizeof icase, "x y");
+    put_fields(&tree, WENDUULIG_TIMESTAMP, second, sizeof second, "");
+    put_fields(&tree, WENDUULIG_SPATIAL, wgs84, sizeof wgs84, "POINT (1 2)");
+    size_t monadic = begin_op(&tree, WENDUULIG_MONADIC, WENDUULIG_IS_NOT_NULL);
+    put_id(&tree, "a");
+    end(&tree, monadic);
+    end(&tree, start);
+    expect_text(200,
+                "f(TRUE, -0.5, 'x y' COLLATE NC, '2024-01-02T03:04:05', ST_GeomFromText('POINT (1 2)', 4326), "
+                "a IS NOT NULL)",
+                "a Bool, a Num, a Str, a Timestamp, a Spatial and a Monadic in a Function");
 }
 
 /* 1 to 3, by what stands in document 01's list. */
@@ -296,10 +329,10 @@ static void test_inner_refusals(void)
     make_deep(&tree, 33);
     expect_refusal(100, WENDUULIG_TOO_DEEP, "4: 33 levels");
     tree.n = 0;
-    put_leaf(&tree, 14);
+    put_leaf(&tree, WENDUULIG_INTERVAL + 1);
     expect_refusal(100, WENDUULIG_BAD_KIND_OR_OPERATOR, "5: kind 14");
     make_deep(&tree, 2);
-    tree.at[6] = 8;
+    tree.at[6] = WENDUULIG_EQ;
     expect_refusal(100, WENDUULIG_BAD_KIND_OR_OPERATOR, "5: monadic Eq");
     tree.n = 0;
     put_date(&tree, 1900, 2, 29);
@@ -308,9 +341,9 @@ static void test_inner_refusals(void)
     put_id(&tree, "and");
     expect_refusal(100, WENDUULIG_BAD_FIELD, "6: a reserved word as a name");
     tree.n = 0;
-    size_t interval = begin(&tree, 13);
-    put_leaf(&tree, 1);
-    put_leaf(&tree, 0);
+    size_t interval = begin(&tree, WENDUULIG_INTERVAL);
+    put_leaf(&tree, WENDUULIG_UNBOUNDED);
+    put_leaf(&tree, WENDUULIG_NULL);
     end(&tree, interval);
     expect_refusal(100, WENDUULIG_BAD_OPERAND, "7: an Interval as root, sheet O");
 }
@@ -401,7 +434,7 @@ static void test_damage(void)
     make_sheet_j(&tree);
     size_t whole = tree.n;
     for (tree.n = 0; tree.n < whole; tree.n++)
-        short_ones = short_ones && lower(&settings, &tree, 80, &text, &clean) == -3 && clean;
+        short_ones = short_ones && lower(&settings, &tree, 80, &text, &clean) == -WENDUULIG_BAD_FRAME && clean;
     check(short_ones, "each tree that breaks off is refused with 3");
     for (size_t i = 0; i < whole; i++)
         for (unsigned x = 0; x < 256; x++) {
@@ -464,6 +497,7 @@ static void test_stack(void)
 int main(void)
 {
     test_texts();
+    test_kinds();
     test_outer_refusals();
     test_inner_refusals();
     test_length_refusals();

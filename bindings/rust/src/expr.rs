@@ -11,8 +11,8 @@ use std::mem;
 /// [`to_sql`](crate::to_sql) refuses what breaks a rule.
 ///
 /// A tree may be as deep as memory allows: encoding and dropping use no recursion (so `E` implements `Drop`; take parts
-/// out of it by reference or by [`std::mem::take`]). `Clone`, `Debug` and `==` do recurse.
-#[derive(Clone, Debug, Default, PartialEq)]
+/// out of it by reference or by [`std::mem::take`]). `Clone`, `Debug`, `==` and `Hash` do recurse.
+#[derive(Clone, Debug, Default, PartialEq, Eq, Hash)]
 pub enum E {
     /// NULL.
     #[default]
@@ -56,14 +56,21 @@ pub struct Num {
 
 impl From<i32> for Num {
     fn from(x: i32) -> Num {
-        Num { mantissa: i64::from(x), scale: 0 }
+        Num::from(i64::from(x))
+    }
+}
+
+/// Any number can be made; one of more than fifteen digits is refused (6) when it is lowered.
+impl From<i64> for Num {
+    fn from(x: i64) -> Num {
+        Num { mantissa: x, scale: 0 }
     }
 }
 
 impl TryFrom<f64> for Num {
     type Error = Refusal;
 
-    /// The shortest decimal that stands for `x`, as the source prints it.
+    /// The shortest decimal that stands for `x`, as the source prints it; −0.0 becomes 0.
     ///
     /// # Errors
     /// [`Refusal::BadField`] where a record cannot hold it: not finite, more than fifteen digits, or more than nine after
@@ -149,7 +156,7 @@ pub struct G {
 }
 
 /// A function's name and its arguments.
-#[derive(Clone, Debug, PartialEq)]
+#[derive(Clone, Debug, PartialEq, Eq, Hash)]
 pub struct Call {
     /// The name.
     pub name: String,
@@ -168,14 +175,24 @@ impl E {
         E::Str(QString::plain(s))
     }
 
-    /// A whole number.
-    pub fn int(x: i32) -> E {
+    /// A whole number; one of more than fifteen digits is refused (6) when it is lowered.
+    pub fn int(x: i64) -> E {
         E::Num(x.into())
     }
 
     /// A day.
     pub fn date(year: u16, month: u8, day: u8) -> E {
         E::Date(Date { year, month, day })
+    }
+
+    /// A day and a time of day, as civil fields.
+    pub fn timestamp(year: u16, month: u8, day: u8, hour: u8, minute: u8, second: u8) -> E {
+        E::Timestamp(Timestamp { date: Date { year, month, day }, hour, minute, second })
+    }
+
+    /// A geometry: the number of its reference system, as 4326, and its well-known text, as `POINT (1 2)`.
+    pub fn spatial<S: Into<String>>(srid: u32, wkt: S) -> E {
+        E::Spatial(G { srid, wkt: wkt.into() })
     }
 
     /// An operator of one operand.
@@ -198,7 +215,8 @@ impl E {
         E::Interval(Box::new(start), Box::new(end))
     }
 
-    /// The records of document 01. Every tree has some; what breaks a rule is refused when they are lowered.
+    /// The records, laid out as include/wenduulig.h says. Every tree has some; what breaks a rule is refused when they are
+    /// lowered.
     pub fn encode(&self) -> Vec<u8> {
         let mut out = Vec::new();
         let mut open = vec![Step::Begin(self)];

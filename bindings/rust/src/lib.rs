@@ -1,7 +1,9 @@
-//! Lowers CQL2 filters to the SQL text that SQLite runs on a GeoPackage, and reads what a time filter's text says of a row.
+//! Lowers CQL2 filters to SQL text for a GeoPackage, byte for byte that of ogc-cql2, and reads what a time filter's text
+//! says of a row.
 //!
 //! Both jobs are done by functions that are proved to meet document 01's rules on all inputs (crates/capi of this
-//! repository, linked as `libcapi.a`); this crate builds their bytes from Rust types and holds no rule of its own.
+//! repository, linked as `libcapi.a`, for x86-64 Linux); this crate builds their bytes from Rust types and refuses nothing
+//! itself, except where an `f64` fits no [`Num`]. The layout of the bytes stands in include/wenduulig.h.
 //!
 //! ```
 //! use wenduulig::{read, to_sql, Op, Refusal, Row, Settings, E};
@@ -13,8 +15,8 @@
 //!
 //! let row = Row::new().with("a", "2024-01-02").with("b", "2024-01-03").with("c", "2024-01-04");
 //! assert_eq!(read(&sql, &row)?, Some(true));
-//! let still_open = Row::new().with("a", "2024-01-02").with_null("b").with("c", "2024-01-01");
-//! assert_eq!(read(&sql, &still_open)?, None); // unknown
+//! let no_start = Row::new().with("a", "2024-01-02").with_null("b").with("c", "2024-01-01");
+//! assert_eq!(read(&sql, &no_start)?, None); // unknown
 //!
 //! // What breaks a rule is refused, with its number and words.
 //! let refused = to_sql(&Settings::default(), &E::date(1900, 2, 29)).unwrap_err();
@@ -54,7 +56,7 @@ pub fn to_sql(settings: &Settings, filter: &E) -> Result<String, Refusal> {
     to_sql_bytes(&settings.encode(), &filter.encode())
 }
 
-/// The SQL text of a filter that is at hand as records: document 01's settings and tree.
+/// The SQL text of a filter that is at hand as records: settings and tree, laid out as include/wenduulig.h says.
 ///
 /// # Errors
 /// The first refusal of 1 to 8 that document 01's order gives. Any bytes may be handed in.
@@ -88,7 +90,7 @@ pub fn read(text: &str, row: &Row) -> Result<Option<bool>, Refusal> {
     read_bytes(text.as_bytes(), &row.encode())
 }
 
-/// The same for a text and a row that are at hand as bytes.
+/// The same for a text and a row that are at hand as bytes; the row's layout stands in include/wenduulig.h.
 ///
 /// # Errors
 /// The first refusal of 10 to 13 that document 01's order gives. Any bytes may be handed in.
@@ -106,7 +108,7 @@ fn refusal(answer: i64) -> Refusal {
     u8::try_from(-answer).ok().and_then(Refusal::from_number).expect("an answer below zero is minus a refusal's number")
 }
 
-/// Document 01 lets only ASCII into a tree and a settings record, so a text is ASCII.
+/// Document 01 lets only ASCII into names and texts, so a text is ASCII.
 fn string(text: &[u8]) -> String {
     String::from_utf8(text.to_vec()).expect("a text is ASCII")
 }

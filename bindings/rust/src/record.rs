@@ -9,7 +9,7 @@ pub(crate) fn begin(out: &mut Vec<u8>, kind: u16) -> usize {
 }
 
 /// Sets the length of the record that began at `start`: what follows the four bytes. A length that four bytes cannot hold
-/// is cut to the largest, as a tree or a row of that size is refused by its size (2, 10) before any record is read.
+/// is cut to the largest: a tree, a row or settings of that size are refused (2, 10, 1).
 pub(crate) fn end(out: &mut [u8], start: usize) {
     let length = u32::try_from(out.len() - start - 4).unwrap_or(u32::MAX);
     out[start..start + 4].copy_from_slice(&length.to_le_bytes());

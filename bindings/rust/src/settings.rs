@@ -1,7 +1,7 @@
 //! The settings record: what the source takes from its constants and its configuration.
 use crate::record::{begin, end, named};
 
-/// The precision of spatial literals and the names of the three collations.
+/// The precision to which a geometry column is reduced, and the names of the three collations.
 #[derive(Clone, Debug, PartialEq, Eq, Hash)]
 pub struct Settings {
     /// 0 to 15: p in `ST_ReducePrecision(g, 1E-p)`.

@@ -1,4 +1,5 @@
 //! The text of each kind of node, and of the trees of document 01's sheets.
+use std::collections::HashSet;
 use wenduulig::{to_sql, Date, Num, Op, QString, Refusal, Settings, Timestamp, E, G};
 
 fn sheets() -> Settings {
@@ -23,7 +24,10 @@ fn leaves() {
     assert_eq!(text(&E::date(2024, 2, 29)), "'2024-02-29'");
     let noon = Timestamp { date: Date { year: 7, month: 1, day: 2 }, hour: 12, minute: 3, second: 59 };
     assert_eq!(text(&E::Timestamp(noon)), "'0007-01-02T12:03:59'");
-    assert_eq!(text(&E::Spatial(G { srid: 4326, wkt: "POINT (1 2)".into() })), "ST_GeomFromText('POINT (1 2)', 4326)");
+    assert_eq!(E::timestamp(7, 1, 2, 12, 3, 59), E::Timestamp(noon));
+    let point = E::spatial(4326, "POINT (1 2)");
+    assert_eq!(point, E::Spatial(G { srid: 4326, wkt: "POINT (1 2)".into() }));
+    assert_eq!(text(&point), "ST_GeomFromText('POINT (1 2)', 4326)");
     assert_eq!(text(&E::id("a")), "a");
 }
 
@@ -37,6 +41,9 @@ fn numbers() {
     assert_eq!(to_sql(&sheets(), &num(1_000_000_000_000_000, 0)), Err(Refusal::BadField));
     assert_eq!(to_sql(&sheets(), &num(i64::MIN, 0)), Err(Refusal::BadField));
     assert_eq!(text(&E::int(-7)), "-7");
+    assert_eq!(text(&E::int(-999_999_999_999_999)), "-999999999999999");
+    assert_eq!(to_sql(&sheets(), &E::int(1_000_000_000_000_000)), Err(Refusal::BadField));
+    assert_eq!((Num::from(-7_i64), Num::from(i64::MIN).mantissa), (Num::from(-7_i32), i64::MIN));
 }
 
 #[test]
@@ -45,6 +52,7 @@ fn numbers_from_floats() {
         let n = Num::try_from(x).expect("a record holds it");
         assert_eq!(text(&E::Num(n)), x.to_string());
     }
+    assert_eq!(Num::try_from(-0.0), Ok(Num { mantissa: 0, scale: 0 }));
     for x in [f64::NAN, f64::INFINITY, 1e15, 1e300, 0.1 + 0.2, 1e-10] {
         assert_eq!(Num::try_from(x), Err(Refusal::BadField), "{x}");
     }
@@ -80,7 +88,7 @@ fn operators_of_two() {
     assert_eq!(text(&E::dyadic(Op::IsLike, a(), E::str("x"))), "a LIKE ('x')"); // sheet G
     let bounds = E::Array(vec![E::int(0), E::int(1)]);
     assert_eq!(text(&E::dyadic(Op::IsBetween, a(), bounds)), "a BETWEEN 0 AND 1");
-    let point = E::Spatial(G { srid: 4326, wkt: "POINT (1 2)".into() });
+    let point = E::spatial(4326, "POINT (1 2)");
     assert_eq!(
         text(&E::dyadic(Op::SWithin, E::id("g"), point)), // sheet L
         "ST_Within(ST_ReducePrecision(g, 1E-7), ST_GeomFromText('POINT (1 2)', 4326))"
@@ -131,4 +139,64 @@ fn operator_numbers() {
         let between = matches!(op, Op::IsBetween | Op::IsNotBetween);
         assert_eq!(two == Err(Refusal::BadOperand), needs_intervals || between, "{op:?}");
     }
+}
+
+/// A variant's name as the header writes it: TFinishedBy is T_FINISHED_BY.
+fn in_c(name: &str) -> String {
+    let mut shown = String::from("WENDUULIG");
+    for c in name.chars() {
+        if c.is_ascii_uppercase() {
+            shown.push('_');
+        }
+        shown.push(c.to_ascii_uppercase());
+    }
+    shown
+}
+
+/// Fails if the header does not give the name this number.
+fn expect_in_header(name: &str, number: u16) {
+    let header = include_str!("../../../include/wenduulig.h");
+    let line = format!("{} = {number}", in_c(name));
+    assert!(header.lines().any(|given| given.trim().trim_end_matches(',') == line), "the header has no line {line}");
+}
+
+/// One tree of each kind, in the order of the kinds.
+fn kinds() -> [E; 14] {
+    [
+        E::Null,
+        E::Unbounded,
+        E::Bool(true),
+        E::int(1),
+        E::str(""),
+        E::date(2024, 1, 2),
+        E::timestamp(2024, 1, 2, 12, 0, 0),
+        E::spatial(0, "a"),
+        E::id("a"),
+        E::monadic(Op::Neg, E::Null),
+        E::dyadic(Op::And, E::Null, E::Null),
+        E::function("f", vec![]),
+        E::Array(vec![]),
+        E::interval(E::Null, E::Null),
+    ]
+}
+
+/// The enums of include/wenduulig.h have the numbers of this crate, and records made here hold them.
+#[test]
+fn header_numbers() {
+    Op::ALL.into_iter().for_each(|op| expect_in_header(&format!("{op:?}"), op.number()));
+    Refusal::ALL.into_iter().for_each(|r| expect_in_header(&format!("{r:?}"), u16::from(r.number())));
+    for (k, e) in kinds().iter().enumerate() {
+        let (shown, bytes) = (format!("{e:?}"), e.encode());
+        let number = u16::from_le_bytes([bytes[4], bytes[5]]);
+        assert_eq!(usize::from(number), k);
+        expect_in_header(shown.split('(').next().unwrap_or(&shown), number);
+    }
+    expect_in_header("Settings", 100);
+    expect_in_header("Column", 200);
+}
+
+#[test]
+fn trees_as_keys() {
+    let twice = [E::function("f", vec![E::int(1)]), E::function("f", vec![E::int(1)]), E::Null];
+    assert_eq!(twice.into_iter().collect::<HashSet<E>>().len(), 2);
 }

@@ -10,7 +10,7 @@ use std::io::Write;
 use std::path::{Path, PathBuf};
 use std::process::Command;
 use std::sync::OnceLock;
-use wenduulig::{to_sql, Op, Refusal, Settings, E};
+use wenduulig::{to_sql, Op, Settings, E};
 
 /// The oracle's program; a line says so where there is none.
 fn oracle() -> Option<&'static Path> {
@@ -66,7 +66,7 @@ fn answers(program: &Path, cases: &[(Settings, E)]) -> Vec<(u8, String)> {
     all
 }
 
-/// Each operator in turn as the root, then trees of any kind, at depths 0 to 5, and some wrapped to 30 levels.
+/// Each operator in turn as the root, then trees of any kind, at depths 0 to 5, and some inside 24 more levels.
 fn cases(count: usize) -> Vec<(Settings, E)> {
     let mut r = Random::new(2026);
     let mut all = Vec::new();
@@ -128,30 +128,16 @@ fn random_trees_against_the_rust() {
     let cases = cases(6000);
     let told = answers(program, &cases);
     assert_eq!(told.len(), cases.len());
-    let (mut compared, mut refused, mut seen) = (0, 0, BTreeSet::new());
+    let (mut compared, mut seen) = (0, BTreeSet::new());
     for ((settings, e), (letter, want)) in cases.iter().zip(told) {
-        match to_sql(settings, e) {
-            Ok(text) => {
-                assert_eq!((letter, &text), (b'T', &want), "{settings:?} {e:?}");
-                compared += 1;
-                note(&mut seen, e);
-            }
-            // Left out: what document 01 refuses and the Rust takes, as a reserved name or a text past 65,535 bytes.
-            Err(r) => {
-                assert!(
-                    matches!(r, Refusal::BadSettings | Refusal::BadField | Refusal::TreeTooLong | Refusal::TextTooLong),
-                    "{r}: {e:?}"
-                );
-                refused += 1;
-            }
-        }
+        // None of these trees breaks a rule: names of their letters are no reserved word, and all are small.
+        let text = to_sql(settings, e).unwrap_or_else(|r| panic!("{r}: {settings:?} {e:?}"));
+        assert_eq!((letter, &text), (b'T', &want), "{settings:?} {e:?}");
+        compared += 1;
+        note(&mut seen, e);
     }
-    writeln!(
-        std::io::stderr(),
-        "compared with the Rust: {compared} texts, none differs; left out as refused: {refused}"
-    )
-    .ok();
-    assert!(compared >= 2000);
+    writeln!(std::io::stderr(), "compared with the Rust: {compared} texts, none differs").ok();
+    assert_eq!(compared, cases.len());
     expect_all(&seen);
 }
 

@@ -127,18 +127,18 @@ fn reading() {
 #[test]
 fn words() {
     let named = [
-        "0 to 15",
+        "not exactly one record of kind 100 with a precision of 0 to 15",
         "32,768",
-        "left over",
+        "a record is missing where one is due, a length is below 2 or passes the end around it, or bytes are left over",
         "32 levels",
-        "IsNotNull",
-        "apostrophe",
-        "exactly two",
+        "kind is above 13, an operator's number above 52, or an operator stands at the wrong number of operands: of one",
+        "times from 00:00:00 to 23:59:59; numbers",
+        "BETWEEN and NOT BETWEEN need an Array of exactly two",
         "65,535",
         "larger",
         "65,535",
-        "letter case",
-        "64 brackets",
+        "two equal in any letter case",
+        "a column with IS NULL, IS NOT NULL or NOT NULL, TRUE",
         "does not have",
     ];
     for (k, (refusal, part)) in Refusal::ALL.into_iter().zip(named).enumerate() {
@@ -146,6 +146,11 @@ fn words() {
         assert_eq!(usize::from(refusal.number()), k + 1);
         assert_eq!(Refusal::from_number(refusal.number()), Some(refusal));
         assert!(said.starts_with(&format!("refused {}: ", k + 1)) && said.contains(part), "{said}");
+    }
+    let reserved = "AND BETWEEN COLLATE DIV FALSE IN IS ISNULL LIKE NOT NOTNULL NULL OR TRUE";
+    for refusal in [Refusal::BadSettings, Refusal::BadField, Refusal::BadRow] {
+        let said = refusal.to_string();
+        assert!(said.contains(&format!("no digit first, in any letter case none of {reserved}")), "{said}");
     }
     assert_eq!((Refusal::from_number(0), Refusal::from_number(14)), (None, None));
     let error: Box<dyn std::error::Error> = Box::new(Refusal::TooDeep);

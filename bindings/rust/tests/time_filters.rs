@@ -89,15 +89,15 @@ fn open_start() {
 
 #[test]
 fn nulls_and_guards() {
-    let open = Row::new().with("a", "2024-01-02").with_null("b").with("c", "2024-01-01");
+    let no_start = Row::new().with("a", "2024-01-02").with_null("b").with("c", "2024-01-01");
     let disjoint = || E::dyadic(Op::TDisjoint, id("a"), E::interval(id("b"), id("c")));
-    assert_eq!(truth(&disjoint(), &open), None); // sheet N
+    assert_eq!(truth(&disjoint(), &no_start), None); // sheet N
     let after = E::dyadic(Op::TAfter, id("a"), E::interval(id("b"), id("c")));
-    assert_eq!(truth(&after, &open), Some(false)); // the guard on b
-    assert_eq!(truth(&E::monadic(Op::Neg, after), &open), Some(true));
-    assert_eq!(truth(&E::monadic(Op::IsNull, id("b")), &open), Some(true));
-    assert_eq!(truth(&E::monadic(Op::IsNotNull, id("b")), &open), Some(false));
-    assert_eq!(truth(&E::dyadic(Op::TEquals, id("a"), E::Null), &open), None);
+    assert_eq!(truth(&after, &no_start), Some(false)); // the guard on b
+    assert_eq!(truth(&E::monadic(Op::Neg, after), &no_start), Some(true));
+    assert_eq!(truth(&E::monadic(Op::IsNull, id("b")), &no_start), Some(true));
+    assert_eq!(truth(&E::monadic(Op::IsNotNull, id("b")), &no_start), Some(false));
+    assert_eq!(truth(&E::dyadic(Op::TEquals, id("a"), E::Null), &no_start), None);
 }
 
 /// And, Or and Neg by the three-valued tables: b = b is unknown where b is NULL.

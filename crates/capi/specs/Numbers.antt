@@ -1,4 +1,4 @@
--- The number that a caller in C hears for each answer of document 01, "What a caller hears", as issue 7 assigns them.
+-- The number that a caller in C hears for each answer of document 01, "What a caller hears", as docs/DECISIONS.md assigns them.
 use Prim.Native.Nat.{ℕ}
 use lib.IntN.{ℤ, pos, negℤ}
 use Rattle.gpkg.specs.Lowered as lowered
