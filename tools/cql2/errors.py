@@ -60,5 +60,6 @@ def told(name, message, status):
     try:
         print('%s: %s' % (name, line), file=sys.stderr, flush=True)
     except OSError:
-        pass    # nobody can be told, but the status still says it
+        # nobody can be told, but the status still says it; what is left must not be tried again at exit
+        os.dup2(os.open(os.devnull, os.O_WRONLY), sys.stderr.fileno())
     return status
