@@ -1,13 +1,15 @@
 -- A node's template, filled, is its text: one law for each template.
 use Prim.Native.Nat.{ℕ, zero, suc, _+_, _≤_, _<_}
-use borrow.Author.Tests.{leb-true, le-leb, lt-leb}
+use borrow.Author.Tests.{lt-leb}
+use Rattle.choice.specs.ChoiceLaws.{between-true}
+use Rattle.tree.specs.EncodeLaws.{between-is}
 use mathlib.Core.Path.{_≡_, refl, ap, sym, _∙_, subst}
 use mathlib.Core.List.{List, [], _∷_, _++_, append-assoc, append-nil}
 use mathlib.Core.Bool.{Bool, true, false}
 use native.Mathlib.Omega.{arith}
 use native.Mathlib.Nat.{add-zero}
 use lib.ListN.{length, getD, drop}
-use lib.Dec.{eqb, ltb, leb}
+use lib.Dec.{eqb, ltb}
 use Rattle.choice.specs.Choice.{pick, both, either, negated, between, some}
 use Rattle.record.specs.Record.{le, le16, recordOf}
 use Rattle.op.specs.declared.Op.{Op}
@@ -165,23 +167,12 @@ module _ (g : Settings) (o : Op) (t : Tree) where
 never : {A : Type 0} → _≡_ {A = Bool} true false → A
 never e = absurd (let z : _≡_ {A = ℕ} 0 1 = cc in let v : ⊥ = omega arith in v)
 
-pub range : (lo n hi : ℕ) → between lo n hi ≡ true → (lo ≤ n) × (n ≤ hi)
-range lo n hi e = go (leb lo n) (leb n hi) refl refl e
-  where
-    go : (a b : Bool) → leb lo n ≡ a → leb n hi ≡ b → both a b ≡ true → (lo ≤ n) × (n ≤ hi)
-    go true true x y z = (leb-true lo n x, leb-true n hi y)
-    go true false x y z = never (sym z)
-    go false b x y z = never (sym z)
-
-pub in-range : (lo n hi : ℕ) → lo ≤ n → n ≤ hi → between lo n hi ≡ true
-in-range lo n hi a b = simp (le-leb lo n a, le-leb n hi b)
-
 -- what lies outside of a range lies outside of each part of it
 narrower : (a b n c d : ℕ) → a ≤ b → c ≤ d → between a n d ≡ false → between b n c ≡ false
 narrower a b n c d x y e = go (between b n c) refl
   where
     go : (z : Bool) → between b n c ≡ z → z ≡ false
-    go true w = let r = range b n c w in never (sym (in-range a n d (let v : a ≤ n = omega (arith, r .0) in v) (let v : n ≤ d = omega (arith, r .1) in v)) ∙ e)
+    go true w = let r = between-true b n c w in never (sym (between-is a n d (let v : a ≤ n = omega (arith, r .0) in v) (let v : n ≤ d = omega (arith, r .1) in v)) ∙ e)
     go false w = refl
 
 -- An operator between its sides is none of the three other sorts.
@@ -213,15 +204,16 @@ left-temporal n e b s = go (between 18 n 40) (between 47 n 48) refl b e
     go false false x y z = never z
     go false true x y z = never y
     go true c x y z =
-        let r = range 18 n 40 x in
-        let h : (n ≤ 25) → ⊥ = λ q. never (sym (in-range 18 n 25 (r .0) q) ∙ s) in
-        in-range 26 n 40 (above h) (r .1)
+        let r = between-true 18 n 40 x in
+        let h : (n ≤ 25) → ⊥ = λ q. never (sym (between-is 18 n 25 (r .0) q) ∙ s) in
+        between-is 26 n 40 (above h) (r .1)
       where
         above : ((n ≤ 25) → ⊥) → 26 ≤ n
         above f = omega arith
 
-not-temporal : (n : ℕ) → between 18 n 25 ≡ true → between 26 n 40 ≡ false
-not-temporal n e = let h = range 18 n 25 e in simp (lt-leb 26 n (let v : n < 26 = omega (arith, h .1) in v))
+-- what lies in a range lies outside of each range above it
+pub apart : (a n b c d : ℕ) → between a n b ≡ true → b < c → between c n d ≡ false
+apart a n b c d e h = let r = between-true a n b e in simp (lt-leb c n (let v : n < c = omega (arith, r .1) in v))
 
 bound-0 : (g : Settings) (u : Tree) → boundText u (children g u) 0 ≡ text g (first (itemsOf u))
 unfolding children texts itemsOf isItems first second text
@@ -303,7 +295,7 @@ module _ (g : Settings) (o : Op) (t u : Tree) where
     pub spatial-fills : isSpatial o ≡ true → text g (dyadic o t u) ≡ fill (slot g (word o) (dyadicEnds o t u)) (spatialTemplate (opNumber o) (isId t) (isId u))
     unfolding text dyadicText dyadicEnds fill spatialTemplate reduces reducePrecision isTemporal
     spatial-fills q =
-        let z : isTemporal o ≡ false = is-temporal o ∙ not-temporal (opNumber o) (sym (is-spatial o) ∙ q) in
+        let z : isTemporal o ≡ false = is-temporal o ∙ apart 18 (opNumber o) 25 26 40 (sym (is-spatial o) ∙ q) (omega arith) in
         rw (p, q, z, is-reduced o) (go (between 21 (opNumber o) 23) (isId t) (isId u))
       where
         go : (r a b : Bool) → word o ++ (40 ∷ (pick (both r (both a (negated b))) (reducePrecision (g .precision) (text g t)) (text g t) ++ (44 ∷ 32 ∷ (pick (both r (both b (negated a))) (reducePrecision (g .precision) (text g u)) (text g u) ++ (41 ∷ []))))) ≡ fill (slot g (word o) (t ∷ u ∷ null ∷ null ∷ [])) (pick r (pick a (pick b (52 ∷ 40 ∷ 48 ∷ 44 ∷ 32 ∷ 49 ∷ 41 ∷ []) (52 ∷ 40 ∷ 83 ∷ 84 ∷ 95 ∷ 82 ∷ 101 ∷ 100 ∷ 117 ∷ 99 ∷ 101 ∷ 80 ∷ 114 ∷ 101 ∷ 99 ∷ 105 ∷ 115 ∷ 105 ∷ 111 ∷ 110 ∷ 40 ∷ 48 ∷ 44 ∷ 32 ∷ 56 ∷ 41 ∷ 44 ∷ 32 ∷ 49 ∷ 41 ∷ [])) (pick b (52 ∷ 40 ∷ 48 ∷ 44 ∷ 32 ∷ 83 ∷ 84 ∷ 95 ∷ 82 ∷ 101 ∷ 100 ∷ 117 ∷ 99 ∷ 101 ∷ 80 ∷ 114 ∷ 101 ∷ 99 ∷ 105 ∷ 115 ∷ 105 ∷ 111 ∷ 110 ∷ 40 ∷ 49 ∷ 44 ∷ 32 ∷ 56 ∷ 41 ∷ 41 ∷ []) (52 ∷ 40 ∷ 48 ∷ 44 ∷ 32 ∷ 49 ∷ 41 ∷ []))) (52 ∷ 40 ∷ 48 ∷ 44 ∷ 32 ∷ 49 ∷ 41 ∷ []))

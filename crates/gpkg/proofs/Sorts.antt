@@ -1,6 +1,6 @@
 -- What the kind of a whole record says of its tree; the ends and the template of either kind of node with operands.
 use Prim.Native.Nat.{ℕ, zero, suc, _+_, _-_, _≤_, _<_}
-use borrow.Author.Tests.{le-ltb, leb-true, lt-leb}
+use borrow.Author.Tests.{le-ltb}
 use Rattle.choice.specs.Choice.{pick, both, between}
 use mathlib.Core.Path.{_≡_, refl, ap, sym, _∙_, subst}
 use mathlib.Core.List.{List, [], _∷_, _++_, append-nil}
@@ -8,7 +8,7 @@ use mathlib.Core.Bool.{Bool, true, false}
 use native.Mathlib.Omega.{arith}
 use lib.ListN.{length, getD, take, drop, length-drop}
 use lib.Seq.{take-all}
-use lib.Dec.{eqb, ltb, leb}
+use lib.Dec.{eqb, ltb}
 use Rattle.record.specs.Record.{le16}
 use Rattle.op.specs.declared.Op.{Op}
 use Rattle.op.specs.Op.{opNumber, isTemporal}
@@ -26,7 +26,7 @@ use Rattle.gpkg.proofs.Records.{kindOf}
 use Rattle.gpkg.proofs.Literals.{kind-whole}
 use Rattle.gpkg.proofs.Operands.{operand-stands, inner-at}
 use Rattle.gpkg.proofs.Ends.{stands-kind, stands-part}
-use Rattle.gpkg.proofs.Nodes.{is-between, is-temporal}
+use Rattle.gpkg.proofs.Nodes.{is-between, is-temporal, apart}
 
 id-kind : (t : Tree) → eqb (kindOf t) 8 ≡ isId t
 unfolding isId
@@ -110,20 +110,10 @@ same-column t u a (suc (suc zero)) = a .is2 .column
 same-column t u a (suc (suc (suc zero))) = a .is3 .column
 same-column t u a (suc (suc (suc (suc j)))) = simp (le-ltb (suc (suc (suc (suc j)))) 4 (omega arith))
 
-not-between : (n : ℕ) → between 26 n 40 ≡ true → between 47 n 48 ≡ false
-not-between n e =
-    let a : leb n 40 ≡ true = go (leb 26 n) (leb n 40) e in
-    let b : n ≤ 40 = leb-true n 40 a in
-    simp (lt-leb 47 n (omega arith))
-  where
-    go : (a b : Bool) → both a b ≡ true → b ≡ true
-    go true b e = e
-    go false b e = absurd (let z : _≡_ {A = ℕ} 0 1 = cc in let v : ⊥ = omega arith in v)
-
 temporal-columns : {s : List ℕ} {e : List end.End} (o : Op) (t u : Tree) → Are s e (dyadicEnds o t u) → isTemporal o ≡ true → (j : ℕ) → columns e j ≡ columnsOf t u j
 unfolding dyadicEnds
 temporal-columns {s} {e} o t u a p =
-    let b : isBetween o ≡ false = is-between o ∙ not-between (opNumber o) (sym (is-temporal o) ∙ p) in
+    let b : isBetween o ≡ false = is-between o ∙ apart 26 (opNumber o) 40 47 48 (sym (is-temporal o) ∙ p) (omega arith) in
     same-column t u (simp (b, p) at a)
 
 pub template-two : {s : List ℕ} {kind op m : ℕ} (g : Settings) {t : Tree} → (kind ≡ 9 → ⊥) → Node s kind op m t → infixOf kind op ≡ false → (e : List end.End) → Are s e (nodeEnds t) → (w : List ℕ)

@@ -11,9 +11,11 @@ use native.Mathlib.Numerals.{add-one}
 use Rattle.sql.specs.TemplateLaws.{fill-append, spelt-append, digit-part, end-fills}
 use lib.Dec.{T, eqb, ltb, lt→ltb}
 use borrow.Author.Tests.{ltb-true, ltb-false, eqb-true, lt-ltb, eq-eqb, ne-eqb}
-use Rattle.gpkg.proofs.Nodes.{range, in-range, is-between, is-spatial, is-temporal, infix-between, infix-spatial, infix-temporal, infix-parts}
+use Rattle.gpkg.proofs.Nodes.{is-between, is-spatial, is-temporal, infix-between, infix-spatial, infix-temporal, infix-parts}
 use Rattle.choice.specs.Choice.{pick, both, negated, between, all}
+use Rattle.choice.specs.ChoiceLaws.{between-true}
 use Rattle.choice.specs.Table.{both-left, both-right}
+use Rattle.tree.specs.EncodeLaws.{between-is}
 use Rattle.record.specs.Record.{le, le16, recordOf}
 use Rattle.op.specs.declared.Op.{Op}
 use Rattle.op.specs.Op.{opNumber}
@@ -158,7 +160,7 @@ high : (b : ℕ) → 48 ≤ b → between 48 b 51 ≡ false → ltb (b - 48) 4 �
 high b h e = go (ltb (b - 48) 4) refl
   where
     go : (x : Bool) → ltb (b - 48) 4 ≡ x → x ≡ false
-    go true q = let l = ltb-true (b - 48) 4 q in never (let z = sym (in-range 48 b 51 h (let v : b ≤ 51 = omega arith in v)) ∙ e in cc)
+    go true q = let l = ltb-true (b - 48) 4 q in never (let z = sym (between-is 48 b 51 h (let v : b ≤ 51 = omega arith in v)) ∙ e in cc)
     go false q = refl
 
 -- no digit below 4
@@ -187,7 +189,7 @@ clear-fill g w xs (b ∷ l) e = one-byte (between 48 b 57) refl (clear-fill g w 
     one-byte : (c : Bool) → between 48 b 57 ≡ c → fill (slot g w xs) l ≡ fill (wordText g w) l → pick c (slot g w xs (b - 48)) (b ∷ []) ++ fill (slot g w xs) l ≡ pick c (wordText g w (b - 48)) (b ∷ []) ++ fill (wordText g w) l
     one-byte false z y = ap (λ (x : List ℕ). b ∷ x) y
     one-byte true z y =
-        let q : ltb (b - 48) 4 ≡ false = high b (range 48 b 57 z .0) here in
+        let q : ltb (b - 48) 4 ≡ false = high b (between-true 48 b 57 z .0) here in
         ap (λ (x : List ℕ). slot g w xs (b - 48) ++ x) y
         ∙ ap (λ (x : Bool). pick x (text g (getD xs (b - 48) null)) (wordText g w (b - 48)) ++ fill (wordText g w) l) q
 

@@ -120,7 +120,7 @@ leaf-back right make s t e f = simp e (ap got f)
 both-is : (a b : Bool) → a ≡ true → b ≡ true → both a b ≡ true
 both-is a b p q = simp p q
 
-between-is : (a n b : ℕ) → a ≤ n → n ≤ b → between a n b ≡ true
+pub between-is : (a n b : ℕ) → a ≤ n → n ≤ b → between a n b ≡ true
 between-is a n b p q = both-is (leb a n) (leb n b) (le-leb a n p) (le-leb n b q)
 
 num-back : (m : ℤ) (s : ℕ) → natAbs m ≤ mantissaLimit → s ≤ scaleLimit → leaf numBody (λ b. num (mantissa b 0) (getD b 8 0)) (le 8 (twos m) ++ (s ∷ [])) ≡ got (num m s)
