@@ -1,19 +1,17 @@
 -- A word's key tells it apart from every other word: so comparing with the fourteen keys is looking up the word.
 use Prim.Native.Nat.{ℕ, zero, suc, _+_, _-_, _*_, _^_, _≤_, _<_}
-use mathlib.Core.Path.{_≡_, refl, sym, ap, _∙_, subst}
-use mathlib.Core.List.{List, [], _∷_, map, reverse}
+use mathlib.Core.Path.{_≡_, refl, sym, ap, _∙_}
+use mathlib.Core.List.{List, [], _∷_, reverse}
 use mathlib.Core.Bool.{Bool, true, false}
 use native.Mathlib.Omega.{arith}
-use native.Mathlib.Numerals.{add-one}
 use lib.Dec.{eqb, ltb, leb}
 use lib.ListN.{length, getD, drop, length-drop}
 use lib.Seq.{drop-cons, drop-length}
-use lib.Pow.{pow-mono}
 use borrow.Author.Tests.{eq-eqb, ne-eqb, ltb-true, leb-true}
 use Rattle.choice.specs.Choice.{pick, both, all, some, same}
 use Rattle.choice.specs.ChoiceLaws.{same-refl, same-true, both-true}
 use Rattle.charset.specs.Charset.{upper, uppers, reservedWords, reserved}
-use Rattle.charset.specs.WordKey.{keyOf, Bytes, begins}
+use Rattle.charset.specs.WordKey.{keyOf, Bytes, mayBe}
 
 one-up : (s : List ℕ) → 1 ≤ keyOf s
 one-up [] = omega arith
@@ -167,27 +165,44 @@ keyed-none k h =
       ne-eqb k _ (h .1),
     )
 
--- A word that begins with no reserved word's letter is none, and neither is one of a single byte.
+-- A word whose length and first letter no reserved word has is none, and neither is one of a single byte.
 
-other-head : (b : ℕ) (s w : List ℕ) → eqb b (getD w 0 0) ≡ false → same (b ∷ s) w ≡ false
-unfolding same
-other-head b s [] e = refl
-other-head b s (c ∷ w) e = rw e
+-- the first bytes and the lengths of two words agree
+abbrev alike : List ℕ → List ℕ → Bool
+alike u w = both (eqb (getD u 0 0) (getD w 0 0)) (eqb (length u) (length w))
 
-by-heads : (b : ℕ) (s : List ℕ) (ws : List (List ℕ)) → some (λ w. eqb b (getD w 0 0)) ws ≡ false → some (same (b ∷ s)) ws ≡ false
-unfolding some
-by-heads b s [] e = refl
-by-heads b s (w ∷ ws) e = go (eqb b (getD w 0 0)) refl e (λ q. by-heads b s ws q)
+unlike : (u w : List ℕ) → alike u w ≡ false → same u w ≡ false
+unlike u w e = go (same u w) refl
   where
-    go : (c : Bool) → eqb b (getD w 0 0) ≡ c → pick c true (some (λ v. eqb b (getD v 0 0)) ws) ≡ false
-        → (some (λ v. eqb b (getD v 0 0)) ws ≡ false → some (same (b ∷ s)) ws ≡ false) → pick (same (b ∷ s) w) true (some (same (b ∷ s)) ws) ≡ false
-    go true p q k = let z : _≡_ {A = ℕ} 0 1 = cc in absurd (omega arith)
-    go false p q k = rw (other-head b s w p) (k q)
+    go : (b : Bool) → same u w ≡ b → same u w ≡ false
+    go true p =
+        let q = same-true u w p in
+        let k : alike u w ≡ true = simp (eq-eqb (getD u 0 0) (getD w 0 0) (ap (λ v. getD v 0 0) q), eq-eqb (length u) (length w) (ap length q)) in
+        cc
+    go false p = p
 
-pub reserved-head : (s : List ℕ) → 2 ≤ length s → begins (upper (getD s 0 0)) ≡ false → reserved s ≡ false
-unfolding reserved begins
-reserved-head [] h e = absurd (omega arith)
-reserved-head (b ∷ s) h e = by-heads (upper b) (uppers s) reservedWords e
+none-alike : (u : List ℕ) (ws : List (List ℕ)) → some (alike u) ws ≡ false → some (same u) ws ≡ false
+unfolding some
+none-alike u [] e = refl
+none-alike u (w ∷ ws) e = go (alike u w) refl e (λ q. none-alike u ws q)
+  where
+    go : (b : Bool) → alike u w ≡ b → pick b true (some (alike u) ws) ≡ false → (some (alike u) ws ≡ false → some (same u) ws ≡ false)
+        → pick (same u w) true (some (same u) ws) ≡ false
+    go true p q k = cc
+    go false p q k = rw (unlike u w p) (k q)
+
+uppers-first : (s : List ℕ) → getD (uppers s) 0 0 ≡ upper (getD s 0 0)
+unfolding upper
+uppers-first [] = refl
+uppers-first (b ∷ s) = refl
+
+none-reserved : (u : List ℕ) → mayBe (length u) (getD u 0 0) ≡ false → some (same u) reservedWords ≡ false
+unfolding mayBe
+none-reserved u e = none-alike u reservedWords e
+
+pub reserved-unlike : (s : List ℕ) (u : ℕ) → u ≡ upper (getD s 0 0) → mayBe (length s) u ≡ false → reserved s ≡ false
+unfolding reserved
+reserved-unlike s u q e = none-reserved (uppers s) (rw (uppers-first s, uppers-length s, ← q) e)
 
 shorter : (u w : List ℕ) → length u < length w → same u w ≡ false
 shorter u w h = go (same u w) refl

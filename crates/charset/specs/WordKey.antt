@@ -3,8 +3,8 @@ use Prim.Native.Nat.{ℕ, _+_, _*_, _<_}
 use mathlib.Core.List.{List, [], _∷_}
 use mathlib.Core.Bool.{Bool}
 use lib.Dec.{eqb}
-use lib.ListN.{getD}
-use Rattle.choice.specs.Choice.{some}
+use lib.ListN.{length, getD}
+use Rattle.choice.specs.Choice.{both, some}
 use Rattle.charset.specs.Charset.{reservedWords}
 
 abbrev pub keyOf : List ℕ → ℕ
@@ -16,6 +16,6 @@ abbrev pub Bytes : List ℕ → Type 0
 Bytes [] = Unit {0}
 Bytes (b ∷ s) = (b < 256) × Bytes s
 
--- some reserved word begins with this capital
-unfoldable pub begins : ℕ → Bool
-begins u = some (λ w. eqb u (getD w 0 0)) reservedWords
+-- some reserved word begins with the capital u and has n bytes
+unfoldable pub mayBe : ℕ → ℕ → Bool
+mayBe n u = some (λ w. both (eqb u (getD w 0 0)) (eqb n (length w))) reservedWords

@@ -3,7 +3,7 @@ ghost use Prim.Native.Nat.{_≤_, _<_};
 ghost use lib.ListN.{length};
 ghost use Rattle.choice.specs.Choice.{between, all};
 ghost use Rattle.charset.specs.Charset.{letter, digit, nameStart, nameByte, upper, uppers, reserved, name, strByte, spatialByte};
-ghost use Rattle.charset.specs.WordKey.{keyOf, Bytes, begins};
+ghost use Rattle.charset.specs.WordKey.{keyOf, Bytes, mayBe};
 
 fn within(lo: u8, b: u8, hi: u8) -> bool
     ensures { λ r. ⌜ r ≡ between lo b hi ⌝ }
@@ -35,11 +35,18 @@ pub fn is_name_start(b: u8) -> bool
     b == 95
 }
 
+// Most bytes of names are small letters, so these are told first, by two comparisons; then the capitals and the underscore, which lie below them, then the digits.
 pub fn is_name_byte(b: u8) -> bool
     ensures { λ r. ⌜ r ≡ nameByte b ⌝ }
 {
-    if is_name_start(b) {
-        return true;
+    if 97 <= b {
+        return b <= 122;
+    }
+    if 65 <= b {
+        if b <= 90 {
+            return true;
+        }
+        return b == 95;
     }
     is_digit(b)
 }
@@ -169,42 +176,29 @@ fn is_reserved_key(s: &[u8]) -> bool
     }
 }
 
-// The fourteen words begin with ten letters, so most names are told from them by the first byte.
-fn begins_reserved(b: u8) -> bool
-    ensures { λ r. ⌜ r ≡ begins (upper b) ⌝ }
+// Whether one of the fourteen words has n bytes and begins with the capital b: most names are told from them by these two, and only the others are compared with the words.
+fn may_be_reserved(n: usize, b: u8) -> bool
+    ensures { λ r. ⌜ r ≡ mayBe n b ⌝ }
 {
-    let u = upper_of(b);
-    if u == 65 {
-        return true;
+    match b {
+        65 => n == 3, // AND
+        66 => n == 7, // BETWEEN
+        67 => n == 7, // COLLATE
+        68 => n == 3, // DIV
+        70 => n == 5, // FALSE
+        73 => if n == 2 { true } else { n == 6 }, // IN, IS, ISNULL
+        76 => n == 4, // LIKE
+        78 => if n == 3 {
+            true
+        } else if n == 7 {
+            true
+        } else {
+            n == 4
+        }, // NOT, NOTNULL, NULL
+        79 => n == 2, // OR
+        84 => n == 4, // TRUE
+        _ => false,
     }
-    if u == 66 {
-        return true;
-    }
-    if u == 67 {
-        return true;
-    }
-    if u == 68 {
-        return true;
-    }
-    if u == 70 {
-        return true;
-    }
-    if u == 73 {
-        return true;
-    }
-    if u == 76 {
-        return true;
-    }
-    if u == 78 {
-        return true;
-    }
-    if u == 79 {
-        return true;
-    }
-    if u == 84 {
-        return true;
-    }
-    false
 }
 
 // A word that no name may be, in any letter case.
@@ -217,7 +211,7 @@ pub fn is_reserved(s: &[u8]) -> bool
     if 7 < s.len() {
         return false;
     }
-    if begins_reserved(s[0]) {
+    if may_be_reserved(s.len(), upper_of(s[0])) {
         return is_reserved_key(s);
     }
     false
@@ -234,7 +228,7 @@ pub fn is_name(s: &[u8]) -> bool
         return false;
     }
     if is_name_start(s[0]) {
-        if are_name_bytes(s) {
+        if are_name_bytes(&s[1..]) {
             if is_reserved(s) {
                 return false;
             }

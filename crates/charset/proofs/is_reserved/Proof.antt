@@ -1,13 +1,14 @@
--- `charset::is_reserved` meets its contract: a word of one byte, of more than seven, or with another first letter is none of the fourteen.
+-- `charset::is_reserved` meets its contract: a word of one byte, of more than seven, or whose length and first letter none of the fourteen has is none of them.
 use mathlib.Core.Path.{_≡_, sym, _∙_}
-use Rattle.charset.proofs.Keys.{reserved-short, reserved-long, reserved-head}
+use Rattle.charset.proofs.Keys.{reserved-short, reserved-long, reserved-unlike}
 use borrow.Author.Needs.{needs}
 use Rattle.charset.proofs.is_reserved.Statement.{statement}
 use Rattle.charset.proofs.is_reserved.Tie as tie
 use Rattle.charset.proofs.is_reserved.Reads as reads
 use Rattle.charset.proofs.is_reserved.Lts as lts
-use Rattle.charset.proofs.begins_reserved.Reads as begins-reserved-reads
 use Rattle.charset.proofs.is_reserved_key.Reads as is-reserved-key-reads
+use Rattle.charset.proofs.may_be_reserved.Reads as may-be-reserved-reads
+use Rattle.charset.proofs.upper_of.Reads as upper-of-reads
 
 returns : tie.Need-returns
 returns c = sym (reserved-short _ (c .if1 .taken))
@@ -15,11 +16,14 @@ returns c = sym (reserved-short _ (c .if1 .taken))
 returns-2 : tie.Need-returns-2
 returns-2 c = sym (reserved-long _ (c .if2 .taken))
 
-shared-slice-read-begins-reserved : tie.Need-shared-slice-read-begins-reserved
-shared-slice-read-begins-reserved c = search needs
+shared-slice-read-upper-of : tie.Need-shared-slice-read-upper-of
+shared-slice-read-upper-of c = search needs
 
-begins-reserved-requires : tie.Need-begins-reserved-requires
-begins-reserved-requires c κs = search needs
+upper-of-requires : tie.Need-upper-of-requires
+upper-of-requires c κs = search needs
+
+may-be-reserved-requires : tie.Need-may-be-reserved-requires
+may-be-reserved-requires c κs = search needs
 
 is-reserved-key-requires : tie.Need-is-reserved-key-requires
 is-reserved-key-requires c κs = search needs
@@ -28,7 +32,7 @@ returns-3 : tie.Need-returns-3
 returns-3 c = c .is-reserved-key .ensures
 
 returns-4 : tie.Need-returns-4
-returns-4 c = sym (reserved-head _ (c .before .before .before .before .if1 .left) (sym (c .before .begins-reserved .ensures) ∙ c .if3 .left))
+returns-4 c = sym (reserved-unlike _ _ (c .before .before .upper-of .ensures) (sym (c .before .may-be-reserved .ensures) ∙ c .if3 .left))
 
 pub is-reserved-spec : {M : Type 1} → statement M
 is-reserved-spec =
@@ -36,8 +40,9 @@ is-reserved-spec =
     (tie.spec
     returns
     returns-2
-    shared-slice-read-begins-reserved
-    begins-reserved-requires
+    shared-slice-read-upper-of
+    upper-of-requires
+    may-be-reserved-requires
     is-reserved-key-requires
     returns-3
     returns-4)
