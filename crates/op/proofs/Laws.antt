@@ -1,21 +1,24 @@
--- Each class as a range of numbers, and where ENDS says that a spelling lies: tests computed over the whole enum.
-use Prim.Native.Nat.{ℕ, zero, suc, _+_, _≤_}
+-- Each class as a range of numbers, and what an arm of a `match` on an operator knows: tests computed over the whole enum.
+use Prim.Native.Nat.{ℕ, zero, suc, _≤_, _<_}
 use native.Mathlib.Omega.{arith}
-use mathlib.Core.Path.{_≡_, refl, sym, ap, _∙_}
+use mathlib.Core.Path.{_≡_, refl, sym, ap, subst, _∙_}
 use mathlib.Core.List.{List, [], _∷_}
 use mathlib.Core.Bool.{Bool, true, false}
-use borrow.Author.Tests.{eq-eqb, ne-eqb}
-use lib.Dec.{T, eqb}
-use lib.ListN.{length, getD}
-use Rattle.choice.specs.Choice.{pick, either, between, some, same}
-use Rattle.choice.specs.ChoiceLaws.{same-true}
+use borrow.Author.Tests.{eq-eqb, lt-leb}
+use lib.Dec.{T, eqb, leb, eqb→eq}
+use lib.ListN.{length}
+use mathlib.Core.Logic.{inl, inr}
+use Rattle.choice.specs.Choice.{pick, either, negated, between, some}
 use Rattle.op.specs.declared.Op.{Op}
-use Rattle.op.specs.declared.Spelled.{Spelled}
-use Rattle.op.specs.declared.Spelled.the-variants.{Unspelled, From}
-use Rattle.op.specs.declared.Named.the-variants.{NoOp}
+use Rattle.op.specs.declared.Named.the-variants.{Is, NoOp}
 use Rattle.op.specs.Op.{opNumber, operators, opAt, opOf, isArithmetic, isArray, isComparison, isXtdComparison, isSpatial, isTemporal, isInstantOrInterval, isNullable}
-use Rattle.op.specs.OpLaws.{each, agree}
-use Rattle.op.specs.Spelling.{Spelling, noSpelling, spelled, spelling, spellings, spellingIn, inside}
+use Rattle.op.specs.OpLaws.{each, agree, number-of}
+use Rattle.op.specs.Spelling.{word}
+use Rattle.literal.specs.Placed.{placed, placedEnd}
+use Rattle.literal.specs.PlacedLaws.{placed-none, placedEnd-none}
+use Rattle.op.proofs.Op.{the-type}
+use denote.Enum.Declared.{tagOf}
+use types.Run.{OneOf}
 
 pub arithmetic-range : (o : Op) → isArithmetic o ≡ between 0 (opNumber o) 6
 unfolding isArithmetic some
@@ -49,30 +52,6 @@ pub nullable-range : (o : Op) → isNullable o ≡ between 51 (opNumber o) 52
 unfolding isNullable some
 nullable-range o = agree isNullable (λ o. between 51 (opNumber o) 52) tt o
 
--- ENDS of the code
-abbrev pub ends : List ℕ
-ends = 0 ∷ 1 ∷ 2 ∷ 3 ∷ 4 ∷ 7 ∷ 8 ∷ 9 ∷ 12 ∷ 13 ∷ 15 ∷ 16 ∷ 17 ∷ 19 ∷ 21 ∷ 24 ∷ 26 ∷ 26 ∷ 26 ∷ 39 ∷ 48 ∷ 59 ∷ 69 ∷ 78 ∷ 89 ∷ 99 ∷ 110 ∷ 110 ∷ 110 ∷ 110 ∷ 110 ∷ 110 ∷ 110 ∷ 110 ∷ 110 ∷ 110 ∷ 110 ∷ 110 ∷ 110 ∷ 110 ∷ 110 ∷ 110 ∷ 111 ∷ 113 ∷ 115 ∷ 117 ∷ 121 ∷ 129 ∷ 136 ∷ 147 ∷ 149 ∷ 155 ∷ 162 ∷ 173 ∷ []
-
-abbrev pub answerAt : ℕ → Spelled
-answerAt n = pick (eqb (getD ends n 0) (getD ends (n + 1) 0)) Unspelled (From (getD ends n 0) (getD ends (n + 1) 0))
-
-sameSpelling : Spelling → Spelling → Bool
-sameSpelling noSpelling noSpelling = true
-sameSpelling noSpelling (spelled t) = false
-sameSpelling (spelled s) noSpelling = false
-sameSpelling (spelled s) (spelled t) = same s t
-
-of-T : (b : Bool) → T b → b ≡ true
-of-T true t = refl
-of-T false t = absurd t
-
-spelling-equal : (a b : Spelling) → T (sameSpelling a b) → a ≡ b
-unfolding sameSpelling
-spelling-equal noSpelling noSpelling t = refl
-spelling-equal noSpelling (spelled s) t = absurd t
-spelling-equal (spelled s) noSpelling t = absurd t
-spelling-equal (spelled s) (spelled u) t = ap spelled (same-true s u (of-T (same s u) t))
-
 -- none of the numbers below k
 abbrev NoneOf : ℕ → ℕ → Type 0
 NoneOf n zero = Unit {0}
@@ -91,28 +70,71 @@ past (o ∷ os) (suc n) h = past os n (omega arith)
 pub past-all : (n : ℕ) → NoneOf n 53 → opOf n ≡ NoOp
 past-all n h = past operators n (none-below n 53 h)
 
--- the whole table agrees with the definition
-pub table-right : (o : Op) → spellingIn spellings (answerAt (opNumber o)) ≡ spelling o
-unfolding sameSpelling spellingIn same
-table-right o =
-    spelling-equal (spellingIn spellings (answerAt (opNumber o))) (spelling o)
-    (each (λ p. sameSpelling (spellingIn spellings (answerAt (opNumber p))) (spelling p)) tt o)
+or-right : (a b : Bool) → T b → T (pick a true b)
+or-right true b t = tt
+or-right false b t = t
 
-table-inside : (o : Op) → inside (length spellings) (answerAt (opNumber o)) ≡ true
-unfolding inside
-table-inside o = of-T _ (each (λ p. inside (length spellings) (answerAt (opNumber p))) tt o)
+-- an arm of a `match` knows that the operator's number is one of some
+one-of : (ks : List ℕ) (n : ℕ) → OneOf ks n → T (some (λ k. eqb n k) ks)
+unfolding some
+one-of [] n h = absurd h
+one-of (k ∷ []) n h = rw (eq-eqb n k h) tt
+one-of (k ∷ k′ ∷ ks) n (inl e) = rw (eq-eqb n k e) tt
+one-of (k ∷ k′ ∷ ks) n (inr h) = or-right (eqb n k) _ (one-of (k′ ∷ ks) n h)
 
-pub table-none : (o : Op) (n a e : ℕ) → n ≡ opNumber o → a ≡ getD ends n 0 → e ≡ getD ends (n + 1) 0 → a ≡ e → (spellingIn spellings Unspelled ≡ spelling o) × (inside (length spellings) Unspelled ≡ true)
-table-none o n a e p q r h =
-    let z : answerAt n ≡ Unspelled = simp (eq-eqb _ _ (sym q ∙ h ∙ r)) in (
-      ap (spellingIn spellings) (sym z) ∙ ap (λ k. spellingIn spellings (answerAt k)) p ∙ table-right o,
-      ap (inside (length spellings)) (sym z) ∙ ap (λ k. inside (length spellings) (answerAt k)) p ∙ table-inside o,
-    )
+-- the numbers of the operators that pass a test
+abbrev pub keysOf : (Op → Bool) → List Op → List ℕ
+keysOf f [] = []
+keysOf f (o ∷ os) = pick (f o) (opNumber o ∷ keysOf f os) (keysOf f os)
 
-pub table-from : (o : Op) (n a e : ℕ) → n ≡ opNumber o → a ≡ getD ends n 0 → e ≡ getD ends (n + 1) 0 → (a ≡ e → ⊥) → (spellingIn spellings (From a e) ≡ spelling o) × (inside (length spellings) (From a e) ≡ true)
-table-from o n a e p q r h =
-    let w : eqb (getD ends n 0) (getD ends (n + 1) 0) ≡ false = ne-eqb _ _ (λ x. h (q ∙ x ∙ sym r)) in
-    let z : answerAt n ≡ From a e = simp (w, q, r) in (
-      ap (spellingIn spellings) (sym z) ∙ ap (λ k. spellingIn spellings (answerAt k)) p ∙ table-right o,
-      ap (inside (length spellings)) (sym z) ∙ ap (λ k. inside (length spellings) (answerAt k)) p ∙ table-inside o,
-    )
+same-op : (o p : Op) → opNumber o ≡ opNumber p → o ≡ p
+same-op o p e = let h : Is o ≡ Is p = sym (number-of o) ∙ ap opOf e ∙ number-of p in cc
+
+key-passes : (f : Op → Bool) (os : List Op) (o : Op) → T (some (λ k. eqb (opNumber o) k) (keysOf f os)) → T (f o)
+unfolding some
+key-passes f [] o h = absurd h
+key-passes f (p ∷ os) o h = go (f p) (eqb (opNumber o) (opNumber p)) refl refl (λ t. key-passes f os o t) h
+  where
+    go : (b q : Bool) → f p ≡ b → eqb (opNumber o) (opNumber p) ≡ q
+        → (T (some (λ k. eqb (opNumber o) k) (keysOf f os)) → T (f o))
+        → T (some (λ k. eqb (opNumber o) k) (pick b (opNumber p ∷ keysOf f os) (keysOf f os))) → T (f o)
+    go true true e w later t = subst (λ (x : Op). T (f x)) (sym (same-op o p (eqb→eq (opNumber o) (opNumber p) (rw w tt)))) (rw e tt)
+    go true false e w later t = later (rw w at t)
+    go false q e w later t = later t
+
+tag-number : (o : Op) → tagOf the-type o ≡ opNumber o
+tag-number o = eqb→eq (tagOf the-type o) (opNumber o) (each (λ p. eqb (tagOf the-type p) (opNumber p)) tt o)
+
+-- an arm of all operators that pass a test
+arm : (f : Op → Bool) (o : Op) → OneOf (keysOf f operators) (tagOf the-type o) → T (f o)
+arm f o h = key-passes f operators o (rw (← tag-number o) (one-of (keysOf f operators) (tagOf the-type o) h))
+
+abbrev pub hasLength : ℕ → Op → Bool
+hasLength n o = eqb n (length (word o))
+
+pub arm-length : (n : ℕ) (o : Op) → OneOf (keysOf (hasLength n) operators) (tagOf the-type o) → n ≡ length (word o)
+arm-length n o h = eqb→eq n (length (word o)) (arm (hasLength n) o h)
+
+nothing : (s out : List ℕ) (at : ℕ) → T (eqb 0 (length s)) → (out ≡ placed out at s) × (at ≡ placedEnd out at s)
+nothing [] out at t = (sym (placed-none out at), sym (placedEnd-none out at))
+nothing (x ∷ s) out at t = let e = eqb→eq 0 (suc (length s)) t in absurd (omega arith)
+
+-- the last arm of a group: an operator of another group, or one that has no spelling
+abbrev pub beside : (Op → Bool) → Op → Bool
+beside g o = pick (g o) (hasLength 0 o) true
+
+pub arm-beside : (g : Op → Bool) (o : Op) (out : List ℕ) (at : ℕ) → g o ≡ true → OneOf (keysOf (beside g) operators) (tagOf the-type o)
+    → (out ≡ placed out at (word o)) × (at ≡ placedEnd out at (word o))
+arm-beside g o out at e h = nothing (word o) out at (rw e at (arm (beside g) o h))
+
+-- the last group
+abbrev pub others : Op → Bool
+others o = pick (leb (opNumber o) 15) false (negated (isSpatial o))
+
+pub in-others : (o : Op) → 15 < opNumber o → isSpatial o ≡ false → others o ≡ true
+in-others o h e = simp (lt-leb (opNumber o) 15 h, e)
+
+-- an arm that writes the spelling of one operator
+pub arm-text : {exit : List ℕ} {r : ℕ} (out : List ℕ) (at : ℕ) (o p : Op) → o ≡ p → (exit ≡ placed out at (word p)) × (r ≡ placedEnd out at (word p))
+    → (exit ≡ placed out at (word o)) × (r ≡ placedEnd out at (word o))
+arm-text out at o p e h = rw e h

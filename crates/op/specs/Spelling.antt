@@ -1,14 +1,8 @@
 -- The spelling table of Op::to_sql: document 01, "Op". CaseI, AccentI and the temporal operators have no spelling.
-use Prim.Native.Nat.{ℕ, _-_}
+use Prim.Native.Nat.{ℕ}
 use mathlib.Core.List.{List, [], _∷_}
-use mathlib.Core.Bool.{Bool, true}
-use lib.Dec.{leb}
-use lib.ListN.{take, drop}
-use Rattle.choice.specs.Choice.{both}
 use Rattle.op.specs.declared.Op.{Op}
 use Rattle.op.specs.declared.Op.the-variants.{Plus, Minus, Mult, Div, IntDiv, Mod, Exp, Neg, Eq, Neq, Lt, Gt, Lte, Gte, And, Or, CaseI, AccentI, SIntersects, SEquals, SDisjoint, STouches, SWithin, SOverlaps, SCrosses, SContains, TAfter, TBefore, TContains, TDisjoint, TDuring, TEquals, TFinishedBy, TFinishes, TIntersects, TMeets, TMetBy, TOverlappedBy, TOverlaps, TStartedBy, TStarts, AEquals, AContains, AContainedBy, AOverlaps, IsLike, IsNotLike, IsBetween, IsNotBetween, IsInList, IsNotInList, IsNull, IsNotNull}
-use Rattle.op.specs.declared.Spelled.{Spelled}
-use Rattle.op.specs.declared.Spelled.the-variants.{Unspelled, From}
 
 -- having no spelling is an answer of its own, and no empty text
 pub data Spelling : Type 0 where
@@ -70,53 +64,10 @@ spelling IsNotInList = spelled (78 ∷ 79 ∷ 84 ∷ 32 ∷ 73 ∷ 78 ∷ [])  -
 spelling IsNull = spelled (73 ∷ 83 ∷ 32 ∷ 78 ∷ 85 ∷ 76 ∷ 76 ∷ [])  -- IS NULL
 spelling IsNotNull = spelled (73 ∷ 83 ∷ 32 ∷ 78 ∷ 79 ∷ 84 ∷ 32 ∷ 78 ∷ 85 ∷ 76 ∷ 76 ∷ [])  -- IS NOT NULL
 
--- the table of the code: all spellings, one behind the other in the order of the enum
-abbrev pub spellings : List ℕ
-spellings =
-    43
-    ∷ 45
-    ∷ 42
-    ∷ 47
-    ∷ 100 ∷ 105 ∷ 118
-    ∷ 37
-    ∷ 94
-    ∷ 78 ∷ 79 ∷ 84
-    ∷ 61
-    ∷ 60 ∷ 62
-    ∷ 60
-    ∷ 62
-    ∷ 60 ∷ 61
-    ∷ 62 ∷ 61
-    ∷ 65 ∷ 78 ∷ 68
-    ∷ 79 ∷ 82
-    ∷ 83 ∷ 84 ∷ 95 ∷ 73 ∷ 110 ∷ 116 ∷ 101 ∷ 114 ∷ 115 ∷ 101 ∷ 99 ∷ 116 ∷ 115
-    ∷ 83 ∷ 84 ∷ 95 ∷ 69 ∷ 113 ∷ 117 ∷ 97 ∷ 108 ∷ 115
-    ∷ 83 ∷ 84 ∷ 95 ∷ 68 ∷ 105 ∷ 115 ∷ 106 ∷ 111 ∷ 105 ∷ 110 ∷ 116
-    ∷ 83 ∷ 84 ∷ 95 ∷ 84 ∷ 111 ∷ 117 ∷ 99 ∷ 104 ∷ 101 ∷ 115
-    ∷ 83 ∷ 84 ∷ 95 ∷ 87 ∷ 105 ∷ 116 ∷ 104 ∷ 105 ∷ 110
-    ∷ 83 ∷ 84 ∷ 95 ∷ 79 ∷ 118 ∷ 101 ∷ 114 ∷ 108 ∷ 97 ∷ 112 ∷ 115
-    ∷ 83 ∷ 84 ∷ 95 ∷ 67 ∷ 114 ∷ 111 ∷ 115 ∷ 115 ∷ 101 ∷ 115
-    ∷ 83 ∷ 84 ∷ 95 ∷ 67 ∷ 111 ∷ 110 ∷ 116 ∷ 97 ∷ 105 ∷ 110 ∷ 115
-    ∷ 61
-    ∷ 64 ∷ 62
-    ∷ 60 ∷ 64
-    ∷ 38 ∷ 38
-    ∷ 76 ∷ 73 ∷ 75 ∷ 69
-    ∷ 78 ∷ 79 ∷ 84 ∷ 32 ∷ 76 ∷ 73 ∷ 75 ∷ 69
-    ∷ 66 ∷ 69 ∷ 84 ∷ 87 ∷ 69 ∷ 69 ∷ 78
-    ∷ 78 ∷ 79 ∷ 84 ∷ 32 ∷ 66 ∷ 69 ∷ 84 ∷ 87 ∷ 69 ∷ 69 ∷ 78
-    ∷ 73 ∷ 78
-    ∷ 78 ∷ 79 ∷ 84 ∷ 32 ∷ 73 ∷ 78
-    ∷ 73 ∷ 83 ∷ 32 ∷ 78 ∷ 85 ∷ 76 ∷ 76
-    ∷ 73 ∷ 83 ∷ 32 ∷ 78 ∷ 79 ∷ 84 ∷ 32 ∷ 78 ∷ 85 ∷ 76 ∷ 76
-    ∷ []
+-- what is written of an operator: its spelling, or nothing where it has none
+unfoldable pub spelledAs : Spelling → List ℕ
+spelledAs noSpelling = []
+spelledAs (spelled s) = s
 
--- what an answer of the code says, over that table
-unfoldable pub spellingIn : List ℕ → Spelled → Spelling
-spellingIn table Unspelled = noSpelling
-spellingIn table (From a e) = spelled (take (e - a) (drop a table))
-
--- the answer is a part of a table of n bytes
-unfoldable pub inside : ℕ → Spelled → Bool
-inside n Unspelled = true
-inside n (From a e) = both (leb a e) (leb e n)
+abbrev pub word : Op → List ℕ
+word o = spelledAs (spelling o)

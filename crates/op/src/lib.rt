@@ -1,11 +1,11 @@
 ghost use mathlib.Core.Path.{_≡_};
-ghost use Prim.Native.Nat.{_+_, _≤_, _<_};
-ghost use lib.Dec.{leb};
+ghost use Prim.Native.Nat.{_≤_, _<_};
+ghost use mathlib.Core.Bool.{true, false};
 ghost use lib.ListN.{length};
 ghost use Rattle.choice.specs.Choice.{between};
-ghost use Rattle.op.specs.Op.{opNumber, opOf, operators, isArithmetic, isArray, isComparison, isXtdComparison, isSpatial, isTemporal, isInstantOrInterval, isNullable};
-ghost use mathlib.Core.Bool.{true};
-ghost use Rattle.op.specs.Spelling.{spelling, spellingIn, spellings, inside};
+ghost use Rattle.op.specs.Op.{opNumber, opOf, isArithmetic, isArray, isComparison, isXtdComparison, isSpatial, isTemporal, isInstantOrInterval, isNullable};
+ghost use Rattle.op.specs.Spelling.{word};
+ghost use Rattle.literal.specs.Placed.{placed, placedEnd};
 
 // The operators of src/op.rs, in its order.
 pub enum Op {
@@ -262,270 +262,121 @@ pub fn nullable(op: Op) -> bool
     within(51, op_number(op), 52)
 }
 
-// All spellings of Op::to_sql, one behind the other in the order of the enum; ENDS has where each ends.
-const SPELLINGS: [u8; 173] = [
-    43,
-    45,
-    42,
-    47,
-    100,
-    105,
-    118,
-    37,
-    94,
-    78,
-    79,
-    84,
-    61,
-    60,
-    62,
-    60,
-    62,
-    60,
-    61,
-    62,
-    61,
-    65,
-    78,
-    68,
-    79,
-    82,
-    83,
-    84,
-    95,
-    73,
-    110,
-    116,
-    101,
-    114,
-    115,
-    101,
-    99,
-    116,
-    115,
-    83,
-    84,
-    95,
-    69,
-    113,
-    117,
-    97,
-    108,
-    115,
-    83,
-    84,
-    95,
-    68,
-    105,
-    115,
-    106,
-    111,
-    105,
-    110,
-    116,
-    83,
-    84,
-    95,
-    84,
-    111,
-    117,
-    99,
-    104,
-    101,
-    115,
-    83,
-    84,
-    95,
-    87,
-    105,
-    116,
-    104,
-    105,
-    110,
-    83,
-    84,
-    95,
-    79,
-    118,
-    101,
-    114,
-    108,
-    97,
-    112,
-    115,
-    83,
-    84,
-    95,
-    67,
-    114,
-    111,
-    115,
-    115,
-    101,
-    115,
-    83,
-    84,
-    95,
-    67,
-    111,
-    110,
-    116,
-    97,
-    105,
-    110,
-    115,
-    61,
-    64,
-    62,
-    60,
-    64,
-    38,
-    38,
-    76,
-    73,
-    75,
-    69,
-    78,
-    79,
-    84,
-    32,
-    76,
-    73,
-    75,
-    69,
-    66,
-    69,
-    84,
-    87,
-    69,
-    69,
-    78,
-    78,
-    79,
-    84,
-    32,
-    66,
-    69,
-    84,
-    87,
-    69,
-    69,
-    78,
-    73,
-    78,
-    78,
-    79,
-    84,
-    32,
-    73,
-    78,
-    73,
-    83,
-    32,
-    78,
-    85,
-    76,
-    76,
-    73,
-    83,
-    32,
-    78,
-    79,
-    84,
-    32,
-    78,
-    85,
-    76,
-    76,
-];
-
-const ENDS: [u8; 54] = [
-    0,
-    1,
-    2,
-    3,
-    4,
-    7,
-    8,
-    9,
-    12,
-    13,
-    15,
-    16,
-    17,
-    19,
-    21,
-    24,
-    26,
-    26,
-    26,
-    39,
-    48,
-    59,
-    69,
-    78,
-    89,
-    99,
-    110,
-    110,
-    110,
-    110,
-    110,
-    110,
-    110,
-    110,
-    110,
-    110,
-    110,
-    110,
-    110,
-    110,
-    110,
-    110,
-    111,
-    113,
-    115,
-    117,
-    121,
-    129,
-    136,
-    147,
-    149,
-    155,
-    162,
-    173,
-];
-
-// The table of spellings. A constant is laid out anew at each use, so a caller takes it once and hands it down.
-pub fn spelling_table() -> [u8; 173]
-    ensures { λ r. ⌜ r ≡ spellings ⌝ }
+// The spellings of the operators up to Or: arithmetic, comparison, logic.
+fn put_basic(op: Op, out: &mut [u8], at: usize) -> usize
+    requires { ⌜ opNumber op ≤ 15 ⌝ }
+    ensures text { λ r. ⌜ now (out .exit) ≡ placed (now (out .entry)) at (word op) ⌝ }
+    ensures end { λ r. ⌜ r ≡ placedEnd (now (out .entry)) at (word op) ⌝ }
 {
-    SPELLINGS
+    match op {
+        Op::Plus => literal::put(b"+", out, at),
+        Op::Minus => literal::put(b"-", out, at),
+        Op::Mult => literal::put(b"*", out, at),
+        Op::Div => literal::put(b"/", out, at),
+        Op::IntDiv => literal::put(b"div", out, at),
+        Op::Mod => literal::put(b"%", out, at),
+        Op::Exp => literal::put(b"^", out, at),
+        Op::Neg => literal::put(b"NOT", out, at),
+        Op::Eq => literal::put(b"=", out, at),
+        Op::Neq => literal::put(b"<>", out, at),
+        Op::Lt => literal::put(b"<", out, at),
+        Op::Gt => literal::put(b">", out, at),
+        Op::Lte => literal::put(b"<=", out, at),
+        Op::Gte => literal::put(b">=", out, at),
+        Op::And => literal::put(b"AND", out, at),
+        Op::Or => literal::put(b"OR", out, at),
+        _ => at,
+    }
 }
 
-// Where an operator's spelling lies in the table.
-pub enum Spelled {
-    // CaseI, AccentI and the temporal operators have none.
-    Unspelled,
-    From { start: usize, end: usize },
+// The spellings of the spatial operators.
+fn put_spatial(op: Op, out: &mut [u8], at: usize) -> usize
+    requires { ⌜ isSpatial op ≡ true ⌝ }
+    ensures text { λ r. ⌜ now (out .exit) ≡ placed (now (out .entry)) at (word op) ⌝ }
+    ensures end { λ r. ⌜ r ≡ placedEnd (now (out .entry)) at (word op) ⌝ }
+{
+    match op {
+        Op::SIntersects => literal::put(b"ST_Intersects", out, at),
+        Op::SEquals => literal::put(b"ST_Equals", out, at),
+        Op::SDisjoint => literal::put(b"ST_Disjoint", out, at),
+        Op::STouches => literal::put(b"ST_Touches", out, at),
+        Op::SWithin => literal::put(b"ST_Within", out, at),
+        Op::SOverlaps => literal::put(b"ST_Overlaps", out, at),
+        Op::SCrosses => literal::put(b"ST_Crosses", out, at),
+        Op::SContains => literal::put(b"ST_Contains", out, at),
+        _ => at,
+    }
 }
 
-fn wide(x: u8) -> usize
-    ensures { λ r. ⌜ r ≡ x ⌝ }
+// The spellings of all others; CaseI, AccentI and the temporal operators have none.
+fn put_rest(op: Op, out: &mut [u8], at: usize) -> usize
+    requires { ⌜ (15 < opNumber op) × (isSpatial op ≡ false) ⌝ }
+    ensures text { λ r. ⌜ now (out .exit) ≡ placed (now (out .entry)) at (word op) ⌝ }
+    ensures end { λ r. ⌜ r ≡ placedEnd (now (out .entry)) at (word op) ⌝ }
 {
-    x as usize
+    match op {
+        Op::AEquals => literal::put(b"=", out, at),
+        Op::AContains => literal::put(b"@>", out, at),
+        Op::AContainedBy => literal::put(b"<@", out, at),
+        Op::AOverlaps => literal::put(b"&&", out, at),
+        Op::IsLike => literal::put(b"LIKE", out, at),
+        Op::IsNotLike => literal::put(b"NOT LIKE", out, at),
+        Op::IsBetween => literal::put(b"BETWEEN", out, at),
+        Op::IsNotBetween => literal::put(b"NOT BETWEEN", out, at),
+        Op::IsInList => literal::put(b"IN", out, at),
+        Op::IsNotInList => literal::put(b"NOT IN", out, at),
+        Op::IsNull => literal::put(b"IS NULL", out, at),
+        Op::IsNotNull => literal::put(b"IS NOT NULL", out, at),
+        _ => at,
+    }
 }
 
-pub fn to_sql(op: Op) -> Spelled
-    ensures text { λ r. ⌜ spellingIn spellings r ≡ spelling op ⌝ }
-    ensures part { λ r. ⌜ inside (length spellings) r ≡ true ⌝ }
+// Writes an operator's spelling (`Op::to_sql`) from `at`, if it fits there; answers the place behind it.
+pub fn to_sql(op: Op, out: &mut [u8], at: usize) -> usize
+    ensures text { λ r. ⌜ now (out .exit) ≡ placed (now (out .entry)) at (word op) ⌝ }
+    ensures end { λ r. ⌜ r ≡ placedEnd (now (out .entry)) at (word op) ⌝ }
 {
-    let n = op_number(op);
-    let start = wide(ENDS[n]);
-    let end = wide(ENDS[n + 1]);
-    if start == end {
-        Spelled::Unspelled
-    } else {
-        Spelled::From { start, end }
+    if op_number(op) <= 15 {
+        return put_basic(op, out, at);
+    }
+    if spatial(op) {
+        return put_spatial(op, out, at);
+    }
+    put_rest(op, out, at)
+}
+
+// How many bytes that takes.
+pub fn sql_len(op: Op) -> usize
+    ensures { λ r. ⌜ (r ≡ length (word op)) × (r ≤ 13) ⌝ }
+{
+    match op {
+        Op::Plus
+        | Op::Minus
+        | Op::Mult
+        | Op::Div
+        | Op::Mod
+        | Op::Exp
+        | Op::Eq
+        | Op::Lt
+        | Op::Gt
+        | Op::AEquals => 1,
+        Op::Neq
+        | Op::Lte
+        | Op::Gte
+        | Op::Or
+        | Op::AContains
+        | Op::AContainedBy
+        | Op::AOverlaps
+        | Op::IsInList => 2,
+        Op::IntDiv | Op::Neg | Op::And => 3,
+        Op::IsLike => 4,
+        Op::IsNotInList => 6,
+        Op::IsBetween | Op::IsNull => 7,
+        Op::IsNotLike => 8,
+        Op::SEquals | Op::SWithin => 9,
+        Op::STouches | Op::SCrosses => 10,
+        Op::SDisjoint | Op::SOverlaps | Op::SContains | Op::IsNotBetween | Op::IsNotNull => 11,
+        Op::SIntersects => 13,
+        _ => 0,
     }
 }

@@ -4,7 +4,6 @@ ghost use Prim.Native.Nat.{_≤_};
 ghost use lib.ListN.{length};
 use op::Named;
 use op::Op;
-use op::Spelled;
 
 const TAB: u8 = 9;
 
@@ -91,22 +90,24 @@ fn classes_right(op: Op, bits: &[u8]) -> bool {
     true
 }
 
-// The Rust panics where an operator has no spelling.
-fn spelling_right(op: Op, text: &[u8], table: &[u8]) -> bool {
-    match op::to_sql(op) {
-        Spelled::Unspelled => same(text, b"PANIC"),
-        Spelled::From { start, end } => {
-            if start <= end {
-                if end <= table.len() {
-                    return same(text, &table[start..end]);
-                }
-            }
-            false
-        }
+// The Rust panics where an operator has no spelling. The bytes past a spelling stay as they were.
+fn spelling_right(op: Op, text: &[u8]) -> bool {
+    let blank = [b'#'; 20];
+    let mut out = [b'#'; 20];
+    let n = op::sql_len(op);
+    if op::to_sql(op, &mut out, 0) != n {
+        return false;
     }
+    if same(&out[n..], &blank[n..]) {
+        if n == 0 {
+            return same(text, b"PANIC");
+        }
+        return same(text, &out[0..n]);
+    }
+    false
 }
 
-fn line_right(line: &[u8], number: usize, table: &[u8]) -> bool {
+fn line_right(line: &[u8], number: usize) -> bool {
     let Named::Is(op) = op::op_of(number) else {
         return false;
     };
@@ -114,7 +115,7 @@ fn line_right(line: &[u8], number: usize, table: &[u8]) -> bool {
         return false;
     }
     let spelled = behind(behind(line, TAB), TAB);
-    if spelling_right(op, upto(spelled, TAB), table) {
+    if spelling_right(op, upto(spelled, TAB)) {
         return classes_right(op, behind(spelled, TAB));
     }
     false
@@ -130,11 +131,11 @@ fn number_right(line: &[u8], number: usize) -> bool {
 }
 
 // 1 for a line that is right, else 0.
-fn score(line: &[u8], number: usize, table: &[u8]) -> usize
+fn score(line: &[u8], number: usize) -> usize
     ensures { λ r. ⌜ r ≤ 1 ⌝ }
 {
     if number_right(line, number) {
-        if line_right(line, number, table) {
+        if line_right(line, number) {
             return 1;
         }
     }
@@ -146,14 +147,14 @@ struct Tally {
     right: u64,
 }
 
-fn replay(list: &[u8], table: &[u8]) -> Tally {
+fn replay(list: &[u8]) -> Tally {
     let mut lines: usize = 0;
     let mut right: usize = 0;
     let mut at = 0;
     while at < list.len() {
         let rest = &list[at..];
         let line = upto(rest, LINE_END);
-        right += score(line, lines, table);
+        right += score(line, lines);
         lines += 1;
         at += find(rest, LINE_END) + 1;
     }
@@ -166,8 +167,7 @@ fn replay(list: &[u8], table: &[u8]) -> Tally {
 fn main() {
     let mut buffer = io::buffer();
     let n = io::read_full(libc::STDIN_FILENO, &mut buffer);
-    let table = op::spelling_table();
-    let tally = replay(&buffer[..n], &table);
+    let tally = replay(&buffer[..n]);
     io::print_decimal(libc::STDOUT_FILENO, tally.right);
     io::write_all(libc::STDOUT_FILENO, b" lines right of ");
     io::print_decimal(libc::STDOUT_FILENO, tally.lines);

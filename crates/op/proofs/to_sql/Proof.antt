@@ -1,49 +1,58 @@
--- `op::to_sql` meets its contract: the answer is the one that the computed test of the whole table is about.
-use Prim.Native.Nat.{_<_, _+_}
-use mathlib.Core.Path.{_≡_, _∙_, sym, ap}
-use borrow.Author.Needs.{needs}
-use borrow.Author.Tests.{eq-eqb, ne-eqb}
+-- `op::to_sql` meets its contract: each group writes its own.
+use mathlib.Core.Path.{sym, _∙_}
 use native.Mathlib.Omega.{arith}
-use Rattle.op.specs.OpLaws.{number-below}
-use Rattle.op.specs.Op.{opNumber}
-use Rattle.op.specs.Spelling.{spelling, spellings, spellingIn}
-use Rattle.op.proofs.Laws.{table-none, table-from}
+use borrow.Author.Needs.{needs}
 use Rattle.op.proofs.to_sql.Statement.{statement}
 use Rattle.op.proofs.to_sql.Tie as tie
 
 op-number-requires : tie.Need-op-number-requires
 op-number-requires c κs = search needs
 
-array-read-wide : tie.Need-array-read-wide
-array-read-wide c = let h = number-below (c .before .args .op) in omega (arith, c .op-number .ensures)
+put-basic-requires : tie.Need-put-basic-requires
+put-basic-requires c κs = search needs
 
-wide-requires : tie.Need-wide-requires
-wide-requires c κs = search needs
-
-add-wide : tie.Need-add-wide
-add-wide c = let h = number-below (c .before .before .args .op) in omega (arith, c .before .op-number .ensures)
-
-array-read-wide-2 : tie.Need-array-read-wide-2
-array-read-wide-2 c = let h = number-below (c .before .before .args .op) in omega (arith, c .before .op-number .ensures)
-
-wide-requires-2 : tie.Need-wide-requires-2
-wide-requires-2 c κs = search needs
+same-length : tie.Need-same-length
+same-length c = search needs
 
 returns : tie.Need-returns
-returns c = table-none (c .before .before .before .before .args .op) _ _ _ (c .before .before .before .op-number .ensures) (c .before .before .wide .ensures) (c .before .wide2 .ensures) (c .if1 .taken)
+returns c = search needs
+
+spatial-requires : tie.Need-spatial-requires
+spatial-requires c κs = search needs
+
+put-spatial-requires : tie.Need-put-spatial-requires
+put-spatial-requires c κs = sym (c .before .before .spatial .ensures) ∙ c .before .if2 .taken
+
+same-length-2 : tie.Need-same-length-2
+same-length-2 c = search needs
 
 returns-2 : tie.Need-returns-2
-returns-2 c = table-from (c .before .before .before .before .args .op) _ _ _ (c .before .before .before .op-number .ensures) (c .before .before .wide .ensures) (c .before .wide2 .ensures) (c .if1 .left)
+returns-2 c = search needs
+
+put-rest-requires : tie.Need-put-rest-requires
+put-rest-requires c κs =
+    let n = c .before .before .before .before .op-number .ensures in
+    let h = c .before .before .before .if1 .left in
+    (omega arith, sym (c .before .before .spatial .ensures) ∙ c .before .if2 .left)
+
+same-length-3 : tie.Need-same-length-3
+same-length-3 c = search needs
+
+returns-3 : tie.Need-returns-3
+returns-3 c = search needs
 
 pub to-sql-spec : {M : Type 1} → statement M
 to-sql-spec =
     tie.close
     (tie.spec
     op-number-requires
-    array-read-wide
-    wide-requires
-    add-wide
-    array-read-wide-2
-    wide-requires-2
+    put-basic-requires
+    same-length
     returns
-    returns-2)
+    spatial-requires
+    put-spatial-requires
+    same-length-2
+    returns-2
+    put-rest-requires
+    same-length-3
+    returns-3)

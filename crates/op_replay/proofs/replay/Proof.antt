@@ -11,10 +11,10 @@ use Rattle.op_replay.proofs.score.Reads as score-reads
 use Rattle.op_replay.proofs.upto.Reads as upto-reads
 
 abbrev Inv-loop : tie.InvT-loop
-Inv-loop list table lines₀ right₀ at₀ lines right at = (right ≤ lines) × ((lines ≤ at) × (at ≤ length list + 1))
+Inv-loop list lines₀ right₀ at₀ lines right at = (right ≤ lines) × ((lines ≤ at) × (at ≤ length list + 1))
 
 abbrev μ-loop : tie.MeasureT-loop
-μ-loop list table lines₀ right₀ at₀ lines right at = length list + 1 - at
+μ-loop list lines₀ right₀ at₀ lines right at = length list + 1 - at
 
 loop-holds : tie.Need-loop-holds Inv-loop μ-loop
 loop-holds c = search needs
