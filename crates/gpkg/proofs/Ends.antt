@@ -1,21 +1,20 @@
 -- What an end and an operand in the bytes are, by the kind of the record that stands there.
-use Prim.Native.Nat.{ℕ, _+_, _-_, _≤_, _<_, min}
+use Prim.Native.Nat.{ℕ, _+_, _-_, _≤_, min}
 use mathlib.Core.Path.{_≡_, refl, ap, sym, _∙_, subst}
-use mathlib.Core.List.{List, [], _∷_, _++_, append-assoc}
+use mathlib.Core.List.{List, _++_, append-assoc}
 use mathlib.Core.Bool.{Bool, true, false}
 use native.Mathlib.Omega.{arith}
-use lib.ListN.{length, take, drop, length-append}
-use Rattle.choice.specs.Choice.{pick, both}
+use lib.ListN.{length, drop, length-append}
+use Rattle.choice.specs.Choice.{both}
 use Rattle.record.specs.Record.{le16}
-use Rattle.tree.specs.Tree.{Tree, Trees, encode, encodes, null, unbounded, bool, num, str, date, timestamp, spatial, id, monadic, dyadic, function, array, interval, none, _then_}
+use Rattle.tree.specs.Tree.{Tree, encode, null, unbounded, bool, num, str, date, timestamp, spatial, id, monadic, dyadic, function, array, interval}
 use Rattle.tree.specs.Placed.{isInterval}
 use Rattle.sql.specs.declared.End as end
 use Rattle.sql.specs.declared.End.the-variants.{Column, Instant, Other, Open, Null}
-use Rattle.sql.specs.declared.Operand as operand
 use Rattle.sql.specs.declared.Operand.the-variants.{Single, Interval}
 use Rattle.gpkg.specs.Text.{isId, startOf, stopOf}
-use Rattle.gpkg.specs.Plan.{Inside, part, Here, Is, IsOperand, Stands, EndOf, sound}
-use Rattle.gpkg.proofs.Records.{kindOf, bodyOf, shape, kind-at, beyond, part-at, ends-at, size-of, long}
+use Rattle.gpkg.specs.Plan.{Inside, part, Is, IsOperand, Stands, EndOf, sound}
+use Rattle.gpkg.proofs.Records.{kindOf, bodyOf, kind-at, beyond, part-at, ends-at, size-of, long}
 use Rattle.gpkg.proofs.Literals.{id-no, id-true, body-at}
 
 never : {A : Type 0} → ⊥ → A
@@ -23,6 +22,16 @@ never v = absurd v
 
 pub stands-kind : {s : List ℕ} {a z : ℕ} {x : Tree} → Stands s a z x → le16 s (a + 4) ≡ kindOf x
 stands-kind {s} {a} {z} {x} h = kind-at s a x (h .rest) (h .there)
+
+-- a record has its six bytes
+pub stands-long : {s : List ℕ} {a z : ℕ} {x : Tree} → Stands s a z x → 6 ≤ length s - a
+stands-long {s} {a} {z} {x} h =
+    let e = ends-at s a x (h .rest) (h .there) (h .inside) in
+    let l = long x in
+    omega arith
+
+pub at-six : (a n : ℕ) → 6 ≤ n - a → a + 6 ≡ min (a + 6) n
+at-six a n h = omega arith
 
 pub stands-part : {s : List ℕ} {a z : ℕ} {x : Tree} → Stands s a z x → Inside s a z × (part s a z ≡ encode x)
 stands-part {s} {a} {z} {x} h =

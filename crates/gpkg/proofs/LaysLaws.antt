@@ -1,10 +1,10 @@
 -- Steps of the walk one after the other. Counting stops at 65,536, so a place is exact wherever the text behind it has room.
-use Prim.Native.Nat.{ℕ, _+_, _≤_, _<_, min}
+use Prim.Native.Nat.{ℕ, _+_, _≤_, _<_}
 use mathlib.Core.Path.{_≡_, refl, ap, sym, _∙_, subst}
-use mathlib.Core.List.{List, [], _∷_, _++_, append-assoc}
+use mathlib.Core.List.{List, [], _∷_, _++_}
 use native.Mathlib.Omega.{arith}
 use lib.ListN.{length, length-append}
-use lib.Seq.{sets, length-sets}
+use lib.Seq.{sets}
 use Rattle.literal.specs.Placed.{placed, placedEnd, fits}
 use mathlib.Core.Bool.{Bool, true, false}
 use Rattle.choice.specs.Choice.{pick}
@@ -52,6 +52,18 @@ lays-then {at} {t} {u} {l} {m} {n} {p} {r} x y = record {
       let k : length m ≡ length l = x .kept in
       let a : m ≡ sets l at t = x .laid (omega arith) (omega arith) in
       y .laid (omega arith) (omega arith) ∙ rw (q, a) (sets-append t u l at);
+}
+
+no-bytes : (t : List ℕ) → length t ≡ 0 → t ≡ []
+no-bytes [] h = refl
+no-bytes (x ∷ t) h = absurd (let v : ⊥ = omega arith in v)
+
+-- nothing is written where nothing has room
+pub lays-kept : {at : ℕ} {t l : List ℕ} {r : ℕ} (n : ℕ) → (at + length t ≤ length l → length t ≡ 0) → r ≡ capped (at + n) → n ≡ length t → Lays at t l l r
+lays-kept {at} {t} {l} {r} n e p z = record {
+  place = p ∙ ap (λ (k : ℕ). capped (at + k)) z;
+  kept = refl;
+  laid = λ h g. ap (λ (x : List ℕ). sets l at x) (sym (no-bytes t (e h)));
 }
 
 empty : (t : List ℕ) (at : ℕ) → 65536 ≤ at → at + length t ≤ 65536 → t ≡ []

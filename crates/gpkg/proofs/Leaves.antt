@@ -1,22 +1,21 @@
 -- The text of a node without operands, read from its record.
 use Prim.Native.Nat.{ℕ, _+_, _≤_, _<_}
-use mathlib.Core.Path.{_≡_, refl, ap, sym, _∙_}
+use mathlib.Core.Path.{_≡_, refl, ap, _∙_}
 use mathlib.Core.List.{List, [], _∷_, _++_}
 use mathlib.Core.Bool.{Bool, true, false}
 use native.Mathlib.Omega.{arith}
 use lib.IntN.{ℤ, natAbs}
-use lib.Dec.{eqb, ltb, leb}
+use lib.Dec.{eqb, leb}
 use borrow.Author.Tests.{leb-true, ltb-true}
-use lib.ListN.{getD, drop}
 use Rattle.choice.specs.Choice.{pick}
-use Rattle.record.specs.Record.{le, le16, le32, recordOf}
+use Rattle.record.specs.Record.{le, recordOf}
 use Rattle.tree.specs.Limits.{mantissaLimit}
 use Rattle.tree.specs.Parse.{le64, signed, mantissa}
 use Rattle.tree.specs.ByteLaws.{le16-le, le32-le, le64-le, signed-twos, twos-low}
 use Rattle.tree.specs.Tree.{Tree, Settings, encode, twos, dateBytes, null, unbounded, bool, num, str, date, timestamp, spatial, id, monadic, dyadic, function, array, interval}
 use Rattle.literal.specs.Literal.{numText, boolText, dateText, timestampText, spatialText, quoted, collate, strText}
 use Rattle.gpkg.specs.Text.{text}
-use Rattle.gpkg.specs.Plan.{leafText, sound, nameOf, collation}
+use Rattle.gpkg.specs.Plan.{leafText, sound, collation}
 use Rattle.gpkg.proofs.Records.{kindOf}
 
 -- a Bool is not both
@@ -56,7 +55,7 @@ pub str-collated : (g : Settings) (f : ℕ) (s : List ℕ) → quoted s ++ colla
 unfolding strText
 str-collated g f s = ap (λ (l : List ℕ). quoted s ++ pick (eqb f 0) [] l) (go (eqb f 1) (eqb f 2))
   where
-    go : (a b : Bool) → collate (nameOf g (pick a 5 (pick b 6 7))) ≡ pick a (collate (g .ci)) (pick b (collate (g .ai)) (collate (g .cai)))
+    go : (a b : Bool) → collate (pick a (g .ci) (pick b (g .ai) (g .cai))) ≡ pick a (collate (g .ci)) (pick b (collate (g .ai)) (collate (g .cai)))
     go true b = refl
     go false true = refl
     go false false = refl

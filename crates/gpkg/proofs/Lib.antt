@@ -7,7 +7,6 @@ pub mod Words
 pub mod Nodes
 pub mod Operands
 pub mod Parts
-pub mod Twin
 pub mod Sorts
 pub mod Walk
 pub mod Leaves

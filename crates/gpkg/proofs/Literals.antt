@@ -1,12 +1,12 @@
 -- `is_literal` over records that lie one behind the other: what is left to look at, as a list of trees.
 use Prim.Native.Nat.{ℕ, _+_, _-_, _≤_, _<_}
 use mathlib.Core.Path.{_≡_, refl, ap, sym, _∙_}
-use mathlib.Core.List.{List, [], _∷_, _++_, append-assoc, append-nil}
+use mathlib.Core.List.{List, [], _++_, append-assoc, append-nil}
 use mathlib.Core.Bool.{Bool, true, false}
 use native.Mathlib.Omega.{arith}
 use lib.ListN.{length, drop, length-append, length-drop, drop-of-length-le}
 use lib.Seq.{drop-drop}
-use Rattle.choice.specs.Choice.{pick, both, either}
+use Rattle.choice.specs.Choice.{both, either, between}
 use Rattle.record.specs.Record.{le16, recordOf}
 use Rattle.tree.specs.Tree.{Tree, Trees, encode, encodes, null, unbounded, bool, num, str, date, timestamp, spatial, id, monadic, dyadic, function, array, interval, none, _then_}
 use Rattle.gpkg.specs.Text.{isLiteral, allLiteral, isId, isLiteralOrId}
@@ -168,6 +168,14 @@ front {s} {p} {t} h l = go (l .us) (l .there) (l .same)
         absurd (let v : ⊥ = omega arith in v)
     go (u then us) e q = record { u = u; vs = us; at = e; same = q }
 
+-- what is left has room for a record
+pub left-long : {s : List ℕ} {p : ℕ} {t : Tree} → p < length s → Left s p t → 6 ≤ length s - p
+left-long {s} {p} h l =
+    let f = front h l in
+    let a : length s - p ≡ length (encode (f .u)) + length (encodes (f .vs)) = sym (length-drop p s) ∙ ap length (f .at) ∙ length-append (encode (f .u)) (encodes (f .vs)) in
+    let b = long (f .u) in
+    omega arith
+
 pub left-array : {s : List ℕ} {p k : ℕ} {t : Tree} → p < length s → k ≡ le16 s (p + 4) → k ≡ 12 → Left s p t → Left s (p + 6) t
 unfolding isLiteral
 left-array {s} {p} {k} {t} h e q l =
@@ -208,12 +216,29 @@ whole s t e = e ∙ sym (append-nil (encode t))
 pub kind-whole : (s : List ℕ) (t : Tree) → s ≡ encode t → le16 s 4 ≡ kindOf t
 kind-whole s t e = kind-at s 0 t [] (whole s t e)
 
-pub or-id : (s : List ℕ) (k : ℕ) (t : Tree) → s ≡ encode t → k ≡ le16 s 4 → k ≡ 8 → true ≡ isLiteralOrId t
-unfolding isLiteralOrId
-or-id s k t e q z =
-    let a : isId t ≡ true = id-yes t (sym (kind-whole s t e) ∙ sym q ∙ z) in
-    let b : isLiteral t ≡ false = lit-no t (λ x y. let c = kind-whole s t e in let v : ⊥ = omega arith in v) (λ x. let c = kind-whole s t e in let v : ⊥ = omega arith in v) in
-    simp (b, a)
+-- what the kind of any tree but an array tells
+pub kind-tells : (s : List ℕ) (k : ℕ) (t : Tree) → s ≡ encode t → k ≡ le16 s 4 → (k ≡ 12 → ⊥) → between 2 k 8 ≡ isLiteralOrId t
+unfolding isLiteralOrId isLiteral isId
+kind-tells s k t e q z = ap (λ (n : ℕ). between 2 n 8) w ∙ go t (λ y. z (w ∙ y))
+  where
+    w : k ≡ kindOf t
+    w = q ∙ kind-whole s t e
+
+    go : (u : Tree) → (kindOf u ≡ 12 → ⊥) → between 2 (kindOf u) 8 ≡ isLiteralOrId u
+    go null v = refl
+    go unbounded v = refl
+    go (bool b) v = refl
+    go (num m n) v = refl
+    go (str f n) v = refl
+    go (date y m d) v = refl
+    go (timestamp y m d h i n) v = refl
+    go (spatial m n) v = refl
+    go (id n) v = refl
+    go (monadic o x) v = refl
+    go (dyadic o x y) v = refl
+    go (function n ts) v = refl
+    go (array ts) v = absurd (v refl)
+    go (interval x y) v = refl
 
 pub no-id : (s : List ℕ) (k : ℕ) (t : Tree) (r : Bool) → s ≡ encode t → k ≡ le16 s 4 → (k ≡ 8 → ⊥) → r ≡ isLiteral t → r ≡ isLiteralOrId t
 unfolding isLiteralOrId

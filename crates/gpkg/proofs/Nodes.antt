@@ -1,32 +1,30 @@
--- A node's template, filled, is its text: one law for each template.
-use Prim.Native.Nat.{ℕ, zero, suc, _+_, _≤_, _<_}
+-- A node's text by its parts: around its operand, around its operator, as a call, or its template filled.
+use Prim.Native.Nat.{ℕ, zero, suc, _+_, _<_}
 use borrow.Author.Tests.{lt-leb}
 use Rattle.choice.specs.ChoiceLaws.{between-true}
-use Rattle.tree.specs.EncodeLaws.{between-is}
-use mathlib.Core.Path.{_≡_, refl, ap, sym, _∙_, subst}
+use mathlib.Core.Path.{_≡_, refl, ap, sym, _∙_}
 use mathlib.Core.List.{List, [], _∷_, _++_, append-assoc, append-nil}
 use mathlib.Core.Bool.{Bool, true, false}
 use native.Mathlib.Omega.{arith}
-use native.Mathlib.Nat.{add-zero}
-use lib.ListN.{length, getD, drop}
-use lib.Dec.{eqb, ltb}
+use lib.ListN.{getD}
+use lib.Dec.{eqb}
 use Rattle.choice.specs.Choice.{pick, both, either, negated, between, some}
-use Rattle.record.specs.Record.{le, le16, recordOf}
+use Rattle.record.specs.Record.{le16, recordOf}
 use Rattle.op.specs.declared.Op.{Op}
 use Rattle.op.specs.declared.Op.the-variants.{Minus, Neg, CaseI, AccentI, STouches, SWithin, SOverlaps, IsLike, IsNotLike}
 use Rattle.op.specs.Op.{opNumber, oneOf, isArray, isSpatial, isTemporal, isNullable}
 use Rattle.op.specs.OpLaws.{agree, number-below}
-use Rattle.tree.specs.Tree.{Tree, Trees, Settings, encode, encodes, null, unbounded, bool, num, str, date, timestamp, spatial, id, monadic, dyadic, function, array, interval, none, _then_}
+use Rattle.tree.specs.Tree.{Tree, Settings, encode, null, unbounded, bool, num, str, date, timestamp, spatial, id, monadic, dyadic, function, array, interval, none, _then_}
 use Rattle.tree.specs.Parse.{first, second}
 use Rattle.tree.specs.Placed.{isInterval, isBetween}
-use Rattle.literal.specs.Literal.{nullText, collate, decimal}
-use Rattle.sql.specs.Condition.{print}
+use Rattle.literal.specs.Literal.{collate}
 use Rattle.sql.specs.Translators.{translate}
 use Rattle.sql.specs.Template.{fill, templateOf}
 use Rattle.sql.specs.TemplateLaws.{translate-fills, translate-same}
-use Rattle.gpkg.specs.Text.{isId, isLiteralOrId, isMonadic, isItems, startOf, stopOf, endsOf, columnsOf, word, bare, reducePrecision, monadicText, reduces, startText, stopText, boundText, dyadicText, text, children, texts}
-use Rattle.gpkg.specs.Plan.{twin, twinOf, underOf, itemsOf, monadicEnds, dyadicEnds, slot, wordText, precise, spatialTemplate, infixOf, infixText, leftBare, rightBare}
-use Rattle.gpkg.proofs.Records.{kindOf, bodyOf, shape, kind-at}
+use Rattle.gpkg.specs.Text.{isId, isLiteralOrId, isMonadic, isItems, startOf, stopOf, endsOf, columnsOf, bare, reducePrecision, monadicText, reduces, startText, stopText, boundText, dyadicText, text, children, texts}
+use Rattle.op.specs.Spelling.{word}
+use Rattle.gpkg.specs.Plan.{twin, twinOf, underOf, operandOf, itemsOf, nameOf, beforeText, behindText, collationFlags, slot, reducedText, infixText, leftBare, rightBare}
+use Rattle.gpkg.proofs.Records.{kindOf}
 
 -- Classes of operators, by number.
 
@@ -42,15 +40,15 @@ pub is-temporal : (o : Op) → isTemporal o ≡ between 26 (opNumber o) 40
 unfolding isTemporal some
 is-temporal o = agree (λ p. isTemporal p) (λ p. between 26 (opNumber p) 40) tt o
 
-pub is-array : (o : Op) → isArray o ≡ between 41 (opNumber o) 44
+is-array : (o : Op) → isArray o ≡ between 41 (opNumber o) 44
 unfolding isArray some
 is-array o = agree (λ p. isArray p) (λ p. between 41 (opNumber p) 44) tt o
 
-pub is-like : (o : Op) → oneOf o (IsLike ∷ IsNotLike ∷ []) ≡ between 45 (opNumber o) 46
+is-like : (o : Op) → oneOf o (IsLike ∷ IsNotLike ∷ []) ≡ between 45 (opNumber o) 46
 unfolding some
 is-like o = agree (λ p. oneOf p (IsLike ∷ IsNotLike ∷ [])) (λ p. between 45 (opNumber p) 46) tt o
 
-pub is-nullable : (o : Op) → isNullable o ≡ between 51 (opNumber o) 52
+is-nullable : (o : Op) → isNullable o ≡ between 51 (opNumber o) 52
 unfolding isNullable some
 is-nullable o = agree (λ p. isNullable p) (λ p. between 51 (opNumber p) 52) tt o
 
@@ -58,11 +56,11 @@ pub is-reduced : (o : Op) → oneOf o (SWithin ∷ SOverlaps ∷ STouches ∷ []
 unfolding some
 is-reduced o = agree (λ p. oneOf p (SWithin ∷ SOverlaps ∷ STouches ∷ [])) (λ p. between 21 (opNumber p) 23) tt o
 
-pub is-negation : (o : Op) → oneOf o (Neg ∷ Minus ∷ []) ≡ either (eqb (opNumber o) 7) (eqb (opNumber o) 1)
+is-negation : (o : Op) → oneOf o (Neg ∷ Minus ∷ []) ≡ either (eqb (opNumber o) 7) (eqb (opNumber o) 1)
 unfolding some
 is-negation o = agree (λ p. oneOf p (Neg ∷ Minus ∷ [])) (λ p. either (eqb (opNumber p) 7) (eqb (opNumber p) 1)) tt o
 
-pub is-casei : (o : Op) → oneOf o (CaseI ∷ []) ≡ eqb (opNumber o) 16
+is-casei : (o : Op) → oneOf o (CaseI ∷ []) ≡ eqb (opNumber o) 16
 unfolding some
 is-casei o = agree (λ p. oneOf p (CaseI ∷ [])) (λ p. eqb (opNumber p) 16) tt o
 
@@ -124,96 +122,71 @@ under-text g o (function n ts) e = absurd (let z : _≡_ {A = ℕ} 0 1 = cc in l
 under-text g o (array ts) e = absurd (let z : _≡_ {A = ℕ} 0 1 = cc in let v : ⊥ = omega arith in v)
 under-text g o (interval t u) e = absurd (let z : _≡_ {A = ℕ} 0 1 = cc in let v : ⊥ = omega arith in v)
 
-module _ (g : Settings) (o : Op) (t : Tree) where
-  pub nullable-bare : isNullable o ≡ true → isLiteralOrId t ≡ true → text g (monadic o t) ≡ fill (slot g (word o) (monadicEnds o t)) (48 ∷ 32 ∷ 52 ∷ [])
-  unfolding text monadicText monadicEnds twin fill
-  nullable-bare p q = simp (p, q, append-nil)
+-- what stands before the operand, the operand, and what stands behind it
+pub monadic-parts : (g : Settings) (o : Op) (t : Tree) → text g (monadic o t)
+    ≡ beforeText (opNumber o) (word o) (isLiteralOrId t) ++ (text g (operandOf o t) ++ behindText g (opNumber o) (word o) (isLiteralOrId t) (twin o t))
+unfolding text monadicText operandOf twin beforeText behindText
+monadic-parts g o t =
+    rw (is-nullable o, is-negation o, is-casei o)
+    (go (between 51 (opNumber o) 52) (either (eqb (opNumber o) 7) (eqb (opNumber o) 1)) (eqb (opNumber o) 16) (isMonadic AccentI t) (isMonadic CaseI t) (isLiteralOrId t) (under-text g AccentI t) (under-text g CaseI t))
+  where
+    go : (a b c m n l : Bool) → (m ≡ true → getD (children g t) 0 [] ≡ text g (underOf t)) → (n ≡ true → getD (children g t) 0 [] ≡ text g (underOf t))
+        → pick a (bare l (text g t) ++ (32 ∷ word o)) (pick b (word o ++ (32 ∷ bare l (text g t)))
+        (pick c (pick m (getD (children g t) 0 [] ++ collate (g .cai)) (text g t ++ collate (g .ci))) (pick n (getD (children g t) 0 [] ++ collate (g .cai)) (text g t ++ collate (g .ai)))))
+        ≡ pick a (pick l [] (40 ∷ [])) (pick b (word o ++ pick l (32 ∷ []) (32 ∷ 40 ∷ [])) [])
+        ++ (text g (pick (pick a false (pick b false (pick c m n))) (underOf t) t)
+        ++ pick a (pick l (32 ∷ []) (41 ∷ 32 ∷ []) ++ word o) (pick b (pick l [] (41 ∷ [])) (collate (nameOf g (pick (pick a false (pick b false (pick c m n))) 3 (pick c 1 2))))))
+    go true b c m n true h k = refl
+    go true b c m n false h k = simp append-assoc
+    go false true c m n true h k = simp (append-assoc, append-nil)
+    go false true c m n false h k = simp append-assoc
+    go false false true true n l h k = ap (λ (x : List ℕ). x ++ collate (g .cai)) (h refl)
+    go false false true false n l h k = refl
+    go false false false m true l h k = ap (λ (x : List ℕ). x ++ collate (g .cai)) (k refl)
+    go false false false m false l h k = refl
 
-  pub nullable-open : isNullable o ≡ true → isLiteralOrId t ≡ false → text g (monadic o t) ≡ fill (slot g (word o) (monadicEnds o t)) (40 ∷ 48 ∷ 41 ∷ 32 ∷ 52 ∷ [])
-  unfolding text monadicText monadicEnds twin fill
-  nullable-open p q = simp (p, q, append-nil, append-assoc)
+-- the same, by the tests of the code
+module _ (op : ℕ) (w : List ℕ) (b : Bool) where
+  pub before-nullable : between 51 op 52 ≡ true → pick b [] (40 ∷ []) ≡ beforeText op w b
+  unfolding beforeText
+  before-nullable p = simp p
 
-  pub sign-bare : isNullable o ≡ false → oneOf o (Neg ∷ Minus ∷ []) ≡ true → isLiteralOrId t ≡ true → text g (monadic o t) ≡ fill (slot g (word o) (monadicEnds o t)) (52 ∷ 32 ∷ 48 ∷ [])
-  unfolding text monadicText monadicEnds twin fill
-  sign-bare p n q = simp (p, n, q, append-nil)
+  pub before-sign : between 51 op 52 ≡ false → either (eqb op 7) (eqb op 1) ≡ true → w ++ pick b (32 ∷ []) (32 ∷ 40 ∷ []) ≡ beforeText op w b
+  unfolding beforeText
+  before-sign p q = simp (p, q)
 
-  pub sign-open : isNullable o ≡ false → oneOf o (Neg ∷ Minus ∷ []) ≡ true → isLiteralOrId t ≡ false → text g (monadic o t) ≡ fill (slot g (word o) (monadicEnds o t)) (52 ∷ 32 ∷ 40 ∷ 48 ∷ 41 ∷ [])
-  unfolding text monadicText monadicEnds twin fill
-  sign-open p n q = simp (p, n, q, append-nil, append-assoc)
+  pub before-none : between 51 op 52 ≡ false → either (eqb op 7) (eqb op 1) ≡ false → [] ≡ beforeText op w b
+  unfolding beforeText
+  before-none p q = simp (p, q)
 
-  module _ (p : isNullable o ≡ false) (n : oneOf o (Neg ∷ Minus ∷ []) ≡ false) where
-    pub both-collated : twin o t ≡ true → text g (monadic o t) ≡ fill (slot g (word o) (monadicEnds o t)) (48 ∷ 32 ∷ 67 ∷ 79 ∷ 76 ∷ 76 ∷ 65 ∷ 84 ∷ 69 ∷ 32 ∷ 55 ∷ [])
-    unfolding text monadicText monadicEnds twin fill collate
-    both-collated w = go (oneOf o (CaseI ∷ [])) refl
-      where
-        go : (b : Bool) → oneOf o (CaseI ∷ []) ≡ b → text g (monadic o t) ≡ fill (slot g (word o) (monadicEnds o t)) (48 ∷ 32 ∷ 67 ∷ 79 ∷ 76 ∷ 76 ∷ 65 ∷ 84 ∷ 69 ∷ 32 ∷ 55 ∷ [])
-        go true z =
-            let m : isMonadic AccentI t ≡ true = simp (p, n, z) at w in
-            simp (p, n, z, m, append-nil) (ap (λ (l : List ℕ). l ++ (32 ∷ 67 ∷ 79 ∷ 76 ∷ 76 ∷ 65 ∷ 84 ∷ 69 ∷ 32 ∷ g .cai)) (under-text g AccentI t m))
-        go false z =
-            let m : isMonadic CaseI t ≡ true = simp (p, n, z) at w in
-            simp (p, n, z, m, append-nil) (ap (λ (l : List ℕ). l ++ (32 ∷ 67 ∷ 79 ∷ 76 ∷ 76 ∷ 65 ∷ 84 ∷ 69 ∷ 32 ∷ g .cai)) (under-text g CaseI t m))
+  module _ (g : Settings) (d : Bool) where
+    pub behind-nullable : between 51 op 52 ≡ true → pick b (32 ∷ []) (41 ∷ 32 ∷ []) ++ w ≡ behindText g op w b d
+    unfolding behindText
+    behind-nullable p = simp p
 
-    pub case-collated : twin o t ≡ false → oneOf o (CaseI ∷ []) ≡ true → text g (monadic o t) ≡ fill (slot g (word o) (monadicEnds o t)) (48 ∷ 32 ∷ 67 ∷ 79 ∷ 76 ∷ 76 ∷ 65 ∷ 84 ∷ 69 ∷ 32 ∷ 53 ∷ [])
-    unfolding text monadicText monadicEnds twin fill collate
-    case-collated w z = let m : isMonadic AccentI t ≡ false = simp (p, n, z) at w in simp (p, n, z, m, append-nil)
+    pub behind-sign : between 51 op 52 ≡ false → either (eqb op 7) (eqb op 1) ≡ true → pick b [] (41 ∷ []) ≡ behindText g op w b d
+    unfolding behindText
+    behind-sign p q = simp (p, q)
 
-    pub accent-collated : twin o t ≡ false → oneOf o (CaseI ∷ []) ≡ false → text g (monadic o t) ≡ fill (slot g (word o) (monadicEnds o t)) (48 ∷ 32 ∷ 67 ∷ 79 ∷ 76 ∷ 76 ∷ 65 ∷ 84 ∷ 69 ∷ 32 ∷ 54 ∷ [])
-    unfolding text monadicText monadicEnds twin fill collate
-    accent-collated w z = let m : isMonadic CaseI t ≡ false = simp (p, n, z) at w in simp (p, n, z, m, append-nil)
+    pub behind-collate : between 51 op 52 ≡ false → either (eqb op 7) (eqb op 1) ≡ false → (c : ℕ) → c ≡ collationFlags op d → collate (nameOf g c) ≡ behindText g op w b d
+    unfolding behindText
+    behind-collate p q c e = ap (λ (x : ℕ). collate (nameOf g x)) e ∙ simp (p, q)
 
 -- Dyadic nodes.
 
 never : {A : Type 0} → _≡_ {A = Bool} true false → A
 never e = absurd (let z : _≡_ {A = ℕ} 0 1 = cc in let v : ⊥ = omega arith in v)
 
--- what lies outside of a range lies outside of each part of it
-narrower : (a b n c d : ℕ) → a ≤ b → c ≤ d → between a n d ≡ false → between b n c ≡ false
-narrower a b n c d x y e = go (between b n c) refl
-  where
-    go : (z : Bool) → between b n c ≡ z → z ≡ false
-    go true w = let r = between-true b n c w in never (sym (between-is a n d (let v : a ≤ n = omega (arith, r .0) in v) (let v : n ≤ d = omega (arith, r .1) in v)) ∙ e)
-    go false w = refl
-
--- An operator between its sides is none of the three other sorts.
-module _ (n : ℕ) (e : infixOf 10 n ≡ true) where
-  outside : (between 18 n 40 ≡ false) × (between 47 n 48 ≡ false)
-  unfolding infixOf
-  outside = go (between 18 n 40) (between 47 n 48) refl refl e
-    where
-      go : (a b : Bool) → between 18 n 40 ≡ a → between 47 n 48 ≡ b → pick a false (pick b false true) ≡ true → (between 18 n 40 ≡ false) × (between 47 n 48 ≡ false)
-      go true b x y z = never (sym z)
-      go false true x y z = never (sym z)
-      go false false x y z = (x, y)
-
-  pub infix-between : between 47 n 48 ≡ false
-  infix-between = outside .1
-
-  pub infix-spatial : between 18 n 25 ≡ false
-  infix-spatial = narrower 18 18 n 25 40 (omega arith) (omega arith) (outside .0)
-
-  pub infix-temporal : between 26 n 40 ≡ false
-  infix-temporal = narrower 18 26 n 40 40 (omega arith) (omega arith) (outside .0)
-
--- what is no such operator, no BETWEEN and no spatial one is temporal
-pub left-temporal : (n : ℕ) → infixOf 10 n ≡ false → between 47 n 48 ≡ false → between 18 n 25 ≡ false → between 26 n 40 ≡ true
-unfolding infixOf
-left-temporal n e b s = go (between 18 n 40) (between 47 n 48) refl b e
-  where
-    go : (a c : Bool) → between 18 n 40 ≡ a → c ≡ false → pick a false (pick c false true) ≡ false → between 26 n 40 ≡ true
-    go false false x y z = never z
-    go false true x y z = never y
-    go true c x y z =
-        let r = between-true 18 n 40 x in
-        let h : (n ≤ 25) → ⊥ = λ q. never (sym (between-is 18 n 25 (r .0) q) ∙ s) in
-        between-is 26 n 40 (above h) (r .1)
-      where
-        above : ((n ≤ 25) → ⊥) → 26 ≤ n
-        above f = omega arith
-
--- what lies in a range lies outside of each range above it
+-- what lies in a range lies outside of each range above it, and of each below it
 pub apart : (a n b c d : ℕ) → between a n b ≡ true → b < c → between c n d ≡ false
 apart a n b c d e h = let r = between-true a n b e in simp (lt-leb c n (let v : n < c = omega (arith, r .1) in v))
+
+pub below : (a n b c d : ℕ) → between c n d ≡ true → b < c → between a n b ≡ false
+below a n b c d e h = go (between a n b) refl
+  where
+    go : (z : Bool) → between a n b ≡ z → z ≡ false
+    go true w = let r = between-true a n b w in let q = between-true c n d e in absurd (let v : ⊥ = omega (arith, r .1, q .0) in v)
+    go false w = refl
 
 bound-0 : (g : Settings) (u : Tree) → boundText u (children g u) 0 ≡ text g (first (itemsOf u))
 unfolding children texts itemsOf isItems first second text
@@ -287,36 +260,39 @@ stop-text g (array ts) = refl
 stop-text g (interval t u) = refl
 
 module _ (g : Settings) (o : Op) (t u : Tree) where
-  pub between-fills : isBetween o ≡ true → text g (dyadic o t u) ≡ fill (slot g (word o) (dyadicEnds o t u)) (48 ∷ 32 ∷ 52 ∷ 32 ∷ 49 ∷ 32 ∷ 65 ∷ 78 ∷ 68 ∷ 32 ∷ 50 ∷ [])
-  unfolding text dyadicText dyadicEnds fill
-  between-fills p = simp (p, append-nil, bound-0 g u, bound-1 g u)
+  pub between-parts : isBetween o ≡ true → text g (dyadic o t u) ≡ text g t ++ (infixText true (word o) true ++ (text g (first (itemsOf u)) ++ ((32 ∷ 65 ∷ 78 ∷ 68 ∷ 32 ∷ []) ++ text g (second (itemsOf u)))))
+  unfolding text dyadicText infixText
+  between-parts p = simp (p, append-assoc, bound-0 g u, bound-1 g u)
 
   module _ (p : isBetween o ≡ false) where
-    pub spatial-fills : isSpatial o ≡ true → text g (dyadic o t u) ≡ fill (slot g (word o) (dyadicEnds o t u)) (spatialTemplate (opNumber o) (isId t) (isId u))
-    unfolding text dyadicText dyadicEnds fill spatialTemplate reduces reducePrecision isTemporal
-    spatial-fills q =
-        let z : isTemporal o ≡ false = is-temporal o ∙ apart 18 (opNumber o) 25 26 40 (sym (is-spatial o) ∙ q) (omega arith) in
-        rw (p, q, z, is-reduced o) (go (between 21 (opNumber o) 23) (isId t) (isId u))
+    pub spatial-parts : isSpatial o ≡ true → (a b : Bool) → a ≡ both (between 21 (opNumber o) 23) (both (isId t) (negated (isId u))) → b ≡ both (between 21 (opNumber o) 23) (both (isId u) (negated (isId t)))
+        → text g (dyadic o t u)
+        ≡ word o ++ (pick a (40 ∷ 83 ∷ 84 ∷ 95 ∷ 82 ∷ 101 ∷ 100 ∷ 117 ∷ 99 ∷ 101 ∷ 80 ∷ 114 ∷ 101 ∷ 99 ∷ 105 ∷ 115 ∷ 105 ∷ 111 ∷ 110 ∷ 40 ∷ []) (40 ∷ [])
+        ++ (text g t ++ (pick a (reducedText (g .precision)) []
+        ++ (pick b (44 ∷ 32 ∷ 83 ∷ 84 ∷ 95 ∷ 82 ∷ 101 ∷ 100 ∷ 117 ∷ 99 ∷ 101 ∷ 80 ∷ 114 ∷ 101 ∷ 99 ∷ 105 ∷ 115 ∷ 105 ∷ 111 ∷ 110 ∷ 40 ∷ []) (44 ∷ 32 ∷ [])
+        ++ (text g u ++ (pick b (reducedText (g .precision)) [] ++ (41 ∷ [])))))))
+    unfolding text dyadicText reduces reducePrecision
+    spatial-parts q a b x y = rw (p, q, is-reduced o, ← x, ← y) (go a b)
       where
-        go : (r a b : Bool) → word o ++ (40 ∷ (pick (both r (both a (negated b))) (reducePrecision (g .precision) (text g t)) (text g t) ++ (44 ∷ 32 ∷ (pick (both r (both b (negated a))) (reducePrecision (g .precision) (text g u)) (text g u) ++ (41 ∷ []))))) ≡ fill (slot g (word o) (t ∷ u ∷ null ∷ null ∷ [])) (pick r (pick a (pick b (52 ∷ 40 ∷ 48 ∷ 44 ∷ 32 ∷ 49 ∷ 41 ∷ []) (52 ∷ 40 ∷ 83 ∷ 84 ∷ 95 ∷ 82 ∷ 101 ∷ 100 ∷ 117 ∷ 99 ∷ 101 ∷ 80 ∷ 114 ∷ 101 ∷ 99 ∷ 105 ∷ 115 ∷ 105 ∷ 111 ∷ 110 ∷ 40 ∷ 48 ∷ 44 ∷ 32 ∷ 56 ∷ 41 ∷ 44 ∷ 32 ∷ 49 ∷ 41 ∷ [])) (pick b (52 ∷ 40 ∷ 48 ∷ 44 ∷ 32 ∷ 83 ∷ 84 ∷ 95 ∷ 82 ∷ 101 ∷ 100 ∷ 117 ∷ 99 ∷ 101 ∷ 80 ∷ 114 ∷ 101 ∷ 99 ∷ 105 ∷ 115 ∷ 105 ∷ 111 ∷ 110 ∷ 40 ∷ 49 ∷ 44 ∷ 32 ∷ 56 ∷ 41 ∷ 41 ∷ []) (52 ∷ 40 ∷ 48 ∷ 44 ∷ 32 ∷ 49 ∷ 41 ∷ []))) (52 ∷ 40 ∷ 48 ∷ 44 ∷ 32 ∷ 49 ∷ 41 ∷ []))
-        go true true true = refl
-        go true true false = simp append-assoc
-        go true false true = simp append-assoc
-        go true false false = refl
-        go false true true = refl
-        go false true false = refl
-        go false false true = refl
-        go false false false = refl
+        go : (a b : Bool) → word o ++ (40 ∷ (pick a (reducePrecision (g .precision) (text g t)) (text g t) ++ (44 ∷ 32 ∷ (pick b (reducePrecision (g .precision) (text g u)) (text g u) ++ (41 ∷ [])))))
+            ≡ word o ++ (pick a (40 ∷ 83 ∷ 84 ∷ 95 ∷ 82 ∷ 101 ∷ 100 ∷ 117 ∷ 99 ∷ 101 ∷ 80 ∷ 114 ∷ 101 ∷ 99 ∷ 105 ∷ 115 ∷ 105 ∷ 111 ∷ 110 ∷ 40 ∷ []) (40 ∷ [])
+            ++ (text g t ++ (pick a (reducedText (g .precision)) []
+            ++ (pick b (44 ∷ 32 ∷ 83 ∷ 84 ∷ 95 ∷ 82 ∷ 101 ∷ 100 ∷ 117 ∷ 99 ∷ 101 ∷ 80 ∷ 114 ∷ 101 ∷ 99 ∷ 105 ∷ 115 ∷ 105 ∷ 111 ∷ 110 ∷ 40 ∷ []) (44 ∷ 32 ∷ [])
+            ++ (text g u ++ (pick b (reducedText (g .precision)) [] ++ (41 ∷ [])))))))
+        go true true = simp append-assoc
+        go true false = simp append-assoc
+        go false true = simp append-assoc
+        go false false = refl
 
     module _ (q : isSpatial o ≡ false) where
-      pub temporal-fills : isTemporal o ≡ true → text g (dyadic o t u) ≡ fill (slot g (word o) (dyadicEnds o t u)) (templateOf (translate (opNumber o) (isInterval t) (isInterval u) (columnsOf t u)))
-      unfolding text dyadicText dyadicEnds endsOf
+      pub temporal-fills : isTemporal o ≡ true → text g (dyadic o t u) ≡ fill (slot g (endsOf t u)) (templateOf (translate (opNumber o) (isInterval t) (isInterval u) (columnsOf t u)))
+      unfolding text dyadicText endsOf
       temporal-fills r =
           rw (p, q, r)
           (translate-same _ _ ends-same (opNumber o) (isInterval t) (isInterval u) (columnsOf t u)
-          ∙ sym (translate-fills (slot g (word o) (endsOf t u)) (opNumber o) (isInterval t) (isInterval u) (columnsOf t u)))
+          ∙ sym (translate-fills (slot g (endsOf t u)) (opNumber o) (isInterval t) (isInterval u) (columnsOf t u)))
         where
-          ends-same : (j : ℕ) → j < 4 → getD (startText t (text g t) (children g t) ∷ stopText t (children g t) ∷ startText u (text g u) (children g u) ∷ stopText u (children g u) ∷ []) j [] ≡ slot g (word o) (endsOf t u) j
+          ends-same : (j : ℕ) → j < 4 → getD (startText t (text g t) (children g t) ∷ stopText t (children g t) ∷ startText u (text g u) (children g u) ∷ stopText u (children g u) ∷ []) j [] ≡ slot g (endsOf t u) j
           ends-same zero h = start-text g t
           ends-same (suc zero) h = stop-text g t
           ends-same (suc (suc zero)) h = start-text g u

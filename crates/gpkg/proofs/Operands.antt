@@ -1,31 +1,27 @@
--- Where the operands of a node stand, and what its four ends are.
+-- Where the operands of a node stand, BETWEEN's bounds, and what a temporal node's four ends are.
 use Prim.Native.Nat.{ℕ, _+_, _-_, _≤_, _<_, min}
-use mathlib.Core.Path.{_≡_, refl, ap, sym, _∙_, subst}
-use mathlib.Core.List.{List, [], _∷_, _++_, append-assoc, append-nil}
+use mathlib.Core.Path.{_≡_, refl, ap, sym, _∙_}
+use mathlib.Core.List.{List, [], _∷_, _++_, append-nil}
 use mathlib.Core.Bool.{Bool, true, false}
 use native.Mathlib.Omega.{arith}
-use lib.ListN.{length, getD, take, drop, length-append, length-drop, drop-of-length-le}
+use lib.ListN.{length, getD, drop, length-drop, drop-of-length-le}
 use lib.Seq.{drop-drop, getD-drop}
 use lib.Dec.{eqb}
-use borrow.Author.Tests.{eqb-true}
-use Rattle.choice.specs.Choice.{pick, both, between}
-use Rattle.record.specs.Record.{le, le16, recordOf}
+use borrow.Author.Tests.{eqb-true, eqb-false}
+use Rattle.choice.specs.Choice.{pick, between}
+use Rattle.record.specs.Record.{le16, recordOf}
 use Rattle.op.specs.declared.Op.{Op}
-use Rattle.op.specs.Op.{opNumber, isTemporal}
+use Rattle.op.specs.Op.{opNumber}
 use Rattle.tree.specs.Tree.{Tree, Trees, encode, encodes, null, unbounded, bool, num, str, date, timestamp, spatial, id, monadic, dyadic, function, array, interval, none, _then_}
 use Rattle.tree.specs.Parse.{first, second}
-use Rattle.tree.specs.Placed.{isBetween}
-use Rattle.sql.specs.declared.End as end
-use Rattle.sql.specs.declared.End.the-variants.{Column, Null}
 use Rattle.sql.specs.declared.Operand as operand
-use Rattle.sql.specs.Ends as sqlEnds
 use Rattle.sql.specs.Ends.{unfoldExpressions}
-use Rattle.gpkg.specs.Text.{isId, startOf, stopOf, endsOf}
-use Rattle.gpkg.specs.Plan.{Is, IsOperand, Stands, EndOf, Are, sound, sounds, twin, twinOf, underOf, itemsOf, monadicEnds, dyadicEnds}
-use Rattle.gpkg.proofs.Records.{kindOf, bodyOf, shape, kind-at, beyond, ends-at, size-of, long}
+use Rattle.gpkg.specs.Text.{endsOf}
+use Rattle.gpkg.specs.Plan.{IsOperand, Stands, EndOf, Are, sound, sounds, twin, twinOf, underOf, itemsOf, operandOf, Bound, gone, item}
+use Rattle.gpkg.proofs.Records.{kindOf, bodyOf, beyond, ends-at, size-of}
 use Rattle.gpkg.proofs.Literals.{body-at}
-use Rattle.gpkg.proofs.Ends.{stands-kind, null-is, both-first, both-second}
-use Rattle.gpkg.proofs.Nodes.{is-twin, is-between, is-temporal}
+use Rattle.gpkg.proofs.Ends.{stands-kind, stands-part, both-first, both-second}
+use Rattle.gpkg.proofs.Nodes.{is-twin}
 
 monadic-of : (x : Tree) → kindOf x ≡ 9 → (o : Op) × ((t : Tree) × (x ≡ monadic o t))
 monadic-of null e = absurd (let v : ⊥ = omega arith in v)
@@ -100,7 +96,7 @@ operand-stands s o t e f =
       fit = f;
     }
 
-pub inner-at : (s : List ℕ) (o : Op) (t : Tree) → s ≡ encode (monadic o t) → le16 s 14 ≡ le16 (encode t) 6
+inner-at : (s : List ℕ) (o : Op) (t : Tree) → s ≡ encode (monadic o t) → le16 s 14 ≡ le16 (encode t) 6
 inner-at s o t e =
     let d : drop 8 s ≡ encode t = under-at s 0 o t [] (e ∙ sym (append-nil (encode (monadic o t)))) ∙ append-nil (encode t) in
     let a : getD s 14 0 ≡ getD (encode t) 6 0 = sym (getD-drop 8 s 6 0) ∙ ap (λ (l : List ℕ). getD l 6 0) d in
@@ -124,7 +120,7 @@ module _ (s : List ℕ) (op kind inner : ℕ) (b : Bool) (k : kind ≡ le16 s 12
   kinds : kind ≡ kindOf t
   kinds = k ∙ stands-kind stands
 
-  twins : twin o t ≡ b
+  pub twins : twin o t ≡ b
   twins =
       is-twin o t
       ∙ ap (λ (x : ℕ). twinOf x (kindOf t) (le16 (encode t) 6)) (sym n)
@@ -132,30 +128,31 @@ module _ (s : List ℕ) (op kind inner : ℕ) (b : Bool) (k : kind ≡ le16 s 12
       ∙ ap (λ (x : ℕ). twinOf op kind x) (sym (i ∙ inner-at s o t e))
       ∙ sym w
 
-  pub one-end : b ≡ false → (x : end.End) → ((y : Tree) → Stands s 8 (length s) y → Is s x y) → Are s (x ∷ Null ∷ Null ∷ Null ∷ []) (monadicEnds o t)
-  unfolding monadicEnds
-  one-end q x h = rw (twins ∙ q) (record { is0 = h t stands; is1 = null-is s; is2 = null-is s; is3 = null-is s })
-
-  pub twin-end : b ≡ true → (a : ℕ) → a ≡ min 16 (length s) → (x : end.End) → ((y : Tree) → Stands s a (length s) y → Is s x y) → Are s (x ∷ Null ∷ Null ∷ Null ∷ []) (monadicEnds o t)
-  unfolding monadicEnds underOf sound
-  twin-end q a z x h =
-      let m = monadic-of t (sym kinds ∙ nine (between 51 op 52) (eqb op 7) (eqb op 1) (eqb op 16) (eqb inner 17) (eqb inner 16) kind (sym w ∙ q)) in
-      let u = m .1 .0 in
-      let tu : t ≡ monadic (m .0) u = m .1 .1 in
-      let d : drop 8 s ≡ encode (monadic (m .0) u) ++ stands .rest = stands .there ∙ ap (λ (y : Tree). encode y ++ stands .rest) tu in
-      let l : length s ≡ 8 + length (encode t) = stands .past in
-      let l2 : length (encode t) ≡ 8 + length (encode u) = ap (λ (y : Tree). length (encode y)) tu ∙ size-under (m .0) u in
-      let aa : a ≡ 16 = omega arith in
-      let st : Stands s a (length s) u = record {
-        rest = stands .rest;
-        there = ap (λ (y : ℕ). drop y s) aa ∙ under-at s 8 (m .0) u (stands .rest) d;
-        past = omega arith;
-        starts = omega arith;
-        inside = omega arith;
-        fit = sym (ap sound tu) ∙ f;
-      } in
-      let uu : underOf t ≡ u = ap underOf tu in
-      rw (twins ∙ q, uu) (record { is0 = h u st; is1 = null-is s; is2 = null-is s; is3 = null-is s })
+  -- the operand that is written
+  pub under-stands : (a : ℕ) → a ≡ pick b (min 16 (length s)) 8 → Stands s a (length s) (operandOf o t)
+  unfolding operandOf underOf sound
+  under-stands a z = rw twins (go b refl z)
+    where
+      go : (c : Bool) → b ≡ c → a ≡ pick c (min 16 (length s)) 8 → Stands s a (length s) (pick c (underOf t) t)
+      go false q y = rw y stands
+      go true q y =
+          let m = monadic-of t (sym kinds ∙ nine (between 51 op 52) (eqb op 7) (eqb op 1) (eqb op 16) (eqb inner 17) (eqb inner 16) kind (sym w ∙ q)) in
+          let u = m .1 .0 in
+          let tu : t ≡ monadic (m .0) u = m .1 .1 in
+          let d : drop 8 s ≡ encode (monadic (m .0) u) ++ stands .rest = stands .there ∙ ap (λ (x : Tree). encode x ++ stands .rest) tu in
+          let l : length s ≡ 8 + length (encode t) = stands .past in
+          let l2 : length (encode t) ≡ 8 + length (encode u) = ap (λ (x : Tree). length (encode x)) tu ∙ size-under (m .0) u in
+          let aa : a ≡ 16 = omega arith in
+          let uu : underOf t ≡ u = ap underOf tu in
+          rw uu
+          (record {
+            rest = stands .rest;
+            there = ap (λ (x : ℕ). drop x s) aa ∙ under-at s 8 (m .0) u (stands .rest) d;
+            past = omega arith;
+            starts = omega arith;
+            inside = omega arith;
+            fit = sym (ap sound tu) ∙ f;
+          })
 
 -- BETWEEN's bounds: the items of an array that ends where s does
 
@@ -180,84 +177,64 @@ items-stand {s} {m} {p} {k} {u} h e q l =
       fit = sym (ap sound (w .1)) ∙ h .fit;
     }
 
-record Item (s : List ℕ) (p z : ℕ) (ts : Trees) : Type 0 where
-  pub x : Tree
+-- an empty range
+stays : {s : List ℕ} {p q : ℕ} → EndOf s p q → length s ≤ p → p ≡ q
+stays n h = omega (arith, n .low, n .high)
+
+empty-there : (s : List ℕ) (p : ℕ) → drop p s ≡ [] → p ≤ length s → length s ≤ p
+empty-there s p d h = let l : length s - p ≡ 0 = sym (length-drop p s) ∙ ap length d in omega arith
+
+-- the first of some records that stand to the end of s
+bound-at : {s : List ℕ} {p z : ℕ} (ts : Trees) → drop p s ≡ encodes ts → sounds ts ≡ true → 0 < p → p ≤ length s → EndOf s p z → Bound s p z (first ts)
+unfolding first encodes sounds
+bound-at {s} {p} none d f a b n = gone (stays n (empty-there s p d b))
+bound-at {s} {p} {z} (x then ts) d f a b n =
+    let fit = both-first (sound x) (sounds ts) f in
+    let st : Stands s p z x = record { rest = encodes ts; there = d; past = n .exact x (encodes ts) d; starts = a; inside = b; fit = fit } in
+    item x (stands-part st .1) fit
+
+-- the records behind it
+record Behind (s : List ℕ) (z : ℕ) (ts : Trees) : Type 0 where
   pub rest : Trees
-  pub whole : ts ≡ x then rest
-  pub stands : Stands s p z x
   pub there : drop z s ≡ encodes rest
   pub fit : sounds rest ≡ true
+  pub named : second ts ≡ first rest
 
-item-stands : {s : List ℕ} {p z : ℕ} (ts : Trees) → drop p s ≡ encodes ts → sounds ts ≡ true → 0 < p → p < length s → EndOf s p z → Item s p z ts
+behind : {s : List ℕ} {p z : ℕ} (ts : Trees) → drop p s ≡ encodes ts → sounds ts ≡ true → p ≤ length s → EndOf s p z → Behind s z ts
+unfolding first second encodes sounds
+behind {s} {p} none d f b n = record { rest = none; there = ap (λ (y : ℕ). drop y s) (sym (stays n (empty-there s p d b))) ∙ d; fit = refl; named = refl }
+behind {s} {p} {z} (x then ts) d f b n = record {
+  rest = ts;
+  there = ap (λ (y : ℕ). drop y s) (n .exact x (encodes ts) d) ∙ beyond s p x (encodes ts) d;
+  fit = both-second (sound x) (sounds ts) f;
+  named = refl;
+}
+
+both-bounds : {s : List ℕ} {p q z : ℕ} {u : Tree} → Items s p u → 0 < p → p ≤ length s → EndOf s p q → EndOf s q z → Bound s p q (first (itemsOf u)) × Bound s q z (second (itemsOf u))
+both-bounds {s} {p} {q} {z} i a b n o =
+    let w = behind (i .ts) (i .there) (i .fit) b n in (
+      rw (i .named) (bound-at (i .ts) (i .there) (i .fit) a b n),
+      rw (i .named, w .named) (bound-at (w .rest) (w .there) (w .fit) (let v : 0 < q = omega (arith, n .low) in v) (n .high) o),
+    )
+
+pub bounds : {s : List ℕ} {m p q z : ℕ} {u : Tree} → Stands s m (length s) u → p ≡ pick (eqb (le16 s (m + 4)) 12) (min (m + 6) (length s)) (length s) → EndOf s p q → EndOf s q z
+    → Bound s p q (first (itemsOf u)) × Bound s q z (second (itemsOf u))
 unfolding encodes sounds
-item-stands {s} {p} {z} none d f a b n = absurd (let q : length s - p ≡ 0 = sym (length-drop p s) ∙ ap length d in let v : ⊥ = omega arith in v)
-item-stands {s} {p} {z} (x then ts) d f a b n =
-    let zz : z ≡ p + length (encode x) = n .exact x (encodes ts) d in
-    record {
-      x = x;
-      rest = ts;
-      whole = refl;
-      stands = record { rest = encodes ts; there = d; past = zz; starts = a; inside = omega arith; fit = both-first (sound x) (sounds ts) f };
-      there = ap (λ (y : ℕ). drop y s) zz ∙ beyond s p x (encodes ts) d;
-      fit = both-second (sound x) (sounds ts) f;
-    }
+bounds {s} {m} {p} {q} {z} {u} h e n o = go (eqb (le16 s (m + 4)) 12) refl e
+  where
+    go : (b : Bool) → eqb (le16 s (m + 4)) 12 ≡ b → p ≡ pick b (min (m + 6) (length s)) (length s) → Bound s p q (first (itemsOf u)) × Bound s q z (second (itemsOf u))
+    go true k y = both-bounds (items-stand h refl (eqb-true _ _ k) y) (let v : 0 < p = omega (arith, h .starts, h .inside) in v) (let v : p ≤ length s = omega arith in v) n o
+    go false k y =
+        let l : length s ≤ p = omega arith in
+        both-bounds
+        (record { ts = none; named = no-items u (λ w. eqb-false _ _ k (stands-kind h ∙ w)); there = drop-of-length-le s l; fit = refl })
+        (let v : 0 < p = omega (arith, h .starts, h .inside) in v)
+        (let v : p ≤ length s = omega arith in v)
+        n
+        o
 
-no-item : (s : List ℕ) (p : ℕ) (ts : Trees) → drop p s ≡ encodes ts → length s ≤ p → ts ≡ none
-unfolding encodes
-no-item s p none d h = refl
-no-item s p (x then ts) d h =
-    let a : length (encode x) + length (encodes ts) ≡ 0 = sym (length-append (encode x) (encodes ts)) ∙ ap length (sym d ∙ drop-of-length-le s h) in
-    let b = long x in
-    absurd (let v : ⊥ = omega arith in v)
+-- A temporal node's ends.
 
-module _ {s : List ℕ} {m k : ℕ} {t u : Tree} (h : Stands s m (length s) u) (e : k ≡ le16 s (m + 4)) (l : end.End) (lt : Is s l t) where
-  pub no-bounds : (k ≡ 12 → ⊥) → Are s (l ∷ Null ∷ Null ∷ Null ∷ []) (t ∷ first (itemsOf u) ∷ second (itemsOf u) ∷ null ∷ [])
-  unfolding first second
-  no-bounds q = rw (no-items u (λ z. q (e ∙ stands-kind h ∙ z))) (record { is0 = lt; is1 = null-is s; is2 = null-is s; is3 = null-is s })
-
-  module _ {p : ℕ} (q : k ≡ 12) (pp : p ≡ min (m + 6) (length s)) where
-    all : Items s p u
-    all = items-stand h e q pp
-
-    later : 0 < p
-    later = let en = ends-at s m u (h .rest) (h .there) (h .inside) in let z = size-of u in omega (arith, h .starts, h .inside)
-
-    pub empty-bounds : length s ≤ p → Are s (l ∷ Null ∷ Null ∷ Null ∷ []) (t ∷ first (itemsOf u) ∷ second (itemsOf u) ∷ null ∷ [])
-    unfolding first second
-    empty-bounds z = rw (all .named ∙ no-item s p (all .ts) (all .there) z) (record { is0 = lt; is1 = null-is s; is2 = null-is s; is3 = null-is s })
-
-    module _ {z : ℕ} (b : p < length s) (n : EndOf s p z) (lo : end.End) (low : (x : Tree) → Stands s p z x → Is s lo x) where
-      lower : Item s p z (all .ts)
-      lower = item-stands (all .ts) (all .there) (all .fit) later b n
-
-      pub low-bound : length s ≤ z → Are s (l ∷ lo ∷ Null ∷ Null ∷ []) (t ∷ first (itemsOf u) ∷ second (itemsOf u) ∷ null ∷ [])
-      unfolding first second
-      low-bound c =
-          rw (all .named ∙ lower .whole, no-item s z (lower .rest) (lower .there) c)
-          (record { is0 = lt; is1 = low (lower .x) (lower .stands); is2 = null-is s; is3 = null-is s })
-
-      pub both-bounds : {y : ℕ} → z < length s → EndOf s z y → (hi : end.End) → ((x : Tree) → Stands s z y x → Is s hi x) → Are s (l ∷ lo ∷ hi ∷ Null ∷ []) (t ∷ first (itemsOf u) ∷ second (itemsOf u) ∷ null ∷ [])
-      unfolding first second
-      both-bounds c o hi high =
-          let up = item-stands (lower .rest) (lower .there) (lower .fit) (let v : 0 < z = omega (arith, n .low, later) in v) c o in
-          rw (all .named ∙ lower .whole, up .whole)
-          (record { is0 = lt; is1 = low (lower .x) (lower .stands); is2 = high (up .x) (up .stands); is3 = null-is s })
-
--- A dyadic node's ends.
-
-module _ {s : List ℕ} (op : ℕ) (o : Op) (t u : Tree) (n : op ≡ opNumber o) where
-  pub between-ends : (es : List end.End) → between 47 op 48 ≡ true → Are s es (t ∷ first (itemsOf u) ∷ second (itemsOf u) ∷ null ∷ []) → Are s es (dyadicEnds o t u)
-  unfolding dyadicEnds
-  between-ends es b a = rw (is-between o ∙ ap (λ (x : ℕ). between 47 x 48) (sym n) ∙ b) a
-
-  pub temporal-ends : (a c : operand.Operand) → between 47 op 48 ≡ false → between 26 op 40 ≡ true → IsOperand s a t → IsOperand s c u → Are s (unfoldExpressions a c) (dyadicEnds o t u)
-  unfolding dyadicEnds endsOf unfoldExpressions
-  temporal-ends a c b d x y =
-      rw (is-between o ∙ ap (λ (x : ℕ). between 47 x 48) (sym n) ∙ b, is-temporal o ∙ ap (λ (x : ℕ). between 26 x 40) (sym n) ∙ d)
-      (record { is0 = x .starts; is1 = x .stops; is2 = y .starts; is3 = y .stops })
-
-  pub two-ends : (a c : end.End) → between 47 op 48 ≡ false → between 26 op 40 ≡ false → Is s a t → Is s c u → Are s (a ∷ c ∷ Null ∷ Null ∷ []) (dyadicEnds o t u)
-  unfolding dyadicEnds
-  two-ends a c b d x y =
-      rw (is-between o ∙ ap (λ (x : ℕ). between 47 x 48) (sym n) ∙ b, is-temporal o ∙ ap (λ (x : ℕ). between 26 x 40) (sym n) ∙ d)
-      (record { is0 = x; is1 = y; is2 = null-is s; is3 = null-is s })
+pub temporal-ends : {s : List ℕ} {t u : Tree} (a c : operand.Operand) → IsOperand s a t → IsOperand s c u → Are s (unfoldExpressions a c) (endsOf t u)
+unfolding endsOf unfoldExpressions
+temporal-ends a c x y = record { is0 = x .starts; is1 = x .stops; is2 = y .starts; is3 = y .stops }

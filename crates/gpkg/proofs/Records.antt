@@ -1,8 +1,7 @@
 -- Reading a record's length and kind back, where the bytes from a place on are a tree's record and more.
-use Prim.Native.Nat.{ℕ, zero, suc, _+_, _-_, _*_, _/_, _%_, _≤_, _<_}
-use mathlib.Core.Path.{_≡_, refl, ap, sym, _∙_, subst}
-use mathlib.Core.List.{List, [], _∷_, _++_, append-assoc, append-nil}
-use mathlib.Core.Bool.{Bool, true, false}
+use Prim.Native.Nat.{ℕ, suc, _+_, _-_, _/_, _%_, _≤_, _<_}
+use mathlib.Core.Path.{_≡_, refl, ap, sym, _∙_}
+use mathlib.Core.List.{List, [], _∷_, _++_}
 use native.Mathlib.Omega.{arith}
 use native.Mathlib.Nat.{add-zero, add-sub-cancel-left}
 use lib.ListN.{length, getD, take, drop, length-append, length-drop}
@@ -10,8 +9,8 @@ use lib.Seq.{getD-drop, drop-drop, take-at, drop-at}
 use Rattle.choice.specs.Choice.{pick}
 use Rattle.record.specs.Record.{le, le16, le32, recordOf}
 use Rattle.op.specs.Op.{opNumber}
-use Rattle.tree.specs.Tree.{Tree, Trees, encode, encodes, twos, dateBytes, counted, null, unbounded, bool, num, str, date, timestamp, spatial, id, monadic, dyadic, function, array, interval, none, _then_}
-use Rattle.gpkg.specs.Plan.{Inside, part, EndOf}
+use Rattle.tree.specs.Tree.{Tree, encode, encodes, twos, dateBytes, counted, null, unbounded, bool, num, str, date, timestamp, spatial, id, monadic, dyadic, function, array, interval}
+use Rattle.gpkg.specs.Plan.{part, EndOf}
 
 abbrev pub kindOf : Tree → ℕ
 kindOf null = 0

@@ -1,4 +1,4 @@
--- What the walk needs: a list's text item by item, the pieces of a template as texts, and the node that a record of kind 9 or 10 is.
+-- What the walk needs: a list's text item by item, the pieces of a template as texts, the node that a record of kind 9 or 10 is, and the text of each form step by step.
 use Prim.Native.Nat.{ℕ, zero, suc, _+_, _-_, _*_, _%_, _≤_, _<_, min}
 use mathlib.Core.Path.{_≡_, refl, ap, sym, _∙_, subst}
 use mathlib.Core.List.{List, [], _∷_, _++_, append-assoc, append-nil}
@@ -10,32 +10,34 @@ use native.Mathlib.Nat.{add-sub-cancel-left}
 use native.Mathlib.Numerals.{add-one}
 use Rattle.sql.specs.TemplateLaws.{fill-append, spelt-append, digit-part, end-fills}
 use lib.Dec.{T, eqb, ltb, lt→ltb}
-use borrow.Author.Tests.{ltb-true, ltb-false, eqb-true, lt-ltb, eq-eqb, ne-eqb}
-use Rattle.gpkg.proofs.Nodes.{is-between, is-spatial, is-temporal, infix-between, infix-spatial, infix-temporal, infix-parts}
+use borrow.Author.Tests.{ltb-true, ltb-false, eqb-true, eq-eqb, ne-eqb}
+use Rattle.gpkg.proofs.Nodes.{is-between, is-spatial, is-temporal, apart, infix-parts, monadic-parts, between-parts, spatial-parts}
 use Rattle.choice.specs.Choice.{pick, both, negated, between, all}
-use Rattle.choice.specs.ChoiceLaws.{between-true}
 use Rattle.choice.specs.Table.{both-left, both-right}
-use Rattle.tree.specs.EncodeLaws.{between-is}
-use Rattle.record.specs.Record.{le, le16, recordOf}
+use Rattle.record.specs.Record.{le16, recordOf}
 use Rattle.op.specs.declared.Op.{Op}
 use Rattle.op.specs.Op.{opNumber}
 use Rattle.op.specs.OpLaws.{number-below}
 use Rattle.tree.specs.Tree.{Tree, Trees, Settings, encode, encodes, counted, null, unbounded, bool, num, str, date, timestamp, spatial, id, monadic, dyadic, function, array, interval, none, _then_}
-use Rattle.literal.specs.Literal.{nullText, unboundedText}
+use Rattle.literal.specs.Literal.{nullText}
 use Rattle.sql.specs.Template.{fill, spelt, parts, partOf}
 use Rattle.sql.specs.declared.End as end
 use Rattle.sql.specs.declared.End.the-variants.{Column, Instant, Other, Open, Null}
 use Rattle.gpkg.specs.declared.Flat as flat
 use Rattle.gpkg.specs.declared.Flat.the-variants.{Words, Opened, Nothing}
-use Rattle.gpkg.specs.declared.Piece as piece
 use Rattle.gpkg.specs.declared.Piece.the-variants as pieces
 use Rattle.gpkg.specs.Lays.{Lays, capped}
-use Rattle.gpkg.specs.Text.{text, texts, joined, word}
-use Rattle.gpkg.specs.Plan.{Inside, part, Here, Is, Are, Stands, EndOf, Node, one, two, nodeEnds, nodeOp, sound, sounds, slot, wordText, endPiece, pieceOf, partText, flatText, leafText, infixOf, infixText, leftBare, rightBare}
-use Rattle.gpkg.proofs.Records.{kindOf, bodyOf, shape, beyond, size-of, long, part-at}
-use Rattle.gpkg.proofs.Literals.{kind-whole, body-at}
+use Rattle.gpkg.specs.Text.{text, texts, joined, isId, isLiteralOrId, endsOf}
+use Rattle.op.specs.Spelling.{word}
+use Rattle.gpkg.specs.Plan.{Inside, part, Is, Are, Stands, EndOf, Node, one, two, nodeEnds, Bound, gone, item, sound, sounds, slot, endPiece, pieceOf, partText, flatText, leafText, itemsOf, temporalOf, infixText, reducedText, leftBare, rightBare, twin, twinOf, operandOf, beforeText, behindText}
+use Rattle.gpkg.proofs.Records.{kindOf, beyond, size-of, long, part-at}
+use Rattle.gpkg.proofs.Literals.{kind-whole}
 use Rattle.gpkg.proofs.Ends.{both-first, both-second, stands-part}
 use Rattle.gpkg.proofs.Leaves.{leaf-text}
+use Rattle.gpkg.proofs.Operands.{operand-stands, twins, under-stands, bounds}
+use Rattle.gpkg.proofs.Sorts.{kind-id}
+use Rattle.tree.specs.Parse.{first, second}
+use Rattle.tree.specs.Placed.{isBetween}
 use Rattle.gpkg.proofs.LaysLaws.{lays-of, lays-then, lays-none}
 
 never : {A : Type 0} → _≡_ {A = ℕ} 0 1 → A
@@ -133,65 +135,66 @@ come-next {g} {s} {at} {out₀} {ts} {p} {z} {here} {out} h e c = go (c .us) (c 
 
 -- Pieces of a template.
 
-module _ (g : Settings) (w : List ℕ) {s : List ℕ} {es : List end.End} {xs : List Tree} (a : Are s es xs) where
-  pub end-is : (j : ℕ) → j < 4 → Is s (getD es j (Column 0 0)) (getD xs j null)
+module _ {s : List ℕ} {es : List end.End} {xs : List Tree} (a : Are s es xs) where
+  end-is : (j : ℕ) → j < 4 → Is s (getD es j (Column 0 0)) (getD xs j null)
   end-is zero h = a .is0
   end-is (suc zero) h = a .is1
   end-is (suc (suc zero)) h = a .is2
   end-is (suc (suc (suc zero))) h = a .is3
   end-is (suc (suc (suc (suc j)))) h = absurd (let v : ⊥ = omega arith in v)
 
-plain-end : (g : Settings) (w : List ℕ) {s : List ℕ} (e : end.End) (x : Tree) (f : flat.Flat) → Is s e x → endPiece e ≡ pieces.Plain f → text g x ≡ flatText g w f
+plain-end : (g : Settings) {s : List ℕ} (e : end.End) (x : Tree) (f : flat.Flat) → Is s e x → endPiece e ≡ pieces.Plain f → text g x ≡ flatText f
 unfolding flatText text
-plain-end g w (Column a z) x f i e = never (cc)
-plain-end g w (Instant a z) x f i e = never (cc)
-plain-end g w (Other a z) x f i e = never (cc)
-plain-end g w Open x f i e = let q : f ≡ Opened = cc in ap (text g) (i .here) ∙ ap (flatText g w) (sym q)
-plain-end g w Null x f i e = let q : f ≡ Nothing = cc in ap (text g) (i .here) ∙ ap (flatText g w) (sym q)
+plain-end g (Column a z) x f i e = never (cc)
+plain-end g (Instant a z) x f i e = never (cc)
+plain-end g (Other a z) x f i e = never (cc)
+plain-end g Open x f i e = let q : f ≡ Opened = cc in ap (text g) (i .here) ∙ ap flatText (sym q)
+plain-end g Null x f i e = let q : f ≡ Nothing = cc in ap (text g) (i .here) ∙ ap flatText (sym q)
 
 node-end : {s : List ℕ} (e : end.End) (x : Tree) (p z : ℕ) → Is s e x → endPiece e ≡ pieces.Node p z → Inside s p z × (part s p z ≡ encode x)
-node-end {s} (Column a b) x p z i e = let q : a ≡ p = cc in let r : b ≡ z = cc in rw (← q, ← r) (i .here)
+node-end (Column a b) x p z i e = never (cc)
 node-end {s} (Instant a b) x p z i e = let q : a ≡ p = cc in let r : b ≡ z = cc in rw (← q, ← r) (i .here)
 node-end {s} (Other a b) x p z i e = let q : a ≡ p = cc in let r : b ≡ z = cc in rw (← q, ← r) (i .here)
 node-end Open x p z i e = never (cc)
 node-end Null x p z i e = never (cc)
 
-high : (b : ℕ) → 48 ≤ b → between 48 b 51 ≡ false → ltb (b - 48) 4 ≡ false
-high b h e = go (ltb (b - 48) 4) refl
-  where
-    go : (x : Bool) → ltb (b - 48) 4 ≡ x → x ≡ false
-    go true q = let l = ltb-true (b - 48) 4 q in never (let z = sym (between-is 48 b 51 h (let v : b ≤ 51 = omega arith in v)) ∙ e in cc)
-    go false q = refl
+name-end : {s : List ℕ} (e : end.End) (x : Tree) (p z : ℕ) → Is s e x → endPiece e ≡ pieces.Name p z → (Inside s p z × (part s p z ≡ encode x)) × (isId x ≡ true)
+name-end {s} (Column a b) x p z i e = let q : a ≡ p = cc in let r : b ≡ z = cc in (rw (← q, ← r) (i .here), sym (i .column))
+name-end (Instant a b) x p z i e = never (cc)
+name-end (Other a b) x p z i e = never (cc)
+name-end Open x p z i e = never (cc)
+name-end Null x p z i e = never (cc)
 
--- no digit below 4
+-- a name's text is its record's body
+name-text : (g : Settings) (x : Tree) → isId x ≡ true → text g x ≡ drop 6 (encode x)
+unfolding isId text encode recordOf
+name-text g null e = never (cc)
+name-text g unbounded e = never (cc)
+name-text g (bool b) e = never (cc)
+name-text g (num m s) e = never (cc)
+name-text g (str f s) e = never (cc)
+name-text g (date y m d) e = never (cc)
+name-text g (timestamp y m d h i s) e = never (cc)
+name-text g (spatial n s) e = never (cc)
+name-text g (id n) e = refl
+name-text g (monadic o t) e = never (cc)
+name-text g (dyadic o t u) e = never (cc)
+name-text g (function n ts) e = never (cc)
+name-text g (array ts) e = never (cc)
+name-text g (interval t u) e = never (cc)
+
+-- no digit
 clear : List ℕ → Bool
-clear l = all (λ b. negated (between 48 b 51)) l
+clear l = all (λ b. negated (between 48 b 57)) l
 
-clear-fill : (g : Settings) (w : List ℕ) (xs : List Tree) (l : List ℕ) → clear l ≡ true → fill (slot g w xs) l ≡ fill (wordText g w) l
+clear-fill : (f : ℕ → List ℕ) (l : List ℕ) → clear l ≡ true → fill f l ≡ l
 unfolding clear fill all
-clear-fill g w xs [] e = refl
-clear-fill g w xs (b ∷ l) e = one-byte (between 48 b 57) refl (clear-fill g w xs l rest)
+clear-fill f [] e = refl
+clear-fill f (b ∷ l) e = go (between 48 b 57) e (clear-fill f l)
   where
-    here : between 48 b 51 ≡ false
-    here = go (between 48 b 51) e
-      where
-        go : (x : Bool) → both (negated x) (clear l) ≡ true → x ≡ false
-        go true z = never (cc)
-        go false z = refl
-
-    rest : clear l ≡ true
-    rest = go (between 48 b 51) e
-      where
-        go : (x : Bool) → both (negated x) (clear l) ≡ true → clear l ≡ true
-        go true z = never (cc)
-        go false z = z
-
-    one-byte : (c : Bool) → between 48 b 57 ≡ c → fill (slot g w xs) l ≡ fill (wordText g w) l → pick c (slot g w xs (b - 48)) (b ∷ []) ++ fill (slot g w xs) l ≡ pick c (wordText g w (b - 48)) (b ∷ []) ++ fill (wordText g w) l
-    one-byte false z y = ap (λ (x : List ℕ). b ∷ x) y
-    one-byte true z y =
-        let q : ltb (b - 48) 4 ≡ false = high b (between-true 48 b 57 z .0) here in
-        ap (λ (x : List ℕ). slot g w xs (b - 48) ++ x) y
-        ∙ ap (λ (x : Bool). pick x (text g (getD xs (b - 48) null)) (wordText g w (b - 48)) ++ fill (wordText g w) l) q
+    go : (x : Bool) → both (negated x) (clear l) ≡ true → (clear l ≡ true → fill f l ≡ l) → pick x (f (b - 48)) (b ∷ []) ++ fill f l ≡ b ∷ l
+    go true z h = never (cc)
+    go false z h = ap (λ (x : List ℕ). b ∷ x) (h z)
 
 each-clear : List (List ℕ) → Bool
 each-clear [] = true
@@ -219,29 +222,28 @@ small-mod : (c : ℕ) → c < 4 → c % 4 ≡ c
 small-mod c h = omega arith
 
 -- the text of an end's code
-end-part : (g : Settings) (w : List ℕ) (xs : List Tree) (c : ℕ) → c < 4 → fill (slot g w xs) (partOf c) ≡ text g (getD xs c null)
+end-part : (g : Settings) (xs : List Tree) (c : ℕ) → c < 4 → fill (slot g xs) (partOf c) ≡ text g (getD xs c null)
 unfolding fill
-end-part g w xs c h =
-    ap (fill (slot g w xs)) (digit-part c h)
-    ∙ end-fills (slot g w xs) c [] (lt→ltb c 4 h)
-    ∙ append-nil (slot g w xs c)
-    ∙ ap (λ (b : Bool). pick b (text g (getD xs c null)) (wordText g w c)) (lt-ltb c 4 h)
+end-part g xs c h =
+    ap (fill (slot g xs)) (digit-part c h)
+    ∙ end-fills (slot g xs) c [] (lt→ltb c 4 h)
+    ∙ append-nil (slot g xs c)
 
 -- a code of a template that is written as it is
-pub plain-piece : (g : Settings) (w : List ℕ) {s : List ℕ} {es : List end.End} {xs : List Tree} → Are s es xs → (c : ℕ) (f : flat.Flat) → pieceOf c (getD es (c % 4) (Column 0 0)) ≡ pieces.Plain f → fill (slot g w xs) (partOf c) ≡ flatText g w f
+plain-piece : (g : Settings) {s : List ℕ} {es : List end.End} {xs : List Tree} → Are s es xs → (c : ℕ) (f : flat.Flat) → pieceOf c (getD es (c % 4) (Column 0 0)) ≡ pieces.Plain f → fill (slot g xs) (partOf c) ≡ flatText f
 unfolding pieceOf flatText partText
-plain-piece g w {s} {es} {xs} a c f e = go (ltb c 4) refl e
+plain-piece g {s} {es} {xs} a c f e = go (ltb c 4) refl e
   where
-    go : (b : Bool) → ltb c 4 ≡ b → pick b (endPiece (getD es (c % 4) (Column 0 0))) (pieces.Plain (Words c)) ≡ pieces.Plain f → fill (slot g w xs) (partOf c) ≡ flatText g w f
+    go : (b : Bool) → ltb c 4 ≡ b → pick b (endPiece (getD es (c % 4) (Column 0 0))) (pieces.Plain (Words c)) ≡ pieces.Plain f → fill (slot g xs) (partOf c) ≡ flatText f
     go true q z =
         let h = ltb-true c 4 q in
-        end-part g w xs c h
-        ∙ plain-end g w (getD es c (Column 0 0)) (getD xs c null) f (end-is g w a c h) (ap (λ (j : ℕ). endPiece (getD es j (Column 0 0))) (sym (small-mod c h)) ∙ z)
+        end-part g xs c h
+        ∙ plain-end g (getD es c (Column 0 0)) (getD xs c null) f (end-is a c h) (ap (λ (j : ℕ). endPiece (getD es j (Column 0 0))) (sym (small-mod c h)) ∙ z)
     go false q z =
         let y : f ≡ Words c = cc in
-        clear-fill g w xs (partOf c) (clear-part c (ltb-false c 4 q))
-        ∙ ap (λ (b : Bool). pick b [] (fill (wordText g w) (partOf c))) (sym q)
-        ∙ ap (flatText g w) (sym y)
+        clear-fill (slot g xs) (partOf c) (clear-part c (ltb-false c 4 q))
+        ∙ ap (λ (b : Bool). pick b [] (partOf c)) (sym q)
+        ∙ ap flatText (sym y)
 
 -- a code of a template that stands for a record
 pub record Child (g : Settings) (s : List ℕ) (p z : ℕ) (l : List ℕ) : Type 0 where
@@ -251,20 +253,36 @@ pub record Child (g : Settings) (s : List ℕ) (p z : ℕ) (l : List ℕ) : Type
   pub fit : sound x ≡ true
   pub filled : l ≡ text g x
 
-pub node-piece : (g : Settings) (w : List ℕ) {s : List ℕ} {es : List end.End} {xs : List Tree} → Are s es xs → (c p z : ℕ) → pieceOf c (getD es (c % 4) (Column 0 0)) ≡ pieces.Node p z → Child g s p z (fill (slot g w xs) (partOf c))
+pub node-piece : (g : Settings) {s : List ℕ} {es : List end.End} {xs : List Tree} → Are s es xs → (c p z : ℕ) → pieceOf c (getD es (c % 4) (Column 0 0)) ≡ pieces.Node p z → Child g s p z (fill (slot g xs) (partOf c))
 unfolding pieceOf
-node-piece g w {s} {es} {xs} a c p z e = go (ltb c 4) refl e
+node-piece g {s} {es} {xs} a c p z e = go (ltb c 4) refl e
   where
-    go : (b : Bool) → ltb c 4 ≡ b → pick b (endPiece (getD es (c % 4) (Column 0 0))) (pieces.Plain (Words c)) ≡ pieces.Node p z → Child g s p z (fill (slot g w xs) (partOf c))
+    go : (b : Bool) → ltb c 4 ≡ b → pick b (endPiece (getD es (c % 4) (Column 0 0))) (pieces.Plain (Words c)) ≡ pieces.Node p z → Child g s p z (fill (slot g xs) (partOf c))
     go true q y =
         let h = ltb-true c 4 q in
-        let i = end-is g w a c h in
+        let i = end-is a c h in
         let n = node-end (getD es c (Column 0 0)) (getD xs c null) p z i (ap (λ (j : ℕ). endPiece (getD es j (Column 0 0))) (sym (small-mod c h)) ∙ y) in
-        record { x = getD xs c null; inside = n .0; bytes = n .1; fit = i .fit; filled = end-part g w xs c h }
+        record { x = getD xs c null; inside = n .0; bytes = n .1; fit = i .fit; filled = end-part g xs c h }
+    go false q y = never (cc)
+
+-- a code of a template that stands for a name
+pub record Word (s : List ℕ) (p z : ℕ) (l : List ℕ) : Type 0 where
+  pub inside : Inside s p z
+  pub filled : l ≡ drop 6 (part s p z)
+
+pub name-piece : (g : Settings) {s : List ℕ} {es : List end.End} {xs : List Tree} → Are s es xs → (c p z : ℕ) → pieceOf c (getD es (c % 4) (Column 0 0)) ≡ pieces.Name p z → Word s p z (fill (slot g xs) (partOf c))
+unfolding pieceOf
+name-piece g {s} {es} {xs} a c p z e = go (ltb c 4) refl e
+  where
+    go : (b : Bool) → ltb c 4 ≡ b → pick b (endPiece (getD es (c % 4) (Column 0 0))) (pieces.Plain (Words c)) ≡ pieces.Name p z → Word s p z (fill (slot g xs) (partOf c))
+    go true q y =
+        let h = ltb-true c 4 q in
+        let n = name-end (getD es c (Column 0 0)) (getD xs c null) p z (end-is a c h) (ap (λ (j : ℕ). endPiece (getD es j (Column 0 0))) (sym (small-mod c h)) ∙ y) in
+        record { inside = n .0 .0; filled = end-part g xs c h ∙ name-text g (getD xs c null) (n .1) ∙ ap (drop 6) (sym (n .0 .1)) }
     go false q y = never (cc)
 
 -- one code more of a template
-pub fill-next : (f : ℕ → List ℕ) (codes : List ℕ) (n k : ℕ) → k < n → k < length codes → fill f (spelt (take (k + 1) (take n codes))) ≡ fill f (spelt (take k (take n codes))) ++ fill f (partOf (getD codes k 0))
+fill-next : (f : ℕ → List ℕ) (codes : List ℕ) (n k : ℕ) → k < n → k < length codes → fill f (spelt (take (k + 1) (take n codes))) ≡ fill f (spelt (take k (take n codes))) ++ fill f (partOf (getD codes k 0))
 unfolding spelt
 fill-next f codes n k h l =
     let a : take (k + 1) (take n codes) ≡ take (k + 1) codes = take-take (k + 1) n codes (omega arith) in
@@ -434,17 +452,15 @@ fourteen s (function y ts) k e q a b = absurd (let w = kind-whole s (function y 
 fourteen s (array ts) k e q a b = absurd (let w = kind-whole s (array ts) e in let v : ⊥ = omega arith in v)
 fourteen s (interval x y) k e q a b = absurd (let w = kind-whole s (interval x y) e in let v : ⊥ = omega arith in v)
 
-pub node-number : {s : List ℕ} {kind op m : ℕ} {t : Tree} → Node s kind op m t → op ≡ opNumber (nodeOp t)
-unfolding nodeOp
-node-number (one o x a n e f) = n
-node-number (two o x y a n p q) = n
+module _ (g : Settings) {s : List ℕ} {es : List end.End} {xs : List Tree} (a : Are s es xs) (codes : List ℕ) (n k : ℕ) (h : k < n) (l : k < length codes) {at here r : ℕ} {l₀ out m : List ℕ} (laid : Lays at (fill (slot g xs) (spelt (take k (take n codes)))) l₀ out here) where
+  pub plain-step : (f : flat.Flat) → pieceOf (getD codes k 0) (getD es (getD codes k 0 % 4) (Column 0 0)) ≡ pieces.Plain f → Lays here (flatText f) out m r → Lays at (fill (slot g xs) (spelt (take (k + 1) (take n codes)))) l₀ m r
+  plain-step f e x = lays-of (sym (fill-next (slot g xs) codes n k h l ∙ ap (λ (y : List ℕ). fill (slot g xs) (spelt (take k (take n codes))) ++ y) (plain-piece g a (getD codes k 0) f e))) (lays-then laid x)
 
-module _ (g : Settings) (w : List ℕ) {s : List ℕ} {es : List end.End} {xs : List Tree} (a : Are s es xs) (codes : List ℕ) (n k : ℕ) (h : k < n) (l : k < length codes) {at here r : ℕ} {l₀ out m : List ℕ} (laid : Lays at (fill (slot g w xs) (spelt (take k (take n codes)))) l₀ out here) where
-  pub plain-step : (f : flat.Flat) → pieceOf (getD codes k 0) (getD es (getD codes k 0 % 4) (Column 0 0)) ≡ pieces.Plain f → Lays here (flatText g w f) out m r → Lays at (fill (slot g w xs) (spelt (take (k + 1) (take n codes)))) l₀ m r
-  plain-step f e x = lays-of (sym (fill-next (slot g w xs) codes n k h l ∙ ap (λ (y : List ℕ). fill (slot g w xs) (spelt (take k (take n codes))) ++ y) (plain-piece g w a (getD codes k 0) f e))) (lays-then laid x)
+  pub node-step : (p z : ℕ) (e : pieceOf (getD codes k 0) (getD es (getD codes k 0 % 4) (Column 0 0)) ≡ pieces.Node p z) → Lays here (text g (node-piece g a (getD codes k 0) p z e .x)) out m r → Lays at (fill (slot g xs) (spelt (take (k + 1) (take n codes)))) l₀ m r
+  node-step p z e x = lays-of (sym (fill-next (slot g xs) codes n k h l ∙ ap (λ (y : List ℕ). fill (slot g xs) (spelt (take k (take n codes))) ++ y) (node-piece g a (getD codes k 0) p z e .filled))) (lays-then laid x)
 
-  pub node-step : (p z : ℕ) (e : pieceOf (getD codes k 0) (getD es (getD codes k 0 % 4) (Column 0 0)) ≡ pieces.Node p z) → Lays here (text g (node-piece g w a (getD codes k 0) p z e .x)) out m r → Lays at (fill (slot g w xs) (spelt (take (k + 1) (take n codes)))) l₀ m r
-  node-step p z e x = lays-of (sym (fill-next (slot g w xs) codes n k h l ∙ ap (λ (y : List ℕ). fill (slot g w xs) (spelt (take k (take n codes))) ++ y) (node-piece g w a (getD codes k 0) p z e .filled))) (lays-then laid x)
+  pub name-step : (p z : ℕ) (e : pieceOf (getD codes k 0) (getD es (getD codes k 0 % 4) (Column 0 0)) ≡ pieces.Name p z) → Lays here (drop 6 (part s p z)) out m r → Lays at (fill (slot g xs) (spelt (take (k + 1) (take n codes)))) l₀ m r
+  name-step p z e x = lays-of (sym (fill-next (slot g xs) codes n k h l ∙ ap (λ (y : List ℕ). fill (slot g xs) (spelt (take k (take n codes))) ++ y) (name-piece g a (getD codes k 0) p z e .filled))) (lays-then laid x)
 
 pub all-filled : (f : ℕ → List ℕ) (codes : List ℕ) (n k : ℕ) → n ≤ k → fill f (spelt (take k (take n codes))) ≡ fill f (spelt (take n codes))
 all-filled f codes n k h = ap (λ (x : List ℕ). fill f (spelt x)) (take-all k (take n codes) (rw length-take (omega arith)))
@@ -453,29 +469,39 @@ all-filled f codes n k h = ap (λ (x : List ℕ). fill f (spelt x)) (take-all k 
 rest-length : (s : List ℕ) (to : ℕ) → to ≤ length s → length (take (length s - to) (drop to s)) ≡ length s - to
 rest-length s to h = ap length (take-all (length s - to) (drop to s) (rw length-drop (omega arith))) ∙ length-drop to s
 
-pub items-fall : (s : List ℕ) (to t : ℕ) → 6 ≤ to → to ≤ length s → 2 * length s + 2 ≡ t → 2 * length (take (length s - to) (drop to s)) + 3 < t
+pub items-fall : (s : List ℕ) (to t : ℕ) → 6 ≤ to → to ≤ length s → 5 * length s + 4 ≡ t → 5 * length (take (length s - to) (drop to s)) + 5 < t
 items-fall s to t a b e = let r = rest-length s to b in omega arith
 
 pub items-short : (s : List ℕ) (to : ℕ) → to ≤ length s → length s ≤ 32768 → length (take (length s - to) (drop to s)) ≤ 32768
 items-short s to b h = let r = rest-length s to b in omega arith
 
--- An operator between its sides.
+-- Kinds and operators of a node with operands.
 
-infix-kind : (kind op : ℕ) → infixOf kind op ≡ true → kind ≡ 10
-unfolding infixOf
-infix-kind kind op e = go (eqb kind 10) refl e
+pub two-node : {s : List ℕ} {kind op m : ℕ} {t : Tree} → (kind ≡ 9 → ⊥) → Node s kind op m t → (kind ≡ 10) × Node s 10 op m t
+two-node h (one o x k n e f) = absurd (h k)
+two-node h (two o x y k n p q) = (k, two o x y refl n p q)
+
+pub temporal-node : {s : List ℕ} {kind op m : ℕ} {t : Tree} → temporalOf kind op ≡ true → Node s kind op m t → Node s 10 op m t × (between 26 op 40 ≡ true)
+unfolding temporalOf
+temporal-node {s} {kind} {op} {m} {t} e n = go (eqb kind 10) refl e
   where
-    go : (b : Bool) → eqb kind 10 ≡ b → pick b (pick (between 18 op 40) false (pick (between 47 op 48) false true)) false ≡ true → kind ≡ 10
-    go true q z = eqb-true kind 10 q
+    go : (b : Bool) → eqb kind 10 ≡ b → pick b (between 26 op 40) false ≡ true → Node s 10 op m t × (between 26 op 40 ≡ true)
+    go true q z = (subst (λ (j : ℕ). Node s j op m t) (eqb-true kind 10 q) n, z)
     go false q z = never (cc)
 
-pub infix-node : {s : List ℕ} {kind op m : ℕ} {t : Tree} → infixOf kind op ≡ true → Node s kind op m t → Node s 10 op m t × (infixOf 10 op ≡ true)
-infix-node {s} {kind} {op} {m} {t} i n =
-    let k = infix-kind kind op i in
-    (subst (λ (j : ℕ). Node s j op m t) k n, ap (λ (j : ℕ). infixOf j op) (sym k) ∙ i)
+pub node-ends : {s : List ℕ} {op m : ℕ} {t : Tree} → Node s 10 op m t → (es : List end.End) → ((x y : Tree) → Stands s 8 m x → Stands s m (length s) y → Are s es (endsOf x y)) → Are s es (nodeEnds t)
+unfolding nodeEnds
+node-ends (one o x k n e f) es h = absurd (let v : ⊥ = omega (arith, k) in v)
+node-ends (two o x y k n p q) es h = h x y p q
+
+pub not-temporal : (kind op : ℕ) → kind ≡ 10 → temporalOf kind op ≡ false → between 26 op 40 ≡ false
+unfolding temporalOf
+not-temporal kind op k e = simp (eq-eqb kind 10 k) at e
+
+-- An operator between its sides.
 
 -- the five steps of its text
-pub infix-step : {s : List ℕ} {op m : ℕ} {t : Tree} (g : Settings) → Node s 10 op m t → infixOf 10 op ≡ true → {a b : Bool}
+pub infix-step : {s : List ℕ} {op m : ℕ} {t : Tree} (g : Settings) → Node s 10 op m t → between 26 op 40 ≡ false → between 18 op 25 ≡ false → between 47 op 48 ≡ false → {a b : Bool}
     → ((x : Tree) → part s 8 m ≡ encode x → a ≡ leftBare op x) → ((y : Tree) → part s m (length s) ≡ encode y → b ≡ rightBare op y)
     → {at i j k n r : ℕ} {l₀ l₁ l₂ l₃ l₄ l₅ : List ℕ}
     → Lays at (pick a [] (40 ∷ [])) l₀ l₁ i
@@ -483,19 +509,111 @@ pub infix-step : {s : List ℕ} {op m : ℕ} {t : Tree} (g : Settings) → Node 
     → ((o : Op) → op ≡ opNumber o → Lays j (infixText a (word o) b) l₂ l₃ k)
     → ((y : Tree) → part s m (length s) ≡ encode y → sound y ≡ true → Lays k (text g y) l₃ l₄ n)
     → Lays n (pick b [] (41 ∷ [])) l₄ l₅ r → Lays at (text g t) l₀ l₅ r
-infix-step g (one o x k n e f) inf ha hb l1 l2 l3 l4 l5 = absurd (let v : ⊥ = omega (arith, k) in v)
-infix-step {s} {op} {m} g (two o x y k n p q) inf {a} {b} ha hb l1 l2 l3 l4 l5 =
+infix-step g (one o x k n e f) ht hs hw ha hb l1 l2 l3 l4 l5 = absurd (let v : ⊥ = omega (arith, k) in v)
+infix-step {s} {op} {m} g (two o x y k n p q) ht hs hw {a} {b} ha hb l1 l2 l3 l4 l5 =
     let ex = stands-part p .1 in
     let ey = stands-part q .1 in
     let av : a ≡ leftBare (opNumber o) x = ha x ex ∙ ap (λ (j : ℕ). leftBare j x) n in
     let bv : b ≡ rightBare (opNumber o) y = hb y ey ∙ ap (λ (j : ℕ). rightBare j y) n in
     let w : text g (dyadic o x y) ≡ _ =
     infix-parts g o x y
-    (is-between o ∙ ap (λ (j : ℕ). between 47 j 48) (sym n) ∙ infix-between op inf)
-    (is-spatial o ∙ ap (λ (j : ℕ). between 18 j 25) (sym n) ∙ infix-spatial op inf)
-    (is-temporal o ∙ ap (λ (j : ℕ). between 26 j 40) (sym n) ∙ infix-temporal op inf) in
+    (is-between o ∙ ap (λ (j : ℕ). between 47 j 48) (sym n) ∙ hw)
+    (is-spatial o ∙ ap (λ (j : ℕ). between 18 j 25) (sym n) ∙ hs)
+    (is-temporal o ∙ ap (λ (j : ℕ). between 26 j 40) (sym n) ∙ ht) in
     let z : pick a [] (40 ∷ []) ++ (text g x ++ (infixText a (word o) b ++ (text g y ++ pick b [] (41 ∷ [])))) ≡ text g (dyadic o x y) =
     ap (λ (c : Bool). pick c [] (40 ∷ []) ++ (text g x ++ (infixText c (word o) b ++ (text g y ++ pick b [] (41 ∷ []))))) av
     ∙ ap (λ (c : Bool). pick (leftBare (opNumber o) x) [] (40 ∷ []) ++ (text g x ++ (infixText (leftBare (opNumber o) x) (word o) c ++ (text g y ++ pick c [] (41 ∷ []))))) bv
     ∙ sym w in
     lays-of z (lays-then l1 (lays-then (l2 x ex (p .fit)) (lays-then (l3 o n) (lays-then (l4 y ey (q .fit)) l5))))
+
+-- An operand between two texts.
+
+pub monadic-node : {s : List ℕ} {kind op m : ℕ} {t : Tree} → kind ≡ 9 → Node s kind op m t → Node s 9 op m t
+monadic-node {s} {kind} {op} {m} {t} k n = subst (λ (j : ℕ). Node s j op m t) k n
+
+pub from-bounds : (d : Bool) (n from : ℕ) → 14 ≤ n → from ≡ pick d (min 16 n) 8 → (8 ≤ from) × (from ≤ n)
+from-bounds true n from h e = (omega arith, omega arith)
+from-bounds false n from h e = (omega arith, omega arith)
+
+pub monadic-step : {s : List ℕ} {op m : ℕ} {t : Tree} (g : Settings) → Node s 9 op m t → {bare d : Bool} {below inner from : ℕ}
+    → ((x : Tree) → part s 8 (length s) ≡ encode x → bare ≡ isLiteralOrId x) → below ≡ le16 s 12 → inner ≡ le16 s 14 → d ≡ twinOf op below inner → from ≡ pick d (min 16 (length s)) 8
+    → {at i j r : ℕ} {l₀ l₁ l₂ l₃ : List ℕ}
+    → ((o : Op) → op ≡ opNumber o → Lays at (beforeText op (word o) bare) l₀ l₁ i)
+    → ((x : Tree) → part s from (length s) ≡ encode x → sound x ≡ true → Lays i (text g x) l₁ l₂ j)
+    → ((o : Op) → op ≡ opNumber o → Lays j (behindText g op (word o) bare d) l₂ l₃ r)
+    → Lays at (text g t) l₀ l₃ r
+monadic-step g (two o x y k n p q) hb b i w f l1 l2 l3 = absurd (let v : ⊥ = omega (arith, k) in v)
+monadic-step {s} {op} g (one o x k n e f) {bare} {d} hb b i w z l1 l2 l3 =
+    let st = under-stands s op _ _ d b i w o x e f n _ z in
+    let v : bare ≡ isLiteralOrId x = hb x (stands-part (operand-stands s o x e f) .1) in
+    let u : twin o x ≡ d = twins s op _ _ d b i w o x e f n in
+    let y : beforeText op (word o) bare ++ (text g (operandOf o x) ++ behindText g op (word o) bare d) ≡ text g (monadic o x) =
+    ap (λ (c : Bool). beforeText op (word o) c ++ (text g (operandOf o x) ++ behindText g op (word o) c d)) v
+    ∙ ap (λ (j : ℕ). beforeText j (word o) (isLiteralOrId x) ++ (text g (operandOf o x) ++ behindText g j (word o) (isLiteralOrId x) d)) n
+    ∙ ap (λ (c : Bool). beforeText (opNumber o) (word o) (isLiteralOrId x) ++ (text g (operandOf o x) ++ behindText g (opNumber o) (word o) (isLiteralOrId x) c)) (sym u)
+    ∙ sym (monadic-parts g o x) in
+    lays-of y (lays-then (l1 o n) (lays-then (l2 (operandOf o x) (stands-part st .1) (st .fit)) (l3 o n)))
+
+-- BETWEEN.
+
+pub bounds-range : (b : Bool) (m n p : ℕ) → 8 ≤ m → m ≤ n → p ≡ pick b (min (m + 6) n) n → (8 ≤ p) × (p ≤ n)
+bounds-range true m n p g h e = (omega arith, omega arith)
+bounds-range false m n p g h e = (omega arith, omega arith)
+
+pub bound-null : {s : List ℕ} {a z : ℕ} (g : Settings) {x : Tree} → a ≡ z → Bound s a z x → nullText ≡ text g x
+unfolding text
+bound-null g e (gone q) = refl
+bound-null {s} {a} {z} g e (item x b f) =
+    let l : length (part s a z) ≡ length (encode x) = ap length b in
+    let m : length (part s a z) ≤ z - a = rw length-take (omega arith) in
+    let k = long x in
+    absurd (let v : ⊥ = omega arith in v)
+
+pub bound-item : {s : List ℕ} {a z : ℕ} {x : Tree} → (a ≡ z → ⊥) → Bound s a z x → (part s a z ≡ encode x) × (sound x ≡ true)
+bound-item h (gone q) = absurd (h q)
+bound-item h (item x b f) = (b, f)
+
+pub between-step : {s : List ℕ} {op m : ℕ} {t : Tree} (g : Settings) → Node s 10 op m t → between 47 op 48 ≡ true → {p q z : ℕ}
+    → p ≡ pick (eqb (le16 s (m + 4)) 12) (min (m + 6) (length s)) (length s) → EndOf s p q → EndOf s q z
+    → {at i j k n r : ℕ} {l₀ l₁ l₂ l₃ l₄ l₅ : List ℕ}
+    → ((x : Tree) → part s 8 m ≡ encode x → sound x ≡ true → Lays at (text g x) l₀ l₁ i)
+    → ((o : Op) → op ≡ opNumber o → Lays i (infixText true (word o) true) l₁ l₂ j)
+    → ((x : Tree) → Bound s p q x → Lays j (text g x) l₂ l₃ k)
+    → Lays k (32 ∷ 65 ∷ 78 ∷ 68 ∷ 32 ∷ []) l₃ l₄ n
+    → ((x : Tree) → Bound s q z x → Lays n (text g x) l₄ l₅ r)
+    → Lays at (text g t) l₀ l₅ r
+between-step g (one o x k n e f) h ep eq ez l1 l2 l3 l4 l5 = absurd (let v : ⊥ = omega (arith, k) in v)
+between-step {s} {op} {m} g (two o x y k n p q) h ep eq ez l1 l2 l3 l4 l5 =
+    let b = bounds q ep eq ez in
+    lays-of (sym (between-parts g o x y (is-between o ∙ ap (λ (j : ℕ). between 47 j 48) (sym n) ∙ h)))
+    (lays-then (l1 x (stands-part p .1) (p .fit)) (lays-then (l2 o n) (lays-then (l3 (first (itemsOf y)) (b .0)) (lays-then l4 (l5 (second (itemsOf y)) (b .1))))))
+
+-- A call.
+
+pub spatial-step : {s : List ℕ} {op m : ℕ} {t : Tree} (g : Settings) → Node s 10 op m t → between 18 op 25 ≡ true → {x y a b : Bool}
+    → x ≡ eqb (le16 (part s 8 m) 4) 8 → y ≡ eqb (le16 (part s m (length s)) 4) 8
+    → a ≡ both (between 21 op 23) (both x (negated y)) → b ≡ both (between 21 op 23) (both y (negated x))
+    → {at i j k n o u v r : ℕ} {l₀ l₁ l₂ l₃ l₄ l₅ l₆ l₇ l₈ : List ℕ}
+    → ((c : Op) → op ≡ opNumber c → Lays at (word c) l₀ l₁ i)
+    → Lays i (pick a (40 ∷ 83 ∷ 84 ∷ 95 ∷ 82 ∷ 101 ∷ 100 ∷ 117 ∷ 99 ∷ 101 ∷ 80 ∷ 114 ∷ 101 ∷ 99 ∷ 105 ∷ 115 ∷ 105 ∷ 111 ∷ 110 ∷ 40 ∷ []) (40 ∷ [])) l₁ l₂ j
+    → ((w : Tree) → part s 8 m ≡ encode w → sound w ≡ true → Lays j (text g w) l₂ l₃ k)
+    → Lays k (pick a (reducedText (g .precision)) []) l₃ l₄ n
+    → Lays n (pick b (44 ∷ 32 ∷ 83 ∷ 84 ∷ 95 ∷ 82 ∷ 101 ∷ 100 ∷ 117 ∷ 99 ∷ 101 ∷ 80 ∷ 114 ∷ 101 ∷ 99 ∷ 105 ∷ 115 ∷ 105 ∷ 111 ∷ 110 ∷ 40 ∷ []) (44 ∷ 32 ∷ [])) l₄ l₅ o
+    → ((w : Tree) → part s m (length s) ≡ encode w → sound w ≡ true → Lays o (text g w) l₅ l₆ u)
+    → Lays u (pick b (reducedText (g .precision)) []) l₆ l₇ v
+    → Lays v (41 ∷ []) l₇ l₈ r
+    → Lays at (text g t) l₀ l₈ r
+spatial-step g (one c x k n e f) h ex ey ea eb l1 l2 l3 l4 l5 l6 l7 l8 = absurd (let v : ⊥ = omega (arith, k) in v)
+spatial-step {s} {op} {m} g (two c t u k n p q) h {x} {y} {a} {b} ex ey ea eb l1 l2 l3 l4 l5 l6 l7 l8 =
+    let et = stands-part p .1 in
+    let eu = stands-part q .1 in
+    let d : between 18 (opNumber c) 25 ≡ true = ap (λ (j : ℕ). between 18 j 25) (sym n) ∙ h in
+    let w : isBetween c ≡ false = is-between c ∙ apart 18 (opNumber c) 25 47 48 d (omega arith) in
+    let xt : x ≡ isId t = ex ∙ kind-id _ t et in
+    let yu : y ≡ isId u = ey ∙ kind-id _ u eu in
+    let av : a ≡ both (between 21 (opNumber c) 23) (both (isId t) (negated (isId u))) =
+    ea ∙ ap (λ (j : ℕ). both (between 21 j 23) (both x (negated y))) n ∙ ap (λ (z : Bool). both (between 21 (opNumber c) 23) (both z (negated y))) xt ∙ ap (λ (z : Bool). both (between 21 (opNumber c) 23) (both (isId t) (negated z))) yu in
+    let bv : b ≡ both (between 21 (opNumber c) 23) (both (isId u) (negated (isId t))) =
+    eb ∙ ap (λ (j : ℕ). both (between 21 j 23) (both y (negated x))) n ∙ ap (λ (z : Bool). both (between 21 (opNumber c) 23) (both z (negated x))) yu ∙ ap (λ (z : Bool). both (between 21 (opNumber c) 23) (both (isId u) (negated z))) xt in
+    lays-of (sym (spatial-parts g c t u w (is-spatial c ∙ d) a b av bv))
+    (lays-then (l1 c n) (lays-then l2 (lays-then (l3 t et (p .fit)) (lays-then l4 (lays-then l5 (lays-then (l6 u eu (q .fit)) (lays-then l7 l8)))))))

@@ -1,4 +1,4 @@
--- How the walk sees a node: an operator between its sides, or a template of codes, of which 0 to 3 stand for operands or ends, 4 for the operator, 5 to 7 for the collations, 8 for the precision.
+-- How the walk sees a node: an operand between two texts, an operator between its sides, a call, or a template of codes, of which 0 to 3 stand for ends.
 use Prim.Native.Nat.{ℕ, _+_, _-_, _≤_, _<_}
 use mathlib.Core.Path.{_≡_}
 use mathlib.Core.List.{List, [], _∷_, _++_}
@@ -11,20 +11,19 @@ use Rattle.tree.specs.Limits.{mantissaLimit}
 use Rattle.choice.specs.Choice.{pick, both, either, between}
 use Rattle.op.specs.declared.Op.{Op}
 use Rattle.op.specs.declared.Op.the-variants.{Minus, Neg, CaseI, AccentI}
-use Rattle.op.specs.Op.{oneOf, isTemporal, isNullable, opNumber}
+use Rattle.op.specs.Op.{oneOf, isNullable, opNumber}
 use Rattle.tree.specs.Tree.{Tree, Trees, Settings, encode, null, unbounded, bool, num, str, date, timestamp, spatial, id, monadic, dyadic, function, array, interval, none, _then_}
-use Rattle.tree.specs.Parse.{first, second, nameAt, mantissa}
+use Rattle.tree.specs.Parse.{nameAt, mantissa}
 use Rattle.tree.specs.Accepted.{ciAt, aiAt, caiAt}
-use Rattle.tree.specs.Placed.{isBetween, isInterval}
+use Rattle.tree.specs.Placed.{isInterval}
 use Rattle.literal.specs.Literal.{nullText, boolText, unboundedText, numText, strText, dateText, timestampText, spatialText, decimal, collate}
 use Rattle.sql.specs.Ends.{isColumn}
 use Rattle.sql.specs.Ends as sqlEnds
 use Rattle.sql.specs.declared.Operand as operand
-use Rattle.sql.specs.Template.{fill, held, partOf}
+use Rattle.sql.specs.Template.{partOf}
 use Rattle.sql.specs.declared.End as end
 use Rattle.sql.specs.declared.End.the-variants.{Column, Instant, Other, Open, Null}
-use Rattle.sql.specs.declared.Template as template
-use Rattle.gpkg.specs.Text.{isId, isLiteralOrId, isMonadic, startOf, stopOf, endsOf, word, text}
+use Rattle.gpkg.specs.Text.{isId, isLiteralOrId, isMonadic, startOf, stopOf, endsOf, text}
 use Rattle.gpkg.specs.declared.Flat as flat
 use Rattle.gpkg.specs.declared.Flat.the-variants.{Words, Opened, Nothing}
 use Rattle.gpkg.specs.declared.Piece as piece
@@ -130,39 +129,24 @@ itemsOf (function n ts) = none
 itemsOf (array ts) = ts
 itemsOf (interval t u) = none
 
--- what the digits 0 to 3 stand for
-unfoldable pub monadicEnds : Op → Tree → List Tree
-monadicEnds o t = pick (twin o t) (underOf t) t ∷ null ∷ null ∷ null ∷ []
-
-unfoldable pub dyadicEnds : Op → Tree → Tree → List Tree
-dyadicEnds o t u =
-    pick (isBetween o) (t ∷ first (itemsOf u) ∷ second (itemsOf u) ∷ null ∷ [])
-    (pick (isTemporal o) (endsOf t u) (t ∷ u ∷ null ∷ null ∷ []))
+-- what is written of a monadic node's operand: its own, or under a twin the twin's
+unfoldable pub operandOf : Op → Tree → Tree
+operandOf o t = pick (twin o t) (underOf t) t
 
 -- 1E-p
 abbrev pub precise : ℕ → List ℕ
 precise p = 49 ∷ 69 ∷ 45 ∷ decimal p
 
--- the name of a collation by its code, and a Str's collation by its flags
+-- a collation by a Str's flags: its name, and how it is asked for
 abbrev pub nameOf : Settings → ℕ → List ℕ
-nameOf g j = pick (eqb j 5) (g .ci) (pick (eqb j 6) (g .ai) (g .cai))
-
-abbrev pub flagsCode : ℕ → ℕ
-flagsCode flags = pick (eqb flags 1) 5 (pick (eqb flags 2) 6 7)
+nameOf g flags = pick (eqb flags 1) (g .ci) (pick (eqb flags 2) (g .ai) (g .cai))
 
 abbrev pub collation : Settings → ℕ → List ℕ
-collation g flags = pick (eqb flags 0) [] (collate (nameOf g (flagsCode flags)))
+collation g flags = pick (eqb flags 0) [] (collate (nameOf g flags))
 
--- the text that a digit stands for
-abbrev pub wordText : Settings → List ℕ → ℕ → List ℕ
-wordText g w j =
-    pick (eqb j 4) w
-    (pick (eqb j 5) (g .ci)
-    (pick (eqb j 6) (g .ai)
-    (pick (eqb j 7) (g .cai) (precise (g .precision)))))
-
-abbrev pub slot : Settings → List ℕ → List Tree → ℕ → List ℕ
-slot g w xs j = pick (ltb j 4) (text g (getD xs j null)) (wordText g w j)
+-- the text that a digit of a template stands for
+abbrev pub slot : Settings → List Tree → ℕ → List ℕ
+slot g xs j = text g (getD xs j null)
 
 -- four ends are four trees
 pub record Are (s : List ℕ) (e : List end.End) (xs : List Tree) : Type 0 where
@@ -173,7 +157,7 @@ pub record Are (s : List ℕ) (e : List end.End) (xs : List Tree) : Type 0 where
 
 -- the pieces of a template
 abbrev pub endPiece : end.End → piece.Piece
-endPiece (Column a e) = pieces.Node a e
+endPiece (Column a e) = pieces.Name a e
 endPiece (Instant a e) = pieces.Node a e
 endPiece (Other a e) = pieces.Node a e
 endPiece Open = pieces.Plain Opened
@@ -183,13 +167,13 @@ unfoldable pub pieceOf : ℕ → end.End → piece.Piece
 pieceOf code x = pick (ltb code 4) (endPiece x) (pieces.Plain (Words code))
 
 -- the text of a code from 4 on
-unfoldable pub partText : Settings → List ℕ → ℕ → List ℕ
-partText g w code = pick (ltb code 4) [] (fill (wordText g w) (partOf code))
+unfoldable pub partText : ℕ → List ℕ
+partText code = pick (ltb code 4) [] (partOf code)
 
-unfoldable pub flatText : Settings → List ℕ → flat.Flat → List ℕ
-flatText g w (Words code) = partText g w code
-flatText g w Opened = unboundedText
-flatText g w Nothing = nullText
+unfoldable pub flatText : flat.Flat → List ℕ
+flatText (Words code) = partText code
+flatText Opened = unboundedText
+flatText Nothing = nullText
 
 -- where the record at p ends, kept inside s
 pub record EndOf (s : List ℕ) (p r : ℕ) : Type 0 where
@@ -221,23 +205,13 @@ twinOf op kind inner =
     (pick (eqb op 1) false
     (pick (eqb kind 9) (pick (eqb op 16) (eqb inner 17) (eqb inner 16)) false)))
 
--- the template of a spatial operator by whether each side is a column: 4(0, 1), 4(ST_ReducePrecision(0, 8), 1) or 4(0, ST_ReducePrecision(1, 8))
-unfoldable pub spatialTemplate : ℕ → Bool → Bool → List ℕ
-spatialTemplate op a b =
-    pick (between 21 op 23)
-    (pick a
-    (pick b (52 ∷ 40 ∷ 48 ∷ 44 ∷ 32 ∷ 49 ∷ 41 ∷ [])
-    (52 ∷ 40 ∷ 83 ∷ 84 ∷ 95 ∷ 82 ∷ 101 ∷ 100 ∷ 117 ∷ 99 ∷ 101 ∷ 80 ∷ 114 ∷ 101 ∷ 99 ∷ 105 ∷ 115 ∷ 105 ∷ 111 ∷ 110 ∷ 40 ∷ 48 ∷ 44 ∷ 32 ∷ 56 ∷ 41 ∷ 44 ∷ 32 ∷ 49 ∷ 41 ∷ []))
-    (pick b
-    (52 ∷ 40 ∷ 48 ∷ 44 ∷ 32 ∷ 83 ∷ 84 ∷ 95 ∷ 82 ∷ 101 ∷ 100 ∷ 117 ∷ 99 ∷ 101 ∷ 80 ∷ 114 ∷ 101 ∷ 99 ∷ 105 ∷ 115 ∷ 105 ∷ 111 ∷ 110 ∷ 40 ∷ 49 ∷ 44 ∷ 32 ∷ 56 ∷ 41 ∷ 41 ∷ [])
-    (52 ∷ 40 ∷ 48 ∷ 44 ∷ 32 ∷ 49 ∷ 41 ∷ [])))
-    (52 ∷ 40 ∷ 48 ∷ 44 ∷ 32 ∷ 49 ∷ 41 ∷ [])
+-- a temporal node, by the numbers of kind and operator
+unfoldable pub temporalOf : ℕ → ℕ → Bool
+temporalOf kind op = pick (eqb kind 10) (between 26 op 40) false
 
--- a node that is written as its operator between its sides, by the numbers of kind and operator
-unfoldable pub infixOf : ℕ → ℕ → Bool
-infixOf kind op = pick (eqb kind 10) (pick (between 18 op 40) false (pick (between 47 op 48) false true)) false
+-- An operator between its sides.
 
--- which of its sides are written without brackets
+-- which of them are written without brackets
 unfoldable pub leftBare : ℕ → Tree → Bool
 leftBare op t = pick (between 41 op 44) true (isLiteralOrId t)
 
@@ -248,7 +222,30 @@ rightBare op u = pick (between 41 op 44) true (pick (between 45 op 46) false (is
 unfoldable pub infixText : Bool → List ℕ → Bool → List ℕ
 infixText a w b = pick a (32 ∷ []) (41 ∷ 32 ∷ []) ++ (w ++ pick b (32 ∷ []) (32 ∷ 40 ∷ []))
 
--- a node with operands: its ends, its operator
+-- what stands before and behind the operand of a monadic node: by the operator's number and word, whether the operand is bare, and whether it has a twin
+unfoldable pub beforeText : ℕ → List ℕ → Bool → List ℕ
+beforeText op w b =
+    pick (between 51 op 52) (pick b [] (40 ∷ []))
+    (pick (either (eqb op 7) (eqb op 1)) (w ++ pick b (32 ∷ []) (32 ∷ 40 ∷ [])) [])
+
+abbrev pub collationFlags : ℕ → Bool → ℕ
+collationFlags op d = pick d 3 (pick (eqb op 16) 1 2)
+
+unfoldable pub behindText : Settings → ℕ → List ℕ → Bool → Bool → List ℕ
+behindText g op w b d =
+    pick (between 51 op 52) (pick b (32 ∷ []) (41 ∷ 32 ∷ []) ++ w)
+    (pick (either (eqb op 7) (eqb op 1)) (pick b [] (41 ∷ [])) (collate (nameOf g (collationFlags op d))))
+
+-- what closes a side whose precision is reduced: , 1E-p)
+abbrev pub reducedText : ℕ → List ℕ
+reducedText p = 44 ∷ 32 ∷ 49 ∷ 69 ∷ 45 ∷ (decimal p ++ (41 ∷ []))
+
+-- a bound of BETWEEN from a to z, or NULL if nothing stands there
+pub data Bound (s : List ℕ) (a z : ℕ) : Tree → Type 0 where
+  gone : a ≡ z → Bound s a z null
+  item : (x : Tree) → part s a z ≡ encode x → sound x ≡ true → Bound s a z x
+
+-- the ends of a node of two operands
 unfoldable pub nodeEnds : Tree → List Tree
 nodeEnds null = []
 nodeEnds unbounded = []
@@ -259,29 +256,13 @@ nodeEnds (date y m d) = []
 nodeEnds (timestamp y m d h i s) = []
 nodeEnds (spatial n s) = []
 nodeEnds (id s) = []
-nodeEnds (monadic o t) = monadicEnds o t
-nodeEnds (dyadic o t u) = dyadicEnds o t u
+nodeEnds (monadic o t) = []
+nodeEnds (dyadic o t u) = endsOf t u
 nodeEnds (function n ts) = []
 nodeEnds (array ts) = []
 nodeEnds (interval t u) = []
 
-unfoldable pub nodeOp : Tree → Op
-nodeOp null = Minus
-nodeOp unbounded = Minus
-nodeOp (bool b) = Minus
-nodeOp (num m s) = Minus
-nodeOp (str f s) = Minus
-nodeOp (date y m d) = Minus
-nodeOp (timestamp y m d h i s) = Minus
-nodeOp (spatial n s) = Minus
-nodeOp (id s) = Minus
-nodeOp (monadic o t) = o
-nodeOp (dyadic o t u) = o
-nodeOp (function n ts) = Minus
-nodeOp (array ts) = Minus
-nodeOp (interval t u) = Minus
-
--- s is the record of such a node, of this kind and operator, whose second operand starts at m
+-- s is the record of a node with operands, of this kind and operator, whose second operand, if it has two, starts at m
 pub data Node (s : List ℕ) (kind op m : ℕ) : Tree → Type 0 where
   one : (o : Op) (t : Tree) → kind ≡ 9 → op ≡ opNumber o → s ≡ encode (monadic o t) → sound t ≡ true → Node s kind op m (monadic o t)
   two : (o : Op) (t u : Tree) → kind ≡ 10 → op ≡ opNumber o → Stands s 8 m t → Stands s m (length s) u → Node s kind op m (dyadic o t u)

@@ -8,7 +8,7 @@ use Rattle.choice.specs.Choice.{pick, both, either, negated}
 use Rattle.op.specs.declared.Op.{Op}
 use Rattle.op.specs.declared.Op.the-variants.{Minus, Neg, CaseI, AccentI, STouches, SWithin, SOverlaps, IsLike, IsNotLike}
 use Rattle.op.specs.Op.{opNumber, oneOf, isArray, isSpatial, isTemporal, isNullable}
-use Rattle.op.specs.Spelling.{Spelling, noSpelling, spelled, spelling}
+use Rattle.op.specs.Spelling.{word}
 use Rattle.tree.specs.Tree.{Tree, Trees, Settings, null, unbounded, bool, num, str, date, timestamp, spatial, id, monadic, dyadic, function, array, interval, none, _then_}
 use Rattle.tree.specs.Placed.{isInterval, isBetween}
 use Rattle.literal.specs.Literal.{nullText, boolText, unboundedText, numText, strText, dateText, timestampText, spatialText, decimal, collate}
@@ -132,15 +132,7 @@ endsOf t u = startOf t ∷ stopOf t ∷ startOf u ∷ stopOf u ∷ []
 abbrev pub columnsOf : Tree → Tree → ℕ → Bool
 columnsOf t u j = isId (getD (endsOf t u) j null)
 
--- Words.
-
-unfoldable pub spelledAs : Spelling → List ℕ
-spelledAs noSpelling = []
-spelledAs (spelled s) = s
-
--- an operator's spelling; those that have none are written without it
-abbrev pub word : Op → List ℕ
-word o = spelledAs (spelling o)
+-- Texts put together.
 
 -- x itself, or in brackets
 abbrev pub bare : Bool → List ℕ → List ℕ

@@ -1,13 +1,11 @@
 -- A run of bytes that grows by one, and a text laid behind what a template holds.
 use mathlib.Core.Path.{_≡_, refl, ap, sym, _∙_}
 use mathlib.Core.List.{List, [], _∷_, _++_, append-assoc}
-use Prim.Native.Nat.{ℕ, suc, _+_, _-_, _≤_, _<_, min}
-use mathlib.Core.Logic.{⊎-elim}
-use native.Mathlib.Nat.{eq-zero-or-pos}
+use Prim.Native.Nat.{ℕ, suc, _+_, _-_, _<_}
 use native.Mathlib.Numerals.{add-one}
 use native.Mathlib.Omega.{arith}
 use lib.ListN.{length, take, getD, set}
-use lib.Seq.{take-suc, take-suc-set, take-all}
+use lib.Seq.{take-suc, take-suc-set}
 use mathlib.Core.Bool.{Bool, true, false}
 use Rattle.choice.specs.Choice.{pick}
 use Rattle.sql.specs.Condition.{Cond, and, or, isNotNull, notNull, brackets, print, checkId, checkIds}
@@ -28,11 +26,11 @@ pub then : {x y z : List ℕ} (c : List ℕ) → x ≡ y ++ c → y ≡ z → x 
 then c p q = p ∙ ap (λ (l : List ℕ). l ++ c) q
 
 -- the front of a guard, of one column and of two
-pub one-front : (i : ℕ) → i < 4 → spelt (23 ∷ i ∷ 24 ∷ []) ≡ 34 ∷ (48 + i) ∷ 34 ∷ 32 ∷ 73 ∷ 83 ∷ 32 ∷ 78 ∷ 79 ∷ 84 ∷ 32 ∷ 78 ∷ 85 ∷ 76 ∷ 76 ∷ 32 ∷ 65 ∷ 78 ∷ 68 ∷ 32 ∷ 40 ∷ []
+pub one-front : (i : ℕ) → i < 4 → spelt (11 ∷ i ∷ 12 ∷ []) ≡ 34 ∷ (48 + i) ∷ 34 ∷ 32 ∷ 73 ∷ 83 ∷ 32 ∷ 78 ∷ 79 ∷ 84 ∷ 32 ∷ 78 ∷ 85 ∷ 76 ∷ 76 ∷ 32 ∷ 65 ∷ 78 ∷ 68 ∷ 32 ∷ 40 ∷ []
 unfolding spelt partOf parts
 one-front i h = ap (λ (x : List ℕ). 34 ∷ (x ++ (34 ∷ 32 ∷ 73 ∷ 83 ∷ 32 ∷ 78 ∷ 79 ∷ 84 ∷ 32 ∷ 78 ∷ 85 ∷ 76 ∷ 76 ∷ 32 ∷ 65 ∷ 78 ∷ 68 ∷ 32 ∷ 40 ∷ []))) (digit-part i h)
 
-pub two-fronts : (i j : ℕ) → i < 4 → j < 4 → spelt (23 ∷ i ∷ 25 ∷ j ∷ 26 ∷ []) ≡ 34 ∷ (48 + i) ∷ 34 ∷ 32 ∷ 73 ∷ 83 ∷ 32 ∷ 78 ∷ 79 ∷ 84 ∷ 32 ∷ 78 ∷ 85 ∷ 76 ∷ 76 ∷ 32 ∷ 65 ∷ 78 ∷ 68 ∷ 32 ∷ 34 ∷ (48 + j) ∷ 34 ∷ 32 ∷ 78 ∷ 79 ∷ 84 ∷ 32 ∷ 78 ∷ 85 ∷ 76 ∷ 76 ∷ 32 ∷ 65 ∷ 78 ∷ 68 ∷ 32 ∷ 40 ∷ []
+pub two-fronts : (i j : ℕ) → i < 4 → j < 4 → spelt (11 ∷ i ∷ 13 ∷ j ∷ 14 ∷ []) ≡ 34 ∷ (48 + i) ∷ 34 ∷ 32 ∷ 73 ∷ 83 ∷ 32 ∷ 78 ∷ 79 ∷ 84 ∷ 32 ∷ 78 ∷ 85 ∷ 76 ∷ 76 ∷ 32 ∷ 65 ∷ 78 ∷ 68 ∷ 32 ∷ 34 ∷ (48 + j) ∷ 34 ∷ 32 ∷ 78 ∷ 79 ∷ 84 ∷ 32 ∷ 78 ∷ 85 ∷ 76 ∷ 76 ∷ 32 ∷ 65 ∷ 78 ∷ 68 ∷ 32 ∷ 40 ∷ []
 unfolding spelt partOf parts
 two-fronts i j h g =
     ap (λ (x : List ℕ). 34 ∷ (x ++ (34 ∷ 32 ∷ 73 ∷ 83 ∷ 32 ∷ 78 ∷ 79 ∷ 84 ∷ 32 ∷ 78 ∷ 85 ∷ 76 ∷ 76 ∷ 32 ∷ 65 ∷ 78 ∷ 68 ∷ 32 ∷ 34 ∷ (partOf j ++ (34 ∷ 32 ∷ 78 ∷ 79 ∷ 84 ∷ 32 ∷ 78 ∷ 85 ∷ 76 ∷ 76 ∷ 32 ∷ 65 ∷ 78 ∷ 68 ∷ 32 ∷ 40 ∷ []))))) (digit-part i h)
@@ -62,11 +60,3 @@ two-guards column i j base = go (column i) (column j)
 pub either-or : (c d : Cond) → eitherText (templateOf c) (templateOf d) ≡ templateOf (or (brackets c) (brackets d))
 unfolding print eitherText
 either-or c d = ap (λ (l : List ℕ). 40 ∷ l) (sym (append-assoc (templateOf c) (41 ∷ []) (32 ∷ 79 ∷ 82 ∷ 32 ∷ 40 ∷ (templateOf d ++ (41 ∷ [])))))
-
--- no more than there is
-pub least-take : (s : List ℕ) (n : ℕ) → n ≡ min 24 (length s) → take n s ≡ take 24 s
-least-take s n e =
-    ⊎-elim
-    (λ (z : 24 - length s ≡ 0). let u : n ≡ 24 = omega arith in rw u)
-    (λ (z : 0 < 24 - length s). take-all n s (omega arith) ∙ sym (take-all 24 s (omega arith)))
-    (eq-zero-or-pos (24 - length s))

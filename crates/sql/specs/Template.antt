@@ -1,4 +1,4 @@
--- A text whose operands or ends are still to be written, with digits where they go, and the parts by code that the code makes such a text of (src/ds/sql.rs, src/ds/gpkg.rs).
+-- The text of a temporal condition whose ends are still to be written, with digits where they go, and the parts by code that the code makes such a text of (src/ds/sql.rs, src/ds/gpkg.rs).
 use Prim.Native.Nat.{ℕ, _+_, _-_}
 use mathlib.Core.List.{List, [], _∷_, _++_}
 use mathlib.Core.Bool.{Bool}
@@ -15,30 +15,16 @@ digitOf j = (48 + j) ∷ []
 abbrev pub templateOf : Cond → List ℕ
 templateOf c = print digitOf c
 
--- The parts that a text is put together from, by code: 0 to 8 stand for themselves as digits (0 to 3 operands or ends, 4 the operator's word,
--- 5 to 7 the collations, 8 the precision); from 9 on they are `(` `)` and space, then ` COLLATE ` ` AND ` `, ` `(ST_ReducePrecision(` `), `
--- `, ST_ReducePrecision(` `))`, then the signs > < = != between spaces, then `"` `" IS NOT NULL AND (` `" IS NOT NULL AND "` `" NOT NULL AND (`,
--- then `) OR (` `) AND (` `NOT((`.
+-- The parts that a text is put together from, by code: 0 to 3 stand for themselves as digits, the ends; from 4 on they are `(` `)` `))`, then
+-- the signs > < = != between spaces, then `"` `" IS NOT NULL AND (` `" IS NOT NULL AND "` `" NOT NULL AND (`, then `) OR (` `) AND (` `NOT((`.
 unfoldable pub parts : List (List ℕ)
 parts =
     (48 ∷ [])
     ∷ (49 ∷ [])
     ∷ (50 ∷ [])
     ∷ (51 ∷ [])
-    ∷ (52 ∷ [])
-    ∷ (53 ∷ [])
-    ∷ (54 ∷ [])
-    ∷ (55 ∷ [])
-    ∷ (56 ∷ [])
     ∷ (40 ∷ [])
     ∷ (41 ∷ [])
-    ∷ (32 ∷ [])
-    ∷ (32 ∷ 67 ∷ 79 ∷ 76 ∷ 76 ∷ 65 ∷ 84 ∷ 69 ∷ 32 ∷ [])
-    ∷ (32 ∷ 65 ∷ 78 ∷ 68 ∷ 32 ∷ [])
-    ∷ (44 ∷ 32 ∷ [])
-    ∷ (40 ∷ 83 ∷ 84 ∷ 95 ∷ 82 ∷ 101 ∷ 100 ∷ 117 ∷ 99 ∷ 101 ∷ 80 ∷ 114 ∷ 101 ∷ 99 ∷ 105 ∷ 115 ∷ 105 ∷ 111 ∷ 110 ∷ 40 ∷ [])
-    ∷ (41 ∷ 44 ∷ 32 ∷ [])
-    ∷ (44 ∷ 32 ∷ 83 ∷ 84 ∷ 95 ∷ 82 ∷ 101 ∷ 100 ∷ 117 ∷ 99 ∷ 101 ∷ 80 ∷ 114 ∷ 101 ∷ 99 ∷ 105 ∷ 115 ∷ 105 ∷ 111 ∷ 110 ∷ 40 ∷ [])
     ∷ (41 ∷ 41 ∷ [])
     ∷ (32 ∷ 62 ∷ 32 ∷ [])
     ∷ (32 ∷ 60 ∷ 32 ∷ [])

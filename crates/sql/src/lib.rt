@@ -1,22 +1,21 @@
 // Operands, the four ends and the conditions of the temporal operators (src/ds/sql.rs and the fifteen `t_…_sql` of src/ds/gpkg.rs).
 ghost use mathlib.Core.Path.{_≡_};
-ghost use mathlib.Core.List.{List, [], _∷_, _++_};
-ghost use mathlib.Core.Bool.{Bool, true, false};
-ghost use Prim.Native.Nat.{ℕ, _+_, _≤_, _<_, min};
-ghost use lib.ListN.{length, take};
-ghost use Rattle.sql.specs.Condition.{checkId, checkIds};
-ghost use Rattle.sql.specs.Ends.{isColumn, isInterval, columns, startOf, stopOf, unfoldExpressions};
+ghost use mathlib.Core.List.{_++_};
+ghost use mathlib.Core.Bool.{true, false};
+ghost use Prim.Native.Nat.{_+_, _≤_, _<_};
+ghost use lib.ListN.{length};
+ghost use Rattle.sql.specs.Ends.{isColumn, columns, startOf, stopOf, unfoldExpressions};
 ghost use Rattle.sql.specs.Template.{held, spelt, templateOf, guardedText, guardedBothText, checkIdText, checkIdsText, eitherText};
 ghost use Rattle.sql.specs.Translators.{tAfter, tBefore, tContains, tDisjoint, tDuring, tEquals, tFinishedBy, tFinishes, tIntersects, tMeets, tMetBy, tOverlappedBy, tOverlaps, tStartedBy, tStarts, translate};
 
 // An end of an operand: the record that holds it lies from the first offset to the second, counted from the start of the operator's own record
-// in the tree.
+// in the tree, which has at most 32,768 bytes.
 pub enum End {
-    Column(usize, usize),
+    Column(u16, u16),
     // A date or a timestamp.
-    Instant(usize, usize),
+    Instant(u16, u16),
     // Any other tree.
-    Other(usize, usize),
+    Other(u16, u16),
     // An open end, `..`.
     Open,
     Null,
@@ -34,90 +33,56 @@ pub struct Template {
     pub len: usize,
 }
 
-// The operands or ends.
-pub const E0: u8 = 0;
+// The ends.
+const E0: u8 = 0;
 
-pub const E1: u8 = 1;
+const E1: u8 = 1;
 
-pub const E2: u8 = 2;
+const E2: u8 = 2;
 
-pub const E3: u8 = 3;
-
-// The operator's word.
-pub const WORD: u8 = 4;
-
-// The names of the collations.
-pub const CI: u8 = 5;
-
-pub const AI: u8 = 6;
-
-pub const CAI: u8 = 7;
-
-// 1E-p.
-pub const PRECISION: u8 = 8;
+const E3: u8 = 3;
 
 // `(`
-pub const OPEN: u8 = 9;
+pub const OPEN: u8 = 4;
 
 // `)`
-pub const CLOSE: u8 = 10;
-
-// ` `
-pub const SPACE: u8 = 11;
-
-// ` COLLATE `
-pub const COLLATE: u8 = 12;
-
-// ` AND ` between the bounds of BETWEEN.
-pub const UPTO: u8 = 13;
-
-// `, `
-pub const COMMA: u8 = 14;
-
-// `(ST_ReducePrecision(`
-pub const REDUCE: u8 = 15;
-
-// `), `
-pub const CLOSE_COMMA: u8 = 16;
-
-// `, ST_ReducePrecision(`
-pub const COMMA_REDUCE: u8 = 17;
+pub const CLOSE: u8 = 5;
 
 // `))`
-pub const CLOSE_BOTH: u8 = 18;
+pub const CLOSE_BOTH: u8 = 6;
 
 // ` > `
-pub const GREATER: u8 = 19;
+pub const GREATER: u8 = 7;
 
 // ` < `
-pub const LESS: u8 = 20;
+pub const LESS: u8 = 8;
 
 // ` = `
-pub const EQUAL: u8 = 21;
+pub const EQUAL: u8 = 9;
 
 // ` != `
-pub const UNEQUAL: u8 = 22;
+pub const UNEQUAL: u8 = 10;
 
 // `"`
-pub const QUOTE: u8 = 23;
+pub const QUOTE: u8 = 11;
 
 // `" IS NOT NULL AND (`
-pub const IS_NOT_NULL: u8 = 24;
+pub const IS_NOT_NULL: u8 = 12;
 
 // `" IS NOT NULL AND "`
-pub const IS_NOT_NULL_QUOTE: u8 = 25;
+pub const IS_NOT_NULL_QUOTE: u8 = 13;
 
 // `" NOT NULL AND (`
-pub const NOT_NULL: u8 = 26;
+pub const NOT_NULL: u8 = 14;
 
 // `) OR (`
-pub const OR: u8 = 27;
+pub const OR: u8 = 15;
 
 // `) AND (`
-pub const AND: u8 = 28;
+pub const AND: u8 = 16;
 
 // `NOT((`
-pub const NOT: u8 = 29;
+pub const NOT: u8 = 17;
 
 fn is_column(e: End) -> bool
     ensures { λ r. ⌜ r ≡ isColumn e ⌝ }
@@ -153,20 +118,6 @@ fn sql(s: &[u8]) -> Template
 {
     let codes = [0u8; 24];
     push(Template { codes, len: 0 }, s)
-}
-
-fn least(a: usize, b: usize) -> usize
-    ensures { λ r. ⌜ r ≡ min a b ⌝ }
-{
-    if a <= b { a } else { b }
-}
-
-// The template of some codes, as far as there is room: no node has more.
-pub fn plain(s: &[u8]) -> Template
-    ensures { λ r. ⌜ (held r ≡ spelt (take 24 (now (s .entry)))) × (r .len ≤ 24) ⌝ }
-{
-    let n = least(24, s.len());
-    sql(&s[..n])
 }
 
 // `"i" IS NOT NULL AND (base)`
@@ -434,15 +385,6 @@ pub fn temporal_sql(op: usize, a: bool, b: bool, e: [End; 4]) -> Template
         38 => t_overlaps_sql(a, b, e),
         39 => t_started_by_sql(a, b, e),
         _ => t_starts_sql(a, b, e),
-    }
-}
-
-pub fn is_interval(a: Operand) -> bool
-    ensures { λ r. ⌜ r ≡ isInterval a ⌝ }
-{
-    match a {
-        Operand::Single(_) => false,
-        Operand::Interval(_, _) => true,
     }
 }
 

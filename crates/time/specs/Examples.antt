@@ -114,7 +114,7 @@ negated-end = dyadic TAfter (monadic Neg a) b
 no-filter :
     (timeFilter negated-end ≡ false) × (reads days negated-end ≡ SaysTrue) × (reads days (dyadic TBefore b (monadic Neg a)) ≡ Refused BadText)
     × (truthOn days negated-end ≡ Unknown)
-unfolding timeFilter isOperand op.isTemporal op.isNullable op.isSpatial op.isArray some same truthOn temporalTruth condTruth translators.translate translators.tAfter translators.tBefore isInterval gpkg.isId gpkg.isLiteral gpkg.isLiteralOrId gpkg.startOf gpkg.stopOf gpkg.endsOf gpkg.text gpkg.monadicText gpkg.dyadicText gpkg.spelledAs spelling.spellingIn spelling.inside sql.print placed.isBetween valueOn look order grammar.holds grammar.value grammar.eval grammar.atomOf grammar.notNull grammar.nullTest grammar.fromAtom grammar.simple grammar.orE parse lex.run lex.wordKind lex.signKind lex.signMore lex.quoteKind lex.lexeme lex.cut lex.tokensIn lex.tokens lex.kind lex.body lex.rest charset.letter charset.digit charset.nameStart charset.nameByte charset.upper charset.reservedWords charset.reserved charset.name charset.strByte choice.all literal.date literal.low
+unfolding timeFilter isOperand op.isTemporal op.isNullable op.isSpatial op.isArray some same truthOn temporalTruth condTruth translators.translate translators.tAfter translators.tBefore isInterval gpkg.isId gpkg.isLiteral gpkg.isLiteralOrId gpkg.startOf gpkg.stopOf gpkg.endsOf gpkg.text gpkg.monadicText gpkg.dyadicText spelling.spelledAs sql.print placed.isBetween valueOn look order grammar.holds grammar.value grammar.eval grammar.atomOf grammar.notNull grammar.nullTest grammar.fromAtom grammar.simple grammar.orE parse lex.run lex.wordKind lex.signKind lex.signMore lex.quoteKind lex.lexeme lex.cut lex.tokensIn lex.tokens lex.kind lex.body lex.rest charset.letter charset.digit charset.nameStart charset.nameByte charset.upper charset.reservedWords charset.reserved charset.name charset.strByte choice.all literal.date literal.low
 no-filter = (refl, refl, refl, refl)
 
 -- ---- Complement.

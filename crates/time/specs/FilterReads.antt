@@ -15,7 +15,7 @@ use Rattle.op.specs.declared.Op.{Op}
 use Rattle.op.specs.declared.Op.the-variants.{Neg, And, Or, IsNull, IsNotNull, Eq, Neq, Lt, Gt, Lte, Gte}
 use Rattle.op.specs.Op.{opNumber, operators, oneOf, isTemporal, isNullable, isSpatial, isArray}
 use Rattle.op.specs.OpLaws.{each, every-op}
-use Rattle.op.specs.Spelling.{spelling, spelled}
+use Rattle.op.specs.Spelling.{spelling, spelled, spelledAs}
 use Rattle.tree.specs.Tree.{Tree, Trees, Settings, null, unbounded, bool, num, str, date, timestamp, spatial, id, monadic, dyadic, function, array, interval}
 use Rattle.tree.specs.Placed.{isInterval, isBetween}
 use Rattle.tree.specs.Good.{Good}
@@ -24,7 +24,7 @@ use Rattle.literal.specs.Literal.{low}
 use Rattle.sql.specs.Condition.{print}
 use Rattle.sql.specs.Translators.{translate}
 use Rattle.gpkg.specs.Text as gpkg
-use Rattle.gpkg.specs.Text.{isId, isLiteral, isLiteralOrId, startOf, stopOf, endsOf, columnsOf, children, bare, monadicText, dyadicText, startText, stopText, spelledAs}
+use Rattle.gpkg.specs.Text.{isId, isLiteral, isLiteralOrId, startOf, stopOf, endsOf, columnsOf, children, bare, monadicText, dyadicText, startText, stopText}
 use Rattle.row.specs.Row.{Column, Found, has}
 use Rattle.truth.specs.declared.Truth.{Truth}
 use Rattle.truth.specs.declared.Truth.the-variants.{True, False, Unknown}

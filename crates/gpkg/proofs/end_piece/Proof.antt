@@ -1,15 +1,9 @@
 -- What the calls ensure, put together.
-use borrow.Author.Needs.{needs}
 use native.Mathlib.Omega.{arith}
-use mathlib.Core.Path.{_≡_, refl, ap, sym, _∙_, subst}
-use mathlib.Core.List.{List, [], _∷_, _++_, append-assoc, append-nil}
-use mathlib.Core.Bool.{Bool, true, false}
-use Prim.Native.Nat.{ℕ, _+_, _-_, _≤_, _<_, min}
-use lib.ListN.{length, getD, take, drop, length-take, length-drop}
-use denote.Ref.{now}
-use borrow.Author.Tests.{eq-eqb, ne-eqb, lt-ltb, le-ltb, le-leb, lt-leb}
-use Rattle.gpkg.proofs.LaysLaws.{lays-placed, lays-none, lays-of, lays-then}
+use mathlib.Core.Path.{ap, sym}
+use Prim.Native.Nat.{_-_}
 use Rattle.gpkg.specs.Plan.{endPiece}
+use borrow.Author.Needs.{needs}
 use Rattle.gpkg.proofs.end_piece.Statement.{statement}
 use Rattle.gpkg.proofs.end_piece.Tie as tie
 use Rattle.gpkg.proofs.end_piece.Reads as reads
@@ -18,11 +12,29 @@ use Rattle.gpkg.proofs.end_piece.Lts as lts
 enum-known-e : tie.Need-enum-known-e
 enum-known-e c = search needs
 
+cast-t9 : tie.Need-cast-t9
+cast-t9 c = search needs
+
+cast-t10 : tie.Need-cast-t10
+cast-t10 c = search needs
+
 enum-known-e-2 : tie.Need-enum-known-e-2
 enum-known-e-2 c = search needs
 
+cast-t11 : tie.Need-cast-t11
+cast-t11 c = search needs
+
+cast-t12 : tie.Need-cast-t12
+cast-t12 c = search needs
+
 enum-known-e-3 : tie.Need-enum-known-e-3
 enum-known-e-3 c = search needs
+
+cast-t13 : tie.Need-cast-t13
+cast-t13 c = search needs
+
+cast-t14 : tie.Need-cast-t14
+cast-t14 c = search needs
 
 enum-told : tie.Need-enum-told
 enum-told c = search needs
@@ -50,8 +62,14 @@ end-piece-spec =
     tie.close
     (tie.spec
     enum-known-e
+    cast-t9
+    cast-t10
     enum-known-e-2
+    cast-t11
+    cast-t12
     enum-known-e-3
+    cast-t13
+    cast-t14
     enum-told
     enum-told-2
     returns

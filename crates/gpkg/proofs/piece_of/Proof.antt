@@ -1,12 +1,7 @@
 -- Each branch is a case of the definition.
 use native.Mathlib.Omega.{arith}
-use mathlib.Core.Path.{_≡_, refl, ap, sym, _∙_}
-use mathlib.Core.List.{List, [], _∷_, _++_, append-assoc, append-nil}
-use Prim.Native.Nat.{ℕ, _+_, _-_, _≤_, _<_, min}
-use lib.ListN.{length, getD, take, drop}
-use denote.Ref.{now}
-use borrow.Author.Tests.{eq-eqb, ne-eqb, lt-ltb, le-ltb, le-leb, lt-leb}
-use Rattle.gpkg.proofs.LaysLaws.{lays-placed, lays-none, lays-of, lays-then}
+use Prim.Native.Nat.{_-_}
+use borrow.Author.Tests.{lt-ltb, le-ltb}
 use Rattle.gpkg.specs.Plan.{pieceOf}
 use borrow.Author.Needs.{needs}
 use Rattle.gpkg.proofs.piece_of.Statement.{statement}

@@ -1,14 +1,7 @@
--- Each arm lays the text of its variant.
-use native.Mathlib.Omega.{arith}
-use mathlib.Core.Path.{_≡_, refl, ap, sym, _∙_}
-use mathlib.Core.List.{List, [], _∷_, _++_, append-assoc, append-nil}
-use Prim.Native.Nat.{ℕ, _+_, _-_, _≤_, _<_, min}
-use lib.ListN.{length, getD, take, drop}
-use denote.Ref.{now}
-use borrow.Author.Tests.{eq-eqb, ne-eqb, lt-ltb, le-ltb, le-leb, lt-leb}
-use Rattle.gpkg.proofs.LaysLaws.{lays-placed, lays-none, lays-of, lays-then}
-use Rattle.gpkg.specs.Text.{word}
-use Rattle.gpkg.specs.Plan.{flatText, settingsIn}
+-- What the calls ensure, by the case that was taken.
+use mathlib.Core.Path.{ap, sym}
+use Rattle.gpkg.specs.Plan.{flatText}
+use Rattle.gpkg.proofs.LaysLaws.{lays-of}
 use borrow.Author.Needs.{needs}
 use Rattle.gpkg.proofs.put_flat.Statement.{statement}
 use Rattle.gpkg.proofs.put_flat.Tie as tie
@@ -44,21 +37,21 @@ same-length c = search needs
 
 returns : tie.Need-returns
 unfolding flatText
-returns c = λ o e. lays-of (ap (flatText _ (word o)) (sym (c .before .before .before .before .before .flat .given .1))) (c .before .before .put-part .ensures o e)
+returns c = lays-of (ap flatText (sym (c .before .before .before .before .before .flat .given .1))) (c .before .before .put-part .ensures)
 
 same-length-2 : tie.Need-same-length-2
 same-length-2 c = search needs
 
 returns-2 : tie.Need-returns-2
 unfolding flatText
-returns-2 c = λ o e. lays-of (ap (flatText (settingsIn (c .before .before .before .before .before .before .before .before .before .args .set .now)) (word o)) (sym (c .before .before .before .before .enum-told .given .1))) (c .before .before .put-open-end .ensures)
+returns-2 c = lays-of (ap flatText (sym (c .before .before .before .before .enum-told .given .1))) (c .before .before .put-open-end .ensures)
 
 same-length-3 : tie.Need-same-length-3
 same-length-3 c = search needs
 
 returns-3 : tie.Need-returns-3
 unfolding flatText
-returns-3 c = λ o e. lays-of (ap (flatText (settingsIn (c .before .before .before .before .before .before .before .before .before .before .args .set .now)) (word o)) (sym (c .before .before .before .before .before .enum-told2 .given .1))) (c .before .before .put .ensures)
+returns-3 c = lays-of (ap flatText (sym (c .before .before .before .before .before .enum-told2 .given .1))) (c .before .before .put .ensures)
 
 pub put-flat-spec : {M : Type 1} → statement M
 put-flat-spec =

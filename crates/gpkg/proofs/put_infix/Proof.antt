@@ -1,12 +1,8 @@
 -- One write after the other.
 use native.Mathlib.Omega.{arith}
-use mathlib.Core.Path.{_≡_, refl, ap, sym, _∙_}
-use mathlib.Core.List.{List, [], _∷_, _++_, append-assoc, append-nil}
-use Prim.Native.Nat.{ℕ, _+_, _-_, _≤_, _<_, min}
-use lib.ListN.{length, getD, take, drop}
-use denote.Ref.{now}
-use borrow.Author.Tests.{eq-eqb, ne-eqb, lt-ltb, le-ltb, le-leb, lt-leb}
-use Rattle.gpkg.proofs.LaysLaws.{lays-placed, lays-none, lays-of, lays-then}
+use Prim.Native.Nat.{_-_}
+use lib.ListN.{length}
+use Rattle.gpkg.proofs.LaysLaws.{lays-then}
 use Rattle.gpkg.specs.Plan.{infixText}
 use borrow.Author.Needs.{needs}
 use Rattle.gpkg.proofs.put_infix.Statement.{statement}

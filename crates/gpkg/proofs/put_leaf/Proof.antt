@@ -1,16 +1,14 @@
 -- Each kind lays its own text.
 use native.Mathlib.Omega.{arith}
-use mathlib.Core.Path.{_≡_, refl, ap, sym, _∙_}
-use mathlib.Core.List.{List, [], _∷_, _++_, append-assoc, append-nil}
-use mathlib.Core.Bool.{Bool, true, false}
-use Prim.Native.Nat.{ℕ, _+_, _-_, _≤_, _<_, min}
-use lib.ListN.{length, getD, take, drop, length-take, length-drop}
+use mathlib.Core.Path.{ap, sym, _∙_}
+use Prim.Native.Nat.{ℕ, _-_}
+use lib.ListN.{length, getD, drop}
 use denote.Ref.{now}
-use borrow.Author.Tests.{eq-eqb, ne-eqb, lt-ltb, le-ltb, le-leb, lt-leb}
-use Rattle.gpkg.proofs.LaysLaws.{lays-placed, lays-none, lays-of, lays-then}
+use borrow.Author.Tests.{ne-eqb}
+use Rattle.gpkg.proofs.LaysLaws.{lays-of}
 use Rattle.gpkg.proofs.Leaves.{str-collated}
-use Rattle.gpkg.specs.Plan.{leafText, collation, nameOf, settingsIn, precise}
-use Rattle.literal.specs.Literal.{decimal, numText, boolText, dateText, timestampText, spatialText, quoted, collate, strText}
+use Rattle.gpkg.specs.Plan.{leafText, settingsIn}
+use Rattle.literal.specs.Literal.{boolText}
 use Rattle.record.specs.Record.{le16}
 use lib.Dec.{eqb}
 use borrow.Author.Needs.{needs}

@@ -1,15 +1,11 @@
 -- One write and its length.
 use native.Mathlib.Omega.{arith}
-use mathlib.Core.Path.{_≡_, refl, ap, sym, _∙_}
-use mathlib.Core.List.{List, [], _∷_, _++_, append-assoc, append-nil}
-use mathlib.Core.Bool.{Bool, true, false}
-use Prim.Native.Nat.{ℕ, _+_, _-_, _≤_, _<_, min}
-use lib.ListN.{length, getD, take, drop, length-take, length-drop}
+use mathlib.Core.Path.{_≡_, ap, sym, _∙_}
+use Prim.Native.Nat.{ℕ, _+_, _-_}
+use lib.ListN.{length, drop}
 use denote.Ref.{now}
-use borrow.Author.Tests.{eq-eqb, ne-eqb, lt-ltb, le-ltb, le-leb, lt-leb}
-use Rattle.gpkg.proofs.LaysLaws.{lays-placed, lays-none, lays-of, lays-then}
-use Rattle.gpkg.specs.Plan.{leafText, collation, nameOf, settingsIn, precise}
-use Rattle.literal.specs.Literal.{decimal, numText, boolText, dateText, timestampText, spatialText, quoted, collate, strText}
+use Rattle.gpkg.proofs.LaysLaws.{lays-placed, lays-of}
+use Rattle.literal.specs.Literal.{spatialText}
 use Rattle.literal.specs.LiteralLaws.{length-spatial}
 use Rattle.record.specs.Record.{le32}
 use borrow.Author.Needs.{needs}

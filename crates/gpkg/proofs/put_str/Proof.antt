@@ -1,25 +1,22 @@
 -- The text in quotes, with its collation if the flags ask for one.
 use native.Mathlib.Omega.{arith}
 use mathlib.Core.Path.{_≡_, refl, ap, sym, _∙_}
-use mathlib.Core.List.{List, [], _∷_, _++_, append-assoc, append-nil}
-use mathlib.Core.Bool.{Bool, true, false}
-use Prim.Native.Nat.{ℕ, _+_, _-_, _≤_, _<_, min}
-use lib.ListN.{length, getD, take, drop, length-take, length-drop}
+use mathlib.Core.List.{List, [], _++_, append-nil}
+use Prim.Native.Nat.{ℕ, _+_, _-_}
+use lib.ListN.{length, getD, drop}
 use denote.Ref.{now}
-use borrow.Author.Tests.{eq-eqb, ne-eqb, lt-ltb, le-ltb, le-leb, lt-leb}
-use Rattle.gpkg.proofs.LaysLaws.{lays-placed, counted-twice, lays-none, lays-of, lays-then}
-use Rattle.gpkg.specs.Plan.{leafText, collation, nameOf, settingsIn, precise}
-use Rattle.literal.specs.Literal.{decimal, numText, boolText, dateText, timestampText, spatialText, quoted, collate, strText}
+use borrow.Author.Tests.{eq-eqb, ne-eqb}
+use Rattle.gpkg.proofs.LaysLaws.{lays-placed, counted-twice, lays-of}
+use Rattle.gpkg.specs.Plan.{collation, settingsIn}
+use Rattle.literal.specs.Literal.{quoted, collate}
 use Rattle.literal.specs.LiteralLaws.{length-quoted, length-collate}
 use lib.ListN.{length-append}
-use Rattle.gpkg.specs.Plan.{nameOf}
 use borrow.Author.Needs.{needs}
 use Rattle.gpkg.proofs.put_str.Statement.{statement}
 use Rattle.gpkg.proofs.put_str.Tie as tie
 use Rattle.gpkg.proofs.put_str.Reads as reads
 use Rattle.gpkg.proofs.put_str.Lts as lts
 use Rattle.gpkg.proofs.ended.Reads as ended-reads
-use Rattle.gpkg.proofs.flags_code.Reads as flags-code-reads
 use Rattle.gpkg.proofs.name_of.Reads as name-of-reads
 use Rattle.gpkg.proofs.rest.Reads as rest-reads
 use Rattle.literal.proofs.put_collated.Reads as put-collated-reads
@@ -45,13 +42,7 @@ same-length : tie.Need-same-length
 same-length c = search needs
 
 returns : tie.Need-returns
-returns c =
-    let z : collation (settingsIn (c .before .before .before .before .before .before .before .before .before .before .before .args .set .now)) (getD (c .before .before .before .before .before .before .before .before .before .before .before .args .s .now) 6 0) ≡ [] = simp (eq-eqb (getD (c .before .before .before .before .before .before .before .before .before .before .before .args .s .now) 6 0) 0 (sym (c .before .before .before .before .before .before .byte-at .ensures .0) ∙ c .before .before .before .before .before .if1 .taken)) in
-    let e : quoted (c .before .before .before .before .before .before .before .rest .result .now) ≡ quoted (drop 7 (c .before .before .before .before .before .before .before .before .before .before .before .args .s .now)) ++ collation (settingsIn (c .before .before .before .before .before .before .before .before .before .before .before .args .set .now)) (getD (c .before .before .before .before .before .before .before .before .before .before .before .args .s .now) 6 0) = ap quoted (c .before .before .before .before .before .before .before .rest .ensures) ∙ sym (append-nil (quoted (drop 7 (c .before .before .before .before .before .before .before .before .before .before .before .args .s .now)))) ∙ ap (λ (l : List ℕ). quoted (drop 7 (c .before .before .before .before .before .before .before .before .before .before .before .args .s .now)) ++ l) (sym z) in
-    lays-of e (lays-placed _ (c .before .before .before .put-quoted .ensures .0) (c .ended .ensures) (sym (length-quoted (c .before .before .before .before .before .before .before .rest .result .now))))
-
-flags-code-requires : tie.Need-flags-code-requires
-flags-code-requires c κs = search needs
+returns c = let z : collation (settingsIn (c .before .before .before .before .before .before .before .before .before .before .before .args .set .now)) (getD (c .before .before .before .before .before .before .before .before .before .before .before .args .s .now) 6 0) ≡ [] = simp (eq-eqb (getD (c .before .before .before .before .before .before .before .before .before .before .before .args .s .now) 6 0) 0 (sym (c .before .before .before .before .before .before .byte-at .ensures .0) ∙ c .before .before .before .before .before .if1 .taken)) in let e : quoted (c .before .before .before .before .before .before .before .rest .result .now) ≡ quoted (drop 7 (c .before .before .before .before .before .before .before .before .before .before .before .args .s .now)) ++ collation (settingsIn (c .before .before .before .before .before .before .before .before .before .before .before .args .set .now)) (getD (c .before .before .before .before .before .before .before .before .before .before .before .args .s .now) 6 0) = ap quoted (c .before .before .before .before .before .before .before .rest .ensures) ∙ sym (append-nil (quoted (drop 7 (c .before .before .before .before .before .before .before .before .before .before .before .args .s .now)))) ∙ ap (λ (l : List ℕ). quoted (drop 7 (c .before .before .before .before .before .before .before .before .before .before .before .args .s .now)) ++ l) (sym z) in lays-of e (lays-placed _ (c .before .before .before .put-quoted .ensures .0) (c .ended .ensures) (sym (length-quoted (c .before .before .before .before .before .before .before .rest .result .now))))
 
 name-of-requires : tie.Need-name-of-requires
 name-of-requires c κs = search needs
@@ -75,11 +66,7 @@ same-length-2 : tie.Need-same-length-2
 same-length-2 c = search needs
 
 returns-2 : tie.Need-returns-2
-returns-2 c =
-    let q : getD (c .before .before .before .before .before .before .before .before .before .before .before .before .before .before .args .s .now) 6 0 ≡ c .before .before .before .before .before .before .before .before .before .byte-at .result = sym (c .before .before .before .before .before .before .before .before .before .byte-at .ensures .0) in
-    let z : collation (settingsIn (c .before .before .before .before .before .before .before .before .before .before .before .before .before .before .args .set .now)) (getD (c .before .before .before .before .before .before .before .before .before .before .before .before .before .before .args .s .now) 6 0) ≡ collate (c .before .before .before .before .before .before .name-of .result .now) = ap (collation (settingsIn (c .before .before .before .before .before .before .before .before .before .before .before .before .before .before .args .set .now))) q ∙ simp (ne-eqb _ _ (c .before .before .before .before .before .before .before .before .if1 .left)) (ap (λ (k : ℕ). collate (nameOf (settingsIn (c .before .before .before .before .before .before .before .before .before .before .before .before .before .before .args .set .now)) k)) (sym (c .before .before .before .before .before .before .before .flags-code .ensures)) ∙ ap collate (sym (c .before .before .before .before .before .before .name-of .ensures))) in
-    let e : quoted (c .before .before .before .before .before .before .before .before .before .before .rest .result .now) ++ collate (c .before .before .before .before .before .before .name-of .result .now) ≡ quoted (drop 7 (c .before .before .before .before .before .before .before .before .before .before .before .before .before .before .args .s .now)) ++ collation (settingsIn (c .before .before .before .before .before .before .before .before .before .before .before .before .before .before .args .set .now)) (getD (c .before .before .before .before .before .before .before .before .before .before .before .before .before .before .args .s .now) 6 0) = ap (λ (l : List ℕ). quoted l ++ collate (c .before .before .before .before .before .before .name-of .result .now)) (c .before .before .before .before .before .before .before .before .before .before .rest .ensures) ∙ ap (λ (l : List ℕ). quoted (drop 7 (c .before .before .before .before .before .before .before .before .before .before .before .before .before .before .args .s .now)) ++ l) (sym z) in
-    lays-of e (lays-placed _ (c .before .before .before .before .put-collated .ensures .0) (counted-twice _ _ _ (c .before .ended2 .ensures) (c .ended3 .ensures)) (sym (length-append (quoted (c .before .before .before .before .before .before .before .before .before .before .rest .result .now)) (collate (c .before .before .before .before .before .before .name-of .result .now)) ∙ (let y : length (quoted (c .before .before .before .before .before .before .before .before .before .before .rest .result .now)) + length (collate (c .before .before .before .before .before .before .name-of .result .now)) ≡ length (c .before .before .before .before .before .before .before .before .before .before .rest .result .now) + 2 + (length (c .before .before .before .before .before .before .name-of .result .now) + 9) = rw (length-quoted, length-collate) refl in y))))
+returns-2 c = let q : getD (c .before .before .before .before .before .before .before .before .before .before .before .before .before .args .s .now) 6 0 ≡ c .before .before .before .before .before .before .before .before .byte-at .result = sym (c .before .before .before .before .before .before .before .before .byte-at .ensures .0) in let z : collation (settingsIn (c .before .before .before .before .before .before .before .before .before .before .before .before .before .args .set .now)) (getD (c .before .before .before .before .before .before .before .before .before .before .before .before .before .args .s .now) 6 0) ≡ collate (c .before .before .before .before .before .before .name-of .result .now) = ap (collation (settingsIn (c .before .before .before .before .before .before .before .before .before .before .before .before .before .args .set .now))) q ∙ simp (ne-eqb _ _ (c .before .before .before .before .before .before .before .if1 .left)) (ap collate (sym (c .before .before .before .before .before .before .name-of .ensures))) in let e : quoted (c .before .before .before .before .before .before .before .before .before .rest .result .now) ++ collate (c .before .before .before .before .before .before .name-of .result .now) ≡ quoted (drop 7 (c .before .before .before .before .before .before .before .before .before .before .before .before .before .args .s .now)) ++ collation (settingsIn (c .before .before .before .before .before .before .before .before .before .before .before .before .before .args .set .now)) (getD (c .before .before .before .before .before .before .before .before .before .before .before .before .before .args .s .now) 6 0) = ap (λ (l : List ℕ). quoted l ++ collate (c .before .before .before .before .before .before .name-of .result .now)) (c .before .before .before .before .before .before .before .before .before .rest .ensures) ∙ ap (λ (l : List ℕ). quoted (drop 7 (c .before .before .before .before .before .before .before .before .before .before .before .before .before .args .s .now)) ++ l) (sym z) in lays-of e (lays-placed _ (c .before .before .before .before .put-collated .ensures .0) (counted-twice _ _ _ (c .before .ended2 .ensures) (c .ended3 .ensures)) (sym (length-append (quoted (c .before .before .before .before .before .before .before .before .before .rest .result .now)) (collate (c .before .before .before .before .before .before .name-of .result .now)) ∙ (let y : length (quoted (c .before .before .before .before .before .before .before .before .before .rest .result .now)) + length (collate (c .before .before .before .before .before .before .name-of .result .now)) ≡ length (c .before .before .before .before .before .before .before .before .before .rest .result .now) + 2 + (length (c .before .before .before .before .before .before .name-of .result .now) + 9) = rw (length-quoted, length-collate) refl in y))))
 
 pub put-str-spec : {M : Type 1} → statement M
 put-str-spec =
@@ -92,7 +79,6 @@ put-str-spec =
     ended-requires
     same-length
     returns
-    flags-code-requires
     name-of-requires
     put-collated-requires
     add-ended-2

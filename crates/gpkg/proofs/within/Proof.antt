@@ -1,15 +1,8 @@
 -- What the calls ensure, put together.
 use borrow.Author.Needs.{needs}
 use native.Mathlib.Omega.{arith}
-use mathlib.Core.Path.{_≡_, refl, ap, sym, _∙_, subst}
-use mathlib.Core.List.{List, [], _∷_, _++_, append-assoc, append-nil}
-use mathlib.Core.Bool.{Bool, true, false}
-use Prim.Native.Nat.{ℕ, _+_, _-_, _≤_, _<_, min}
-use lib.ListN.{length, getD, take, drop, length-take, length-drop}
-use denote.Ref.{now}
-use borrow.Author.Tests.{eq-eqb, ne-eqb, lt-ltb, le-ltb, le-leb, lt-leb}
-use Rattle.gpkg.proofs.LaysLaws.{lays-placed, lays-none, lays-of, lays-then}
-use Rattle.choice.specs.Choice.{between}
+use Prim.Native.Nat.{_-_}
+use borrow.Author.Tests.{le-leb, lt-leb}
 use lib.Dec.{leb}
 use Rattle.gpkg.proofs.within.Statement.{statement}
 use Rattle.gpkg.proofs.within.Tie as tie
