@@ -55,8 +55,9 @@ def main():
     paths = read_paths(sys.argv[3]) if len(sys.argv) == 4 else {}
     with open(sys.argv[1], encoding='utf-8') as f:
         text = answers.get('TOP', '') + f.read()
+    text = fill(text, answers['A'], paths)
     with open(sys.argv[1], 'w', encoding='utf-8') as f:
-        f.write(fill(text, answers['A'], paths))
+        f.write(text)
 
 
 if __name__ == '__main__':
