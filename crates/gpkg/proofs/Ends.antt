@@ -14,7 +14,7 @@ use Rattle.sql.specs.declared.End.the-variants.{Column, Instant, Other, Open, N
 use Rattle.sql.specs.declared.Operand.the-variants.{Single, Interval}
 use Rattle.gpkg.specs.Text.{isId, startOf, stopOf}
 use Rattle.gpkg.specs.Plan.{Inside, part, Is, IsOperand, Stands, EndOf, sound}
-use Rattle.gpkg.proofs.Records.{kindOf, bodyOf, kind-at, beyond, part-at, ends-at, size-of, long}
+use Rattle.gpkg.proofs.Records.{kindOf, bodyOf, kind-at, beyond, part-at, ends-at, size-of, long-at}
 use Rattle.gpkg.proofs.Literals.{id-no, id-true, body-at}
 
 never : {A : Type 0} → ⊥ → A
@@ -25,10 +25,7 @@ stands-kind {s} {a} {z} {x} h = kind-at s a x (h .rest) (h .there)
 
 -- a record has its six bytes
 pub stands-long : {s : List ℕ} {a z : ℕ} {x : Tree} → Stands s a z x → 6 ≤ length s - a
-stands-long {s} {a} {z} {x} h =
-    let e = ends-at s a x (h .rest) (h .there) (h .inside) in
-    let l = long x in
-    omega arith
+stands-long {s} {a} {z} {x} h = long-at s a x (h .rest) (h .there)
 
 pub at-six : (a n : ℕ) → 6 ≤ n - a → a + 6 ≡ min (a + 6) n
 at-six a n h = omega arith

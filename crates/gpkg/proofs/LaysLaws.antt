@@ -54,7 +54,7 @@ lays-then {at} {t} {u} {l} {m} {n} {p} {r} x y = record {
       y .laid (omega arith) (omega arith) ∙ rw (q, a) (sets-append t u l at);
 }
 
-no-bytes : (t : List ℕ) → length t ≡ 0 → t ≡ []
+pub no-bytes : (t : List ℕ) → length t ≡ 0 → t ≡ []
 no-bytes [] h = refl
 no-bytes (x ∷ t) h = absurd (let v : ⊥ = omega arith in v)
 
@@ -66,16 +66,12 @@ lays-kept {at} {t} {l} {r} n e p z = record {
   laid = λ h g. ap (λ (x : List ℕ). sets l at x) (sym (no-bytes t (e h)));
 }
 
-empty : (t : List ℕ) (at : ℕ) → 65536 ≤ at → at + length t ≤ 65536 → t ≡ []
-empty [] at a h = refl
-empty (x ∷ t) at a h = absurd (let v : ⊥ = omega arith in v)
-
 -- past the limit
 pub lays-past : {at : ℕ} (t l : List ℕ) → 65536 ≤ at → Lays at t l l 65536
 lays-past {at} t l a = record {
   place = omega arith;
   kept = refl;
-  laid = λ h g. ap (λ (x : List ℕ). sets l at x) (sym (empty t at a g));
+  laid = λ h g. ap (λ (x : List ℕ). sets l at x) (sym (no-bytes t (omega arith)));
 }
 
 moved : (out : List ℕ) (at e : ℕ) (t : List ℕ) → e ≡ placedEnd out at t → at < e → e ≡ at + length t

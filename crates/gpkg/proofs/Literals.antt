@@ -11,7 +11,7 @@ use Rattle.record.specs.Record.{le16, recordOf}
 use Rattle.tree.specs.Tree.{Tree, Trees, encode, encodes, null, unbounded, bool, num, str, date, timestamp, spatial, id, monadic, dyadic, function, array, interval, none, _then_}
 use Rattle.gpkg.specs.Text.{isLiteral, allLiteral, isId, isLiteralOrId}
 use Rattle.gpkg.specs.Plan.{EndOf}
-use Rattle.gpkg.proofs.Records.{kindOf, bodyOf, shape, kind-at, beyond, long}
+use Rattle.gpkg.proofs.Records.{kindOf, bodyOf, shape, kind-at, beyond, long, long-at}
 
 never : {A : Type 0} → ⊥ → A
 never v = absurd v
@@ -170,11 +170,7 @@ front {s} {p} {t} h l = go (l .us) (l .there) (l .same)
 
 -- what is left has room for a record
 pub left-long : {s : List ℕ} {p : ℕ} {t : Tree} → p < length s → Left s p t → 6 ≤ length s - p
-left-long {s} {p} h l =
-    let f = front h l in
-    let a : length s - p ≡ length (encode (f .u)) + length (encodes (f .vs)) = sym (length-drop p s) ∙ ap length (f .at) ∙ length-append (encode (f .u)) (encodes (f .vs)) in
-    let b = long (f .u) in
-    omega arith
+left-long {s} {p} h l = let f = front h l in long-at s p (f .u) (encodes (f .vs)) (f .at)
 
 pub left-array : {s : List ℕ} {p k : ℕ} {t : Tree} → p < length s → k ≡ le16 s (p + 4) → k ≡ 12 → Left s p t → Left s (p + 6) t
 unfolding isLiteral

@@ -1,6 +1,5 @@
 -- A node's text by its parts: around its operand, around its operator, as a call, or its template filled.
-use Prim.Native.Nat.{ℕ, zero, suc, _+_, _<_}
-use borrow.Author.Tests.{lt-leb}
+use Prim.Native.Nat.{_≤_, ℕ, zero, suc, _+_, _<_}
 use Rattle.choice.specs.ChoiceLaws.{between-true}
 use mathlib.Core.Path.{_≡_, refl, ap, sym, _∙_}
 use mathlib.Core.List.{List, [], _∷_, _++_, append-assoc, append-nil}
@@ -177,15 +176,15 @@ module _ (op : ℕ) (w : List ℕ) (b : Bool) where
 never : {A : Type 0} → _≡_ {A = Bool} true false → A
 never e = absurd (let z : _≡_ {A = ℕ} 0 1 = cc in let v : ⊥ = omega arith in v)
 
--- what lies in a range lies outside of each range above it, and of each below it
-pub apart : (a n b c d : ℕ) → between a n b ≡ true → b < c → between c n d ≡ false
-apart a n b c d e h = let r = between-true a n b e in simp (lt-leb c n (let v : n < c = omega (arith, r .1) in v))
-
-pub below : (a n b c d : ℕ) → between c n d ≡ true → b < c → between a n b ≡ false
-below a n b c d e h = go (between a n b) refl
+-- what lies in a range lies outside of each range that does not meet it
+pub apart : (a n b c d : ℕ) → between a n b ≡ true → (c ≤ b → a ≤ d → ⊥) → between c n d ≡ false
+apart a n b c d e h = go (between c n d) refl
   where
-    go : (z : Bool) → between a n b ≡ z → z ≡ false
-    go true w = let r = between-true a n b w in let q = between-true c n d e in absurd (let v : ⊥ = omega (arith, r .1, q .0) in v)
+    go : (z : Bool) → between c n d ≡ z → z ≡ false
+    go true w =
+        let r = between-true a n b e in
+        let q = between-true c n d w in
+        absurd (h (let v : c ≤ b = omega (arith, r .1, q .0) in v) (let v : a ≤ d = omega (arith, r .0, q .1) in v))
     go false w = refl
 
 bound-0 : (g : Settings) (u : Tree) → boundText u (children g u) 0 ≡ text g (first (itemsOf u))

@@ -1,7 +1,7 @@
 -- Where the operands of a node stand, BETWEEN's bounds, and what a temporal node's four ends are.
 use Prim.Native.Nat.{ℕ, _+_, _-_, _≤_, _<_, min}
 use mathlib.Core.Path.{_≡_, refl, ap, sym, _∙_}
-use mathlib.Core.List.{List, [], _∷_, _++_, append-nil}
+use mathlib.Core.List.{List, [], _++_, append-nil}
 use mathlib.Core.Bool.{Bool, true, false}
 use native.Mathlib.Omega.{arith}
 use lib.ListN.{length, getD, drop, length-drop, drop-of-length-le}
@@ -22,6 +22,7 @@ use Rattle.gpkg.proofs.Records.{kindOf, bodyOf, beyond, ends-at, size-o
 use Rattle.gpkg.proofs.Literals.{body-at}
 use Rattle.gpkg.proofs.Ends.{stands-kind, stands-part, both-first, both-second}
 use Rattle.gpkg.proofs.Nodes.{is-twin}
+use Rattle.gpkg.proofs.LaysLaws.{no-bytes}
 
 monadic-of : (x : Tree) → kindOf x ≡ 9 → (o : Op) × ((t : Tree) × (x ≡ monadic o t))
 monadic-of null e = absurd (let v : ⊥ = omega arith in v)
@@ -71,10 +72,6 @@ no-items (dyadic o t u) e = refl
 no-items (function n ts) e = refl
 no-items (array ts) e = absurd (e refl)
 no-items (interval t u) e = refl
-
-nil-of : (l : List ℕ) → length l ≡ 0 → l ≡ []
-nil-of [] e = refl
-nil-of (x ∷ l) e = absurd (let v : ⊥ = omega arith in v)
 
 -- the operand of a monadic node that stands at p
 under-at : (s : List ℕ) (p : ℕ) (o : Op) (t : Tree) (rest : List ℕ) → drop p s ≡ encode (monadic o t) ++ rest → drop (p + 8) s ≡ encode t ++ rest
@@ -167,7 +164,7 @@ unfolding itemsOf sound
 items-stand {s} {m} {p} {k} {u} h e q l =
     let w = items-of u (sym (stands-kind h) ∙ sym e ∙ q) in
     let en = ends-at s m u (h .rest) (h .there) (h .inside) in
-    let r : h .rest ≡ [] = nil-of (h .rest) (omega (arith, h .past)) in
+    let r : h .rest ≡ [] = no-bytes (h .rest) (omega (arith, h .past)) in
     let z = size-of u in
     let pp : p ≡ m + 6 = omega (arith, h .past) in
     record {

@@ -125,6 +125,13 @@ module _ (s : List ℕ) (p : ℕ) (x : Tree) (rest : List ℕ) (at : drop p s �
 pub long : (t : Tree) → 6 ≤ length (encode t)
 long t = let e = size-of t in omega arith
 
+-- where a record stands there are at least its six bytes
+pub long-at : (s : List ℕ) (p : ℕ) (x : Tree) (rest : List ℕ) → drop p s ≡ encode x ++ rest → 6 ≤ length s - p
+long-at s p x rest e =
+    let a : length s - p ≡ length (encode x) + length rest = sym (length-drop p s) ∙ ap length e ∙ length-append (encode x) rest in
+    let b = long x in
+    omega arith
+
 -- Where a record ends, by its length field.
 
 module _ (s : List ℕ) (p n : ℕ) (e : n ≡ le32 s p) (low : p ≤ length s) (small : length s ≤ 32768) where

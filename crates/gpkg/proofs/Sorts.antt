@@ -22,7 +22,7 @@ use Rattle.gpkg.specs.Plan.{Are, Node, one, two, nodeEnds, part, slot}
 use Rattle.gpkg.proofs.Records.{kindOf}
 use Rattle.gpkg.proofs.Literals.{kind-whole}
 use Rattle.gpkg.proofs.Ends.{stands-part}
-use Rattle.gpkg.proofs.Nodes.{is-between, is-spatial, is-temporal, apart, below, temporal-fills}
+use Rattle.gpkg.proofs.Nodes.{is-between, is-spatial, is-temporal, apart, temporal-fills}
 
 id-kind : (t : Tree) → eqb (kindOf t) 8 ≡ isId t
 unfolding isId
@@ -88,8 +88,8 @@ unfolding nodeEnds
 template-fills g (one o x k n e f) h r ea eb ew = absurd (let v : ⊥ = omega (arith, k) in v)
 template-fills {s} {op} g (two o x y k n p q) h {e} r ea eb ew =
     let c : between 26 (opNumber o) 40 ≡ true = ap (λ (j : ℕ). between 26 j 40) (sym n) ∙ h in
-    let b : isBetween o ≡ false = is-between o ∙ apart 26 (opNumber o) 40 47 48 c (omega arith) in
-    let z : isSpatial o ≡ false = is-spatial o ∙ below 18 (opNumber o) 25 26 40 c (omega arith) in
+    let b : isBetween o ≡ false = is-between o ∙ apart 26 (opNumber o) 40 47 48 c (λ x y. let v : ⊥ = omega arith in v) in
+    let z : isSpatial o ≡ false = is-spatial o ∙ apart 26 (opNumber o) 40 18 25 c (λ x y. let v : ⊥ = omega arith in v) in
     temporal-fills g o x y b z (is-temporal o ∙ c)
     ∙ ap (fill (slot g (endsOf x y)))
     (sym (ew ∙ same-columns op o x y _ _ (columns e) n (ea ∙ kind-interval _ x (stands-part p .1)) (eb ∙ kind-interval _ y (stands-part q .1)) (same-column x y r)))

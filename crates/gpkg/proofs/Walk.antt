@@ -608,7 +608,7 @@ spatial-step {s} {op} {m} g (two c t u k n p q) h {x} {y} {a} {b} ex ey ea eb l1
     let et = stands-part p .1 in
     let eu = stands-part q .1 in
     let d : between 18 (opNumber c) 25 ≡ true = ap (λ (j : ℕ). between 18 j 25) (sym n) ∙ h in
-    let w : isBetween c ≡ false = is-between c ∙ apart 18 (opNumber c) 25 47 48 d (omega arith) in
+    let w : isBetween c ≡ false = is-between c ∙ apart 18 (opNumber c) 25 47 48 d (λ x y. let v : ⊥ = omega arith in v) in
     let xt : x ≡ isId t = ex ∙ kind-id _ t et in
     let yu : y ≡ isId u = ey ∙ kind-id _ u eu in
     let av : a ≡ both (between 21 (opNumber c) 23) (both (isId t) (negated (isId u))) =
