@@ -8,8 +8,8 @@ use lib.Dec.{eqb, ltb, leb}
 use lib.ListN.{length, getD, drop, length-drop}
 use lib.Seq.{drop-cons, drop-length}
 use borrow.Author.Tests.{eq-eqb, ne-eqb, ltb-true, leb-true}
-use Rattle.choice.specs.Choice.{pick, both, all, some, same}
-use Rattle.choice.specs.ChoiceLaws.{same-refl, same-true, both-true}
+use Rattle.prelude.specs.Choice.{pick, both, all, some, same}
+use Rattle.prelude.specs.ChoiceLaws.{same-refl, same-true, both-true}
 use Rattle.charset.specs.Charset.{upper, uppers, reservedWords, reserved}
 use Rattle.charset.specs.WordKey.{keyOf, Bytes, mayBe}
 

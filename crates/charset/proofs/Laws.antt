@@ -8,7 +8,7 @@ use lib.Dec.{eqb, leb}
 use lib.ListN.{length, getD, take, drop}
 use lib.Seq.{take-all}
 use borrow.Author.Tests.{ne-eqb, le-leb, lt-leb}
-use Rattle.choice.specs.Choice.{pick, both, either, all}
+use Rattle.prelude.specs.Choice.{pick, both, either, all}
 use Rattle.charset.specs.Charset.{letter, digit, nameStart, nameByte}
 
 -- a test chosen by itself

@@ -4,7 +4,8 @@ use mathlib.Core.List.{List, [], _∷_, map}
 use mathlib.Core.Bool.{Bool}
 use lib.ListN.{length, getD}
 use lib.Dec.{leb, eqb}
-use Rattle.choice.specs.Choice.{pick, both, either, negated, between, all, some, same}
+use Rattle.prelude.specs.Choice.{pick, both, either, negated, between, all, some, same}
+use Rattle.prelude.specs.Bytes.{bytes}
 
 -- A to Z and a to z
 unfoldable pub letter : ℕ → Bool
@@ -32,20 +33,20 @@ uppers s = map upper s
 -- the words that are no names: AND BETWEEN COLLATE DIV FALSE IN IS ISNULL LIKE NOT NOTNULL NULL OR TRUE
 unfoldable pub reservedWords : List (List ℕ)
 reservedWords =
-    (65 ∷ 78 ∷ 68 ∷ [])
-    ∷ (66 ∷ 69 ∷ 84 ∷ 87 ∷ 69 ∷ 69 ∷ 78 ∷ [])
-    ∷ (67 ∷ 79 ∷ 76 ∷ 76 ∷ 65 ∷ 84 ∷ 69 ∷ [])
-    ∷ (68 ∷ 73 ∷ 86 ∷ [])
-    ∷ (70 ∷ 65 ∷ 76 ∷ 83 ∷ 69 ∷ [])
-    ∷ (73 ∷ 78 ∷ [])
-    ∷ (73 ∷ 83 ∷ [])
-    ∷ (73 ∷ 83 ∷ 78 ∷ 85 ∷ 76 ∷ 76 ∷ [])
-    ∷ (76 ∷ 73 ∷ 75 ∷ 69 ∷ [])
-    ∷ (78 ∷ 79 ∷ 84 ∷ [])
-    ∷ (78 ∷ 79 ∷ 84 ∷ 78 ∷ 85 ∷ 76 ∷ 76 ∷ [])
-    ∷ (78 ∷ 85 ∷ 76 ∷ 76 ∷ [])
-    ∷ (79 ∷ 82 ∷ [])
-    ∷ (84 ∷ 82 ∷ 85 ∷ 69 ∷ [])
+    (bytes "AND")
+    ∷ (bytes "BETWEEN")
+    ∷ (bytes "COLLATE")
+    ∷ (bytes "DIV")
+    ∷ (bytes "FALSE")
+    ∷ (bytes "IN")
+    ∷ (bytes "IS")
+    ∷ (bytes "ISNULL")
+    ∷ (bytes "LIKE")
+    ∷ (bytes "NOT")
+    ∷ (bytes "NOTNULL")
+    ∷ (bytes "NULL")
+    ∷ (bytes "OR")
+    ∷ (bytes "TRUE")
     ∷ []
 
 -- in any letter case one of them

@@ -4,7 +4,7 @@ use mathlib.Core.List.{List, [], _∷_}
 use mathlib.Core.Bool.{Bool}
 use lib.Dec.{eqb}
 use lib.ListN.{length, getD}
-use Rattle.choice.specs.Choice.{both, some}
+use Rattle.prelude.specs.Choice.{both, some}
 use Rattle.charset.specs.Charset.{reservedWords}
 
 abbrev pub keyOf : List ℕ → ℕ

@@ -1,7 +1,7 @@
 ghost use mathlib.Core.Path.{_≡_};
 ghost use Prim.Native.Nat.{_≤_, _<_};
 ghost use lib.ListN.{length};
-ghost use Rattle.choice.specs.Choice.{between, all};
+ghost use Rattle.prelude.specs.Choice.{between, all};
 ghost use Rattle.charset.specs.Charset.{letter, digit, nameStart, nameByte, upper, uppers, reserved, name, strByte, spatialByte};
 ghost use Rattle.charset.specs.WordKey.{keyOf, Bytes, mayBe};
 

@@ -3,7 +3,7 @@ use Prim.Native.Nat.{ℕ, _%_}
 use mathlib.Core.List.{List, [], _∷_}
 use mathlib.Core.Bool.{Bool}
 use lib.Dec.{eqb, leb}
-use Rattle.choice.specs.Choice.{pick, both, either, negated, between, some}
+use Rattle.prelude.specs.Choice.{pick, both, either, negated, between, some}
 
 -- a leap year: each fourth, but of the centuries only each fourth
 unfoldable pub leap : ℕ → Bool

@@ -1,7 +1,7 @@
 ghost use mathlib.Core.Path.{_≡_};
 ghost use Prim.Native.Nat.{_%_};
 ghost use lib.Dec.{eqb, leb};
-ghost use Rattle.choice.specs.Choice.{between};
+ghost use Rattle.prelude.specs.Choice.{between};
 ghost use Rattle.civil.specs.Civil.{leap, daysIn, validDate, validTime};
 
 const YEAR_LIMIT: usize = 9999;

@@ -5,7 +5,7 @@ use mathlib.Core.List.{List, _++_, append-assoc}
 use mathlib.Core.Bool.{Bool, true, false}
 use native.Mathlib.Omega.{arith}
 use lib.ListN.{length, drop, length-append}
-use Rattle.choice.specs.Choice.{both}
+use Rattle.prelude.specs.Choice.{both}
 use Rattle.record.specs.Record.{le16}
 use Rattle.tree.specs.Tree.{Tree, encode, null, unbounded, bool, num, str, date, timestamp, spatial, id, monadic, dyadic, function, array, interval}
 use Rattle.tree.specs.Placed.{isInterval}

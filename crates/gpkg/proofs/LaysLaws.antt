@@ -7,7 +7,7 @@ use lib.ListN.{length, length-append}
 use lib.Seq.{sets}
 use Rattle.literal.specs.Placed.{placed, placedEnd, fits}
 use mathlib.Core.Bool.{Bool, true, false}
-use Rattle.choice.specs.Choice.{pick}
+use Rattle.prelude.specs.Choice.{pick}
 use Rattle.literal.specs.PlacedLaws.{sets-append, placed-fits, length-placed}
 use Rattle.gpkg.specs.Lays.{Lays, capped}
 

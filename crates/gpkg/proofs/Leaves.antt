@@ -7,7 +7,7 @@ use native.Mathlib.Omega.{arith}
 use lib.IntN.{ℤ, natAbs}
 use lib.Dec.{eqb, leb}
 use borrow.Author.Tests.{leb-true, ltb-true}
-use Rattle.choice.specs.Choice.{pick}
+use Rattle.prelude.specs.Choice.{pick}
 use Rattle.record.specs.Record.{le, recordOf}
 use Rattle.tree.specs.Limits.{mantissaLimit}
 use Rattle.tree.specs.Parse.{le64, signed, mantissa}

@@ -6,7 +6,7 @@ use mathlib.Core.Bool.{Bool, true, false}
 use native.Mathlib.Omega.{arith}
 use lib.ListN.{length, drop, length-append, length-drop, drop-of-length-le}
 use lib.Seq.{drop-drop}
-use Rattle.choice.specs.Choice.{both, either, between}
+use Rattle.prelude.specs.Choice.{both, either, between}
 use Rattle.record.specs.Record.{le16, recordOf}
 use Rattle.tree.specs.Tree.{Tree, Trees, encode, encodes, null, unbounded, bool, num, str, date, timestamp, spatial, id, monadic, dyadic, function, array, interval, none, _then_}
 use Rattle.gpkg.specs.Text.{isLiteral, allLiteral, isId, isLiteralOrId}

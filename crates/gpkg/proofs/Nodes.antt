@@ -1,13 +1,13 @@
 -- A node's text by its parts: around its operand, around its operator, as a call, or its template filled.
 use Prim.Native.Nat.{_≤_, ℕ, zero, suc, _+_, _<_}
-use Rattle.choice.specs.ChoiceLaws.{between-true}
+use Rattle.prelude.specs.ChoiceLaws.{between-true}
 use mathlib.Core.Path.{_≡_, refl, ap, sym, _∙_}
 use mathlib.Core.List.{List, [], _∷_, _++_, append-assoc, append-nil}
 use mathlib.Core.Bool.{Bool, true, false}
 use native.Mathlib.Omega.{arith}
 use lib.ListN.{getD}
 use lib.Dec.{eqb}
-use Rattle.choice.specs.Choice.{pick, both, either, negated, between, some}
+use Rattle.prelude.specs.Choice.{pick, both, either, negated, between, some}
 use Rattle.record.specs.Record.{le16, recordOf}
 use Rattle.op.specs.declared.Op.{Op}
 use Rattle.op.specs.declared.Op.the-variants.{Minus, Neg, CaseI, AccentI, STouches, SWithin, SOverlaps, IsLike, IsNotLike}

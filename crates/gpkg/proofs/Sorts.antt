@@ -1,7 +1,7 @@
 -- What the kind of a whole record says of its tree; the template of a temporal node.
 use Prim.Native.Nat.{ℕ, zero, suc, _-_}
 use borrow.Author.Tests.{le-ltb}
-use Rattle.choice.specs.Choice.{between}
+use Rattle.prelude.specs.Choice.{between}
 use mathlib.Core.Path.{_≡_, refl, ap, sym, _∙_}
 use mathlib.Core.List.{List}
 use mathlib.Core.Bool.{Bool, true, false}

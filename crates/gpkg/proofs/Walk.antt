@@ -12,8 +12,8 @@ use Rattle.sql.specs.TemplateLaws.{fill-append, spelt-append, digit-part, end-f
 use lib.Dec.{T, eqb, ltb, lt→ltb}
 use borrow.Author.Tests.{ltb-true, ltb-false, eqb-true, eq-eqb, ne-eqb}
 use Rattle.gpkg.proofs.Nodes.{is-between, is-spatial, is-temporal, apart, infix-parts, monadic-parts, between-parts, spatial-parts}
-use Rattle.choice.specs.Choice.{pick, both, negated, between, all}
-use Rattle.choice.specs.Table.{both-left, both-right}
+use Rattle.prelude.specs.Choice.{pick, both, negated, between, all}
+use Rattle.prelude.specs.Table.{both-left, both-right}
 use Rattle.record.specs.Record.{le16, recordOf}
 use Rattle.op.specs.declared.Op.{Op}
 use Rattle.op.specs.Op.{opNumber}

@@ -8,7 +8,7 @@ use lib.Dec.{ltb, leb, eqb}
 use lib.IntN.{natAbs}
 use Rattle.record.specs.Record.{le16, le32}
 use Rattle.tree.specs.Limits.{mantissaLimit}
-use Rattle.choice.specs.Choice.{pick, both, either, between}
+use Rattle.prelude.specs.Choice.{pick, both, either, between}
 use Rattle.op.specs.declared.Op.{Op}
 use Rattle.op.specs.declared.Op.the-variants.{Minus, Neg, CaseI, AccentI}
 use Rattle.op.specs.Op.{oneOf, isNullable, opNumber}

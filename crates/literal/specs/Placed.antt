@@ -5,7 +5,7 @@ use mathlib.Core.Bool.{Bool}
 use lib.ListN.{length}
 use lib.Seq.{sets}
 use lib.Dec.{leb}
-use Rattle.choice.specs.Choice.{pick}
+use Rattle.prelude.specs.Choice.{pick}
 
 -- n bytes from the place `at` lie within `out`
 abbrev pub fits : List ℕ → ℕ → ℕ → Bool

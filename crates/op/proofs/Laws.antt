@@ -8,7 +8,7 @@ use borrow.Author.Tests.{eq-eqb, lt-leb}
 use lib.Dec.{T, eqb, leb, eqb→eq}
 use lib.ListN.{length}
 use mathlib.Core.Logic.{inl, inr}
-use Rattle.choice.specs.Choice.{pick, either, negated, between, some}
+use Rattle.prelude.specs.Choice.{pick, either, negated, between, some}
 use Rattle.op.specs.declared.Op.{Op}
 use Rattle.op.specs.declared.Named.the-variants.{Is, NoOp}
 use Rattle.op.specs.Op.{opNumber, operators, opAt, opOf, isArithmetic, isArray, isComparison, isXtdComparison, isSpatial, isTemporal, isInstantOrInterval, isNullable}

@@ -6,8 +6,8 @@ use mathlib.Core.Bool.{Bool, true, false}
 use mathlib.Core.Bool.{not}
 use lib.Dec.{T, ltb, ltb→lt, eqb, eqb→eq}
 use lib.ListN.{length, getD}
-use Rattle.choice.specs.Choice.{both}
-use Rattle.choice.specs.Table.{both-left, both-right, at}
+use Rattle.prelude.specs.Choice.{both}
+use Rattle.prelude.specs.Table.{both-left, both-right, at}
 use native.Mathlib.Omega.{arith}
 use Rattle.op.specs.declared.Op.{Op}
 use Rattle.op.specs.declared.Op.the-variants.{Plus, Minus, Mult, Div, IntDiv, Mod, Exp, Neg, Eq, Neq, Lt, Gt, Lte, Gte, And, Or, CaseI, AccentI, SIntersects, SEquals, SDisjoint, STouches, SWithin, SOverlaps, SCrosses, SContains, TAfter, TBefore, TContains, TDisjoint, TDuring, TEquals, TFinishedBy, TFinishes, TIntersects, TMeets, TMetBy, TOverlappedBy, TOverlaps, TStartedBy, TStarts, AEquals, AContains, AContainedBy, AOverlaps, IsLike, IsNotLike, IsBetween, IsNotBetween, IsInList, IsNotInList, IsNull, IsNotNull}

@@ -3,7 +3,7 @@ use Prim.Native.Nat.{ℕ}
 use mathlib.Core.List.{List, [], _∷_}
 use mathlib.Core.Bool.{Bool}
 use lib.Dec.{ltb, eqb}
-use Rattle.choice.specs.Choice.{pick}
+use Rattle.prelude.specs.Choice.{pick}
 
 -- 0 below, 1 the same, 2 above: byte by byte, a shorter prefix first
 unfoldable pub order : List ℕ → List ℕ → ℕ

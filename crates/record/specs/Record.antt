@@ -3,7 +3,7 @@ use Prim.Native.Nat.{ℕ, zero, suc, _+_, _-_, _*_, _/_, _%_}
 use mathlib.Core.List.{List, [], _∷_, _++_}
 use lib.ListN.{length, getD}
 use lib.Dec.{ltb}
-use Rattle.choice.specs.Choice.{pick}
+use Rattle.prelude.specs.Choice.{pick}
 use Rattle.record.specs.declared.Frame.{Frame}
 use Rattle.record.specs.declared.Frame.the-variants.{Broken, Whole}
 

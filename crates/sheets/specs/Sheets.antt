@@ -5,7 +5,7 @@ use mathlib.Core.Bool.{Bool, true, false}
 use lib.Dec.{eqb}
 use lib.IntN.{ℤ, pos, negsuc}
 use lib.ListN.{replicate}
-use Rattle.choice.specs.Choice.{both, same}
+use Rattle.prelude.specs.Choice.{both, same}
 use Rattle.refusal.specs.declared.Refusal.{Refusal}
 use Rattle.refusal.specs.declared.Refusal.the-variants.{BadFrame, BadOperand}
 use Rattle.refusal.specs.Number.{numberOf}

@@ -7,7 +7,7 @@ use native.Mathlib.Omega.{arith}
 use lib.ListN.{length, take, getD, set}
 use lib.Seq.{take-suc, take-suc-set}
 use mathlib.Core.Bool.{Bool, true, false}
-use Rattle.choice.specs.Choice.{pick}
+use Rattle.prelude.specs.Choice.{pick}
 use Rattle.sql.specs.Condition.{Cond, and, or, isNotNull, notNull, brackets, print, checkId, checkIds}
 use Rattle.sql.specs.TemplateLaws.{digit-part}
 use Rattle.sql.specs.Template.{templateOf, spelt, partOf, parts, guardedText, guardedBothText, checkIdText, checkIdsText, eitherText}

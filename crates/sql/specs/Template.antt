@@ -3,7 +3,7 @@ use Prim.Native.Nat.{ℕ, _+_, _-_}
 use mathlib.Core.List.{List, [], _∷_, _++_}
 use mathlib.Core.Bool.{Bool}
 use lib.ListN.{take, getD}
-use Rattle.choice.specs.Choice.{pick, between}
+use Rattle.prelude.specs.Choice.{pick, between}
 use Rattle.sql.specs.Condition.{Cond, print}
 use Rattle.sql.specs.declared.Template as template
 

@@ -7,8 +7,8 @@ use native.Mathlib.Omega.{arith}
 use native.Mathlib.Nat.{add-sub-cancel-left}
 use lib.Dec.{T, ltb, leb, eqb, ltb→lt}
 use borrow.Author.Tests.{le-leb}
-use Rattle.choice.specs.Choice.{pick, both, between}
-use Rattle.choice.specs.Table.{both-left, both-right}
+use Rattle.prelude.specs.Choice.{pick, both, between}
+use Rattle.prelude.specs.Table.{both-left, both-right}
 use Rattle.sql.specs.Condition.{Cond, Sign, test, isNotNull, notNull, and, or, not, brackets, lt, gt, eq, ne, print, printSign, checkId, checkIds}
 use Rattle.sql.specs.Template.{fill, digitOf, templateOf, parts, partOf, spelt}
 use Rattle.sql.specs.Translators.{Translator, tAfter, tBefore, tContains, tDisjoint, tDuring, tEquals, tFinishedBy, tFinishes, tIntersects, tMeets, tMetBy, tOverlappedBy, tOverlaps, tStartedBy, tStarts, translate}

@@ -2,7 +2,7 @@
 use Prim.Native.Nat.{ℕ}
 use mathlib.Core.Bool.{Bool, true, false}
 use lib.Dec.{eqb}
-use Rattle.choice.specs.Choice.{pick}
+use Rattle.prelude.specs.Choice.{pick}
 use Rattle.sql.specs.Condition.{Cond, test, and, or, not, brackets, lt, gt, eq, ne, checkId, checkIds}
 
 -- whether the first and the second operand is an interval; which ends are columns

@@ -10,8 +10,8 @@ use lib.Dec.{eqb}
 use lib.ListN.{length, getD, take, drop, length-append}
 use lib.Seq.{take-append-seam, drop-append-seam, getD-append-seam, take-append-add, drop-append-add}
 use borrow.Author.Tests.{eq-eqb, ne-eqb, eqb-true}
-use Rattle.choice.specs.Choice.{pick, both, either, negated, between, all, some, same}
-use Rattle.choice.specs.ChoiceLaws.{both-true}
+use Rattle.prelude.specs.Choice.{pick, both, either, negated, between, all, some, same}
+use Rattle.prelude.specs.ChoiceLaws.{both-true}
 use Rattle.charset.specs.Charset.{letter, digit, nameStart, nameByte, upper, uppers, name, reserved, reservedWords, strByte}
 use Rattle.truth.specs.Lex.{NAME, QUOTED, TEXT, OPEN, CLOSE, LT, GT, LE, GE, EQ, NE, NOT, AND, OR, NULL, TRUE, FALSE, IS, END, Token, tokens, kind, body, rest, lexeme, quoted, quoteKind, run, spells, wordKind, signKind, signMore}
 use Rattle.truth.specs.LexLaws.{tokens-space, tokens-one}

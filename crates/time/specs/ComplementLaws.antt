@@ -5,8 +5,8 @@ use mathlib.Core.Path.{_≡_, refl, sym, _∙_}
 use mathlib.Core.List.{List}
 use mathlib.Core.Bool.{Bool, true, false, not}
 use lib.Dec.{eqb}
-use Rattle.choice.specs.Choice.{negated}
-use Rattle.choice.specs.ChoiceLaws.{both-true}
+use Rattle.prelude.specs.Choice.{negated}
+use Rattle.prelude.specs.ChoiceLaws.{both-true}
 use Rattle.order.specs.Order.{order}
 use Rattle.op.specs.declared.Op.the-variants.{TDisjoint, TIntersects}
 use Rattle.tree.specs.Tree.{Tree, null, unbounded, bool, num, str, date, timestamp, spatial, id, monadic, dyadic, function, array, interval}

@@ -6,7 +6,7 @@ use mathlib.Core.List.{List, [], _∷_, _++_, append-assoc}
 use mathlib.Core.Bool.{Bool, true, false}
 use native.Mathlib.Omega.{arith}
 use lib.Dec.{eqb}
-use Rattle.choice.specs.Choice.{pick}
+use Rattle.prelude.specs.Choice.{pick}
 use Rattle.charset.specs.Charset.{name}
 use Rattle.sql.specs.Condition as sql
 use Rattle.sql.specs.Condition.{Cond, print, checkId, checkIds}

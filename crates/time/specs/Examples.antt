@@ -5,8 +5,8 @@ use mathlib.Core.Path.{_≡_, refl}
 use mathlib.Core.List.{List, [], _∷_}
 use mathlib.Core.Bool.{true, false}
 use native.Mathlib.Omega.{arith}
-use Rattle.choice.specs.Choice.{some, same}
-use Rattle.choice.specs.Choice as choice
+use Rattle.prelude.specs.Choice.{some, same}
+use Rattle.prelude.specs.Choice as choice
 use Rattle.civil.specs.Civil.{leap, daysIn, validDate, validTime}
 use Rattle.order.specs.Order.{order, below}
 use Rattle.charset.specs.Charset as charset

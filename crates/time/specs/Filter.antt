@@ -3,7 +3,7 @@ use Prim.Native.Nat.{ℕ}
 use mathlib.Core.List.{List, [], _∷_}
 use mathlib.Core.Bool.{Bool, true, false}
 use lib.Dec.{eqb}
-use Rattle.choice.specs.Choice.{pick, both, either, between}
+use Rattle.prelude.specs.Choice.{pick, both, either, between}
 use Rattle.op.specs.declared.Op.{Op}
 use Rattle.op.specs.declared.Op.the-variants.{Neg, And, Or}
 use Rattle.op.specs.Op.{opNumber, oneOf, isTemporal, isNullable}

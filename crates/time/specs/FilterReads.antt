@@ -8,8 +8,8 @@ use native.Mathlib.Omega.{arith}
 use lib.Dec.{T, eqb, leb, ltb}
 use lib.ListN.{getD}
 use borrow.Author.Tests.{eqb-true, le-leb, ne-eqb}
-use Rattle.choice.specs.Choice.{pick, both, either, negated, between, all, some}
-use Rattle.choice.specs.ChoiceLaws.{both-true}
+use Rattle.prelude.specs.Choice.{pick, both, either, negated, between, all, some}
+use Rattle.prelude.specs.ChoiceLaws.{both-true}
 use Rattle.charset.specs.Charset.{name, strByte}
 use Rattle.op.specs.declared.Op.{Op}
 use Rattle.op.specs.declared.Op.the-variants.{Neg, And, Or, IsNull, IsNotNull, Eq, Neq, Lt, Gt, Lte, Gte}

@@ -5,7 +5,7 @@ use mathlib.Core.List.{List, [], _∷_}
 use mathlib.Core.Bool.{Bool, true, false}
 use lib.ListN.{getD}
 use lib.Dec.{eqb}
-use Rattle.choice.specs.Choice.{pick, both}
+use Rattle.prelude.specs.Choice.{pick, both}
 use Rattle.order.specs.Order.{below}
 use Rattle.op.specs.declared.Op.{Op}
 use Rattle.op.specs.declared.Op.the-variants.{IsNull, Eq, Neq, Lt, Gt, Lte}

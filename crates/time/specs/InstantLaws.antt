@@ -10,8 +10,8 @@ use lib.ListN.{length, getD, drop, drop-of-length-le}
 use lib.Seq.{drop-cons}
 use lib.Dec.{eqb, leb, ltb}
 use borrow.Author.Tests.{ltb-true, ltb-false, lt-ltb, le-ltb, le-leb, leb-true, eqb-true}
-use Rattle.choice.specs.Choice.{pick, both, between, some}
-use Rattle.choice.specs.ChoiceLaws.{both-true, between-true}
+use Rattle.prelude.specs.Choice.{pick, both, between, some}
+use Rattle.prelude.specs.ChoiceLaws.{both-true, between-true}
 use Rattle.charset.specs.Charset.{digit}
 use Rattle.civil.specs.Civil.{leap, daysIn, validDate, validTime}
 use Rattle.order.specs.Order.{order}

@@ -5,7 +5,7 @@ use mathlib.Core.List.{List, [], _∷_}
 use mathlib.Core.Bool.{Bool, true, false}
 use lib.ListN.{length, getD}
 use lib.Dec.{eqb}
-use Rattle.choice.specs.Choice.{pick, both, either, negated}
+use Rattle.prelude.specs.Choice.{pick, both, either, negated}
 use Rattle.charset.specs.Charset.{digit}
 use Rattle.civil.specs.Civil.{validDate, validTime}
 use Rattle.order.specs.Order.{order, below}

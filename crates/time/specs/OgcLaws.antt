@@ -5,8 +5,8 @@ use mathlib.Core.Path.{_≡_, refl, ap, _∙_}
 use mathlib.Core.List.{List, [], _∷_}
 use mathlib.Core.Bool.{Bool, true, false, false≢true}
 use lib.Dec.{eqb}
-use Rattle.choice.specs.Choice.{pick, both, either, negated, some, same}
-use Rattle.choice.specs.ChoiceLaws.{both-true}
+use Rattle.prelude.specs.Choice.{pick, both, either, negated, some, same}
+use Rattle.prelude.specs.ChoiceLaws.{both-true}
 use Rattle.civil.specs.Civil.{validDate, validTime}
 use Rattle.order.specs.Order.{order, below}
 use Rattle.order.specs.OrderLaws.{order-above}

@@ -12,7 +12,7 @@ use Rattle.truth.specs.Lex.{AND, OR, NOT, OPEN, CLOSE, LT, NE, Token, tokens, t
 use Rattle.truth.specs.LexLaws.{tokens-space, tokens-one}
 use Rattle.truth.specs.Grammar.{Ast, neg, conj, disj, Parsed, got, bad, then, simple, close, orE, orMore, andE, andMore, notE, test}
 use Rattle.truth.specs.Reading.{parse, bracketLimit}
-use Rattle.choice.specs.Choice.{same, between}
+use Rattle.prelude.specs.Choice.{same, between}
 use Rattle.charset.specs.Charset.{letter, digit, nameStart, nameByte, upper}
 
 -- what may stand behind a word: nothing, a space or a closing bracket

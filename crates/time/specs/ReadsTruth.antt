@@ -9,8 +9,8 @@ use native.Mathlib.Omega.{arith}
 use lib.Dec.{ltb}
 use lib.ListN.{length, getD}
 use borrow.Author.Tests.{le-ltb, ltb-false}
-use Rattle.choice.specs.Choice.{pick, both, either}
-use Rattle.choice.specs.ChoiceLaws.{both-true}
+use Rattle.prelude.specs.Choice.{pick, both, either}
+use Rattle.prelude.specs.ChoiceLaws.{both-true}
 use Rattle.refusal.specs.declared.Refusal.{Refusal}
 use Rattle.refusal.specs.declared.Refusal.the-variants.{TreeTooLong, BadOperand, TextTooLong, BufferTooShort}
 use Rattle.op.specs.Op.{opNumber, oneOf}

@@ -5,8 +5,8 @@ use Prim.Native.Nat.{ℕ, _-_, _≤_, _<_}
 use mathlib.Core.Path.{_≡_, refl, sym, ap, _∙_, subst}
 use mathlib.Core.List.{List, [], _∷_}
 use mathlib.Core.Bool.{Bool, true, false, false≢true}
-use Rattle.choice.specs.Choice.{pick, both, either, some}
-use Rattle.choice.specs.ChoiceLaws.{both-true}
+use Rattle.prelude.specs.Choice.{pick, both, either, some}
+use Rattle.prelude.specs.ChoiceLaws.{both-true}
 use Rattle.op.specs.declared.Op.{Op}
 use Rattle.op.specs.declared.Op.the-variants.{TDisjoint, TIntersects}
 use Rattle.op.specs.Op.{opNumber, oneOf, isTemporal}

@@ -7,8 +7,8 @@ use mathlib.Core.Bool.{Bool, true, false, false≢true}
 use mathlib.Core.Logic.{⊎-elim}
 use lib.Dec.{T, eqb}
 use borrow.Author.Tests.{eq-eqb, ne-eqb}
-use Rattle.choice.specs.Choice.{pick, both, either, negated, some}
-use Rattle.choice.specs.Table.{both-left, both-right}
+use Rattle.prelude.specs.Choice.{pick, both, either, negated, some}
+use Rattle.prelude.specs.Table.{both-left, both-right}
 use Rattle.order.specs.Order.{order}
 use Rattle.order.specs.OrderLaws.{order-same, order-above, order-below, order-trans, order-cases, below-is}
 use Rattle.op.specs.declared.Op.{Op}

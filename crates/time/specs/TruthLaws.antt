@@ -5,7 +5,7 @@ use mathlib.Core.Path.{_≡_, refl, sym, ap, _∙_}
 use mathlib.Core.List.{List}
 use mathlib.Core.Bool.{Bool, true, false}
 use mathlib.Core.Logic.{⊎-elim}
-use Rattle.choice.specs.Choice.{pick, both, either, negated}
+use Rattle.prelude.specs.Choice.{pick, both, either, negated}
 use Rattle.order.specs.Order.{order}
 use Rattle.order.specs.OrderLaws.{order-refl, order-same, order-above, order-below, order-cases}
 use Rattle.row.specs.Row.{val, Found, absent, has}

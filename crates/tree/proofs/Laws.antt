@@ -12,7 +12,7 @@ use lib.ListN.{length, getD, take, drop, length-drop, List·getD-eq-default}
 use lib.Seq.{take-all, drop-drop}
 use lib.Dec.{ltb, leb, eqb}
 use borrow.Author.Tests.{ltb-true, ltb-false, le-ltb, lt-ltb, le-leb, lt-leb, eq-eqb, ne-eqb}
-use Rattle.choice.specs.Choice.{pick, both, either, negated, some}
+use Rattle.prelude.specs.Choice.{pick, both, either, negated, some}
 use Rattle.tree.specs.Accepted.{settingsBody}
 use Rattle.tree.specs.Limits.{mantissaLimit, precisionLimit}
 use Rattle.record.specs.Record.{le16, le32}

@@ -4,7 +4,7 @@ use mathlib.Core.List.{List}
 use mathlib.Core.Bool.{Bool, true, false}
 use lib.ListN.{length, getD}
 use lib.Dec.{ltb, leb, eqb}
-use Rattle.choice.specs.Choice.{pick, both}
+use Rattle.prelude.specs.Choice.{pick, both}
 use Rattle.refusal.specs.declared.Refusal.the-variants.{BadSettings, TreeTooLong, BadOperand}
 use Rattle.record.specs.declared.Frame.{Frame}
 use Rattle.record.specs.declared.Frame.the-variants.{Broken, Whole}

@@ -10,7 +10,7 @@ use lib.ListN.{length, getD, take, drop, length-drop, take-append-drop, drop-of-
 use lib.Seq.{length-take-le, drop-drop, take-all}
 use lib.Dec.{ltb, leb, eqb}
 use borrow.Author.Tests.{ltb-false, le-ltb, eqb-true, leb-true}
-use Rattle.choice.specs.Choice.{pick, both}
+use Rattle.prelude.specs.Choice.{pick, both}
 use Rattle.refusal.specs.declared.Refusal.{Refusal}
 use Rattle.refusal.specs.declared.Refusal.the-variants.{BadSettings, TreeTooLong, BadOperand}
 use Rattle.record.specs.declared.Frame.{Frame}

@@ -11,7 +11,7 @@ use lib.Arith.{digits-div, digits-mod}
 use lib.IntN.{ℤ, pos, negsuc, natAbs}
 use lib.Dec.{ltb}
 use borrow.Author.Tests.{ltb-true, ltb-false, lt-ltb, le-ltb}
-use Rattle.choice.specs.Choice.{pick}
+use Rattle.prelude.specs.Choice.{pick}
 use Rattle.record.specs.Record.{le16, le32, le}
 use Rattle.tree.specs.Tree.{twos}
 use Rattle.tree.specs.Parse.{le64, signed}

@@ -14,7 +14,7 @@ use Rattle.refusal.specs.declared.Refusal.the-variants.{BadField}
 use Rattle.record.specs.declared.Frame.{Frame}
 use Rattle.record.specs.declared.Frame.the-variants.{Broken, Whole}
 use Rattle.record.specs.Record.{le16, le32, frame, le, recordOf}
-use Rattle.choice.specs.Choice.{pick, both, between, all}
+use Rattle.prelude.specs.Choice.{pick, both, between, all}
 use Rattle.charset.specs.Charset.{name, nameLimit, strByte, spatialByte}
 use Rattle.civil.specs.Civil.{validDate, validTime, daysIn, yearLimit}
 use Rattle.op.specs.declared.Op.{Op}

@@ -4,7 +4,7 @@ use mathlib.Core.Path.{_≡_}
 use mathlib.Core.Bool.{Bool, true}
 use lib.IntN.{natAbs}
 use lib.ListN.{length}
-use Rattle.choice.specs.Choice.{all}
+use Rattle.prelude.specs.Choice.{all}
 use Rattle.charset.specs.Charset.{name, strByte, spatialByte}
 use Rattle.civil.specs.Civil.{validDate, validTime}
 use Rattle.tree.specs.Limits.{mantissaLimit, scaleLimit, flagsLimit, textLimit}

@@ -5,7 +5,7 @@ use mathlib.Core.Bool.{Bool, true, false}
 use lib.IntN.{ℤ, pos, negsuc, natAbs}
 use lib.ListN.{length, getD, take, drop}
 use lib.Dec.{ltb, leb, eqb}
-use Rattle.choice.specs.Choice.{pick, both, either, negated, between, all}
+use Rattle.prelude.specs.Choice.{pick, both, either, negated, between, all}
 use Rattle.refusal.specs.declared.Refusal.{Refusal}
 use Rattle.refusal.specs.declared.Refusal.the-variants.{BadFrame, TooDeep, BadKindOrOperator, BadField}
 use Rattle.record.specs.declared.Frame.{Frame}

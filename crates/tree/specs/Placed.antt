@@ -4,7 +4,7 @@ use Prim.Native.Nat.{ℕ, suc}
 use mathlib.Core.List.{[], _∷_}
 use mathlib.Core.Bool.{Bool, true, false}
 use lib.Dec.{eqb}
-use Rattle.choice.specs.Choice.{pick, both, either, negated}
+use Rattle.prelude.specs.Choice.{pick, both, either, negated}
 use Rattle.op.specs.declared.Op.{Op}
 use Rattle.op.specs.declared.Op.the-variants.{IsBetween, IsNotBetween}
 use Rattle.op.specs.Op.{oneOf, isTemporal, isInstantOrInterval}

@@ -4,7 +4,7 @@ ghost use Prim.Native.Nat.{_+_, _-_, _*_, _≤_, _<_};
 ghost use lib.IntN.{natAbs};
 ghost use lib.Dec.{leb};
 ghost use lib.ListN.{length, getD, take, drop};
-ghost use Rattle.choice.specs.Choice.{pick, both};
+ghost use Rattle.prelude.specs.Choice.{pick, both};
 ghost use Rattle.record.specs.Record.{le16, le32};
 ghost use Rattle.tree.specs.Limits.{mantissaLimit};
 ghost use Rattle.tree.specs.Parse.{le64, signed, mantissa, namedAt, emptyBody, boolBody, numBody, strBody, dateBody, timestampBody, spatialBody, takesOne, takesTwo, readMonadic, readDyadic, readFunction, node, exactly, items};

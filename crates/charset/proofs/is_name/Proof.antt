@@ -2,7 +2,7 @@
 use borrow.Author.Tests.{le-leb, lt-leb}
 use mathlib.Core.Path.{_≡_, sym, _∙_}
 use mathlib.Core.Bool.{true, false}
-use Rattle.choice.specs.Choice.{all}
+use Rattle.prelude.specs.Choice.{all}
 use Rattle.charset.specs.Charset.{nameByte, name}
 use Rattle.charset.proofs.Laws.{rest-tells}
 use borrow.Author.Needs.{needs}

@@ -1,7 +1,7 @@
 -- `charset::is_reserved_key` meets its contract: a word is reserved exactly if its key is one of the fourteen.
 use mathlib.Core.Path.{_≡_, sym, ap, _∙_}
 use borrow.Author.Tests.{ne-eqb}
-use Rattle.choice.specs.Choice.{some}
+use Rattle.prelude.specs.Choice.{some}
 use Rattle.charset.specs.Charset.{reservedWords}
 use Rattle.charset.proofs.Keys.{keyed, keyed-none, reserved-by-key}
 use borrow.Author.Needs.{needs}

@@ -3,8 +3,8 @@ use mathlib.Core.Path.{_≡_, sym, _∙_}
 use Prim.Native.Nat.{_≤_, _-_}
 use borrow.Author.Needs.{needs}
 use lib.ListN.{length, drop}
-use Rattle.choice.specs.Choice.{all}
-use Rattle.choice.specs.ChoiceLaws.{all-next, all-not, all-end}
+use Rattle.prelude.specs.Choice.{all}
+use Rattle.prelude.specs.ChoiceLaws.{all-next, all-not, all-end}
 use Rattle.charset.specs.Charset.{strByte}
 use Rattle.charset.proofs.is_str_text.Statement.{statement}
 use Rattle.charset.proofs.is_str_text.Tie as tie

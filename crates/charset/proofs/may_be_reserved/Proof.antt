@@ -1,6 +1,6 @@
 -- `charset::may_be_reserved` meets its contract: at each letter the fourteen words leave the tests of length that the code makes.
 use borrow.Author.Tests.{eq-eqb, ne-eqb}
-use Rattle.choice.specs.Choice.{some}
+use Rattle.prelude.specs.Choice.{some}
 use Rattle.charset.specs.Charset.{reservedWords}
 use Rattle.charset.specs.WordKey.{mayBe}
 use Rattle.charset.proofs.Laws.{itself}

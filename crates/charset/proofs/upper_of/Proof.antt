@@ -3,7 +3,7 @@ use borrow.Author.Tests.{eq-eqb, ne-eqb, lt-ltb, le-ltb, le-leb, lt-leb, eqb-tru
 use Rattle.charset.specs.Charset.{letter, digit, nameStart, nameByte, upper, strByte, spatialByte, name}
 use mathlib.Core.Path.{sym, _∙_}
 use native.Mathlib.Omega.{arith}
-use Rattle.choice.specs.ChoiceLaws.{between-true}
+use Rattle.prelude.specs.ChoiceLaws.{between-true}
 use borrow.Author.Needs.{needs}
 use Rattle.charset.proofs.upper_of.Statement.{statement}
 use Rattle.charset.proofs.upper_of.Tie as tie

@@ -1,6 +1,6 @@
 -- `op::put_rest` meets its contract: each arm knows which operator it is, and the last that it is one of another group or without a spelling.
 use borrow.Author.Needs.{needs}
-use Rattle.choice.specs.Choice.{some}
+use Rattle.prelude.specs.Choice.{some}
 use Rattle.op.specs.Op.{isSpatial}
 use Rattle.op.specs.Spelling.{spelledAs}
 use Rattle.op.proofs.Laws.{arm-text, arm-beside, others, in-others}

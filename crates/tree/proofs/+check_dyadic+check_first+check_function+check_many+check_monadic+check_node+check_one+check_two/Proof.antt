@@ -4,7 +4,7 @@ use mathlib.Core.Path.{_≡_, refl, sym, ap, _∙_}
 use mathlib.Core.Bool.{Bool}
 use Prim.Native.Nat.{_+_, _-_, _*_, _≤_}
 use lib.ListN.{length, drop}
-use Rattle.choice.specs.Choice.{both}
+use Rattle.prelude.specs.Choice.{both}
 use Rattle.tree.proofs.WalkLaws as walk
 use Rattle.tree.proofs.WalkLaws.{grown}
 use Rattle.tree.specs.Parse.{many, items, node, choose, kinds}

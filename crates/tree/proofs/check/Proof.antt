@@ -1,7 +1,7 @@
 -- `tree::check` meets its contract: 1, then 2, then what the walk found, and 7 only where it found nothing else.
 use mathlib.Core.Path.{sym, ap, _∙_}
 use mathlib.Core.Bool.{Bool}
-use Rattle.choice.specs.Choice.{pick}
+use Rattle.prelude.specs.Choice.{pick}
 use Rattle.refusal.specs.declared.Refusal.the-variants.{BadOperand}
 use Rattle.tree.specs.declared.Checked.the-variants.{Valid, Refused}
 use Rattle.tree.proofs.WalkLaws as walk

@@ -1,7 +1,7 @@
 -- `tree::takes_two` meets its contract: all operators but those of one operand, and Minus.
 use Rattle.tree.proofs.Laws as laws
 use Rattle.tree.specs.Parse.{takesTwo}
-use Rattle.choice.specs.Choice.{some}
+use Rattle.prelude.specs.Choice.{some}
 use borrow.Author.Needs.{needs}
 use Rattle.tree.proofs.takes_two.Statement.{statement}
 use Rattle.tree.proofs.takes_two.Tie as tie

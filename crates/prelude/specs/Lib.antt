@@ -1,3 +1,4 @@
 pub mod Choice
 pub mod ChoiceLaws
 pub mod Table
+pub mod Bytes

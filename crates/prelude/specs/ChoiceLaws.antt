@@ -9,7 +9,7 @@ use lib.Dec.{eqb, leb}
 use lib.ListN.{length, getD, drop, drop-of-length-le}
 use lib.Seq.{drop-cons}
 use borrow.Author.Tests.{eq-eqb, eqb-true, leb-true}
-use Rattle.choice.specs.Choice.{pick, both, between, all, some, same}
+use Rattle.prelude.specs.Choice.{pick, both, between, all, some, same}
 
 -- the element at i passes: the rest decides
 pub all-next : (f : ℕ → Bool) (s : List ℕ) (i : ℕ) → i < length s → f (getD s i 0) ≡ true → all f (drop i s) ≡ all f (drop (i + 1) s)
