@@ -7,15 +7,15 @@ use native.Mathlib.Nat.{eq-zero-or-pos, pow-suc, div-div-eq-div-mul}
 use mathlib.Core.Logic.{⊎-elim}
 use native.Mathlib.Omega.{arith}
 use lib.ListN.{length, take, drop, set, length-drop, length-append, drop-of-length-le}
-use lib.Dec.{ltb}
 use lib.IntN.{ℤ, natAbs}
-use borrow.Author.Tests.{ltb-true, ltb-false}
 use lib.Seq.{drop-cons, lt-length-set, getD-set-same, drop-set-lt, drop-drop, length-take-le, drop-at, sets, sets-eq, length-sets}
 use borrow.Rule.Slice.PartMut.{putMid, postOf, same-len-mid}
+use Rattle.prelude.specs.Bytes.{bytes}
 use Rattle.literal.specs.Literal.{low, decimal, plain, sign, numText}
 use Rattle.literal.specs.LiteralLaws.{decimal-low}
-use Rattle.literal.specs.Placed.{placed, placedEnd}
-use Rattle.literal.specs.PlacedLaws.{placed-fits, placedEnd-fits, placed-over, placedEnd-over, Wrote, wrote-then, wrote-placed, wrote-end}
+use Rattle.emit.specs.Emit.{countLimit, ended, lacks, Puts}
+use Rattle.emit.specs.EmitLaws as emit
+use Rattle.emit.specs.EmitLaws.{Room, Wrote, wrote-then, placed-fits, puts-over}
 
 pub positive : (s : ℕ) → (s ≡ 0 → ⊥) → 0 < s
 positive s h = ⊎-elim (λ (e : s ≡ 0). absurd (h e)) (λ (e : 0 < s). e) (eq-zero-or-pos s)
@@ -64,28 +64,22 @@ mid-length xs a e h g = length-take-le (e - a) (drop a xs) (rw length-drop (omeg
 
 -- ---- the test before a write
 
--- it does not fit, and nothing is changed
-pub not-placed : (out : List ℕ) (at : ℕ) (t : List ℕ) → length out < at + length t → (out ≡ placed out at t) × (at ≡ placedEnd out at t)
-not-placed out at t h = (sym (placed-over out at t h), sym (placedEnd-over out at t h))
+module _ (out : List ℕ) (at : ℕ) (t : List ℕ) {w : ℕ} {b : Bool} (e : w ≡ length t) (f : b ≡ lacks countLimit (length out) at w) where
+  -- nothing is changed, and the end is counted
+  pub no-room : {r : ℕ} → b ≡ true → r ≡ ended countLimit at w → Puts countLimit at t out out r
+  no-room g h = puts-over countLimit at w t out e f g h
 
-module _ (out : List ℕ) (at : ℕ) (t : List ℕ) {w : ℕ} {b : Bool} (e : w ≡ length t) (f : b ≡ ltb (length out) (at + w)) where
-  over : b ≡ true → length out < at + length t
-  over g = let h = ltb-true (length out) (at + w) (sym f ∙ g) in omega arith
+  pub room : b ≡ false → Room countLimit (length out) at (length t)
+  room g = let h = emit.room countLimit (length out) at w f g in record { inside = omega arith; counted = omega arith }
 
-  pub no-room : b ≡ true → (out ≡ placed out at t) × (at ≡ placedEnd out at t)
-  no-room g = not-placed out at t (over g)
-
-  pub room : b ≡ false → at + length t ≤ length out
-  room g = let h = ltb-false (length out) (at + w) (sym f ∙ g) in omega arith
-
--- what a run of writes did, as a contract says it
-pub both-placed : {out : List ℕ} {at : ℕ} {t exit : List ℕ} {r : ℕ} → at + length t ≤ length out → Wrote out at t exit r → (exit ≡ placed out at t) × (r ≡ placedEnd out at t)
-both-placed h w = (wrote-placed h w, wrote-end h w)
+-- room for all is room for a front
+pub front : {cap len at n : ℕ} (m : ℕ) → Room cap len at n → m ≤ n → Room cap len at m
+front m g h = record { inside = omega arith; counted = omega arith }
 
 -- ---- a number with a fraction: the three parts that are filled
 
 pub filled : (p x y : List ℕ) (from point : ℕ) → from + length y ≡ length p → point + 1 ≡ from
-    → x ++ postOf 0 (point - 0) (set (putMid from (length p - from) p y) point 46) ≡ x ++ (46 ∷ y)
+    → x ++ postOf 0 (point - 0) (set (putMid from (length p - from) p y) point 46) ≡ x ++ (bytes "." ++ y)
 filled p x y from point h g =
     let z : point - 0 ≡ point = omega arith in
     let k : length (take from p) ≡ from = length-take-le from p (omega arith) in
@@ -95,7 +89,7 @@ filled p x y from point h g =
     let s : suc point ≡ from = omega arith in
     rw (z, q) (ap (λ (l : List ℕ). x ++ l)
     (drop-set (take from p ++ y) point 46 (omega arith)
-    ∙ ap (λ (l : List ℕ). 46 ∷ l) (drop-at (take from p) y (suc point) (k ∙ sym s))))
+    ∙ ap (λ (l : List ℕ). bytes "." ++ l) (drop-at (take from p) y (suc point) (k ∙ sym s))))
 
 pub put-length : (p y : List ℕ) (from : ℕ) → from + length y ≡ length p → length (putMid from (length p - from) p y) ≡ length p
 put-length p y from h = same-len-mid from (length p - from) p y (let k = mid-length p from (length p) (omega arith) (omega arith) in omega arith)
@@ -120,12 +114,16 @@ module _ (m : ℤ) (scale : ℕ) {mag : ℕ} {u : List ℕ} (e : mag ≡ natAbs 
   pub num-length : length (sign m) + length u ≡ length (numText m scale)
   num-length = sym (length-append (sign m) u) ∙ ap length num-is
 
--- a part that is filled behind a first text
-pub wrote-part : {out : List ℕ} {at : ℕ} {t mid : List ℕ} {q : ℕ} (u : List ℕ) (e : ℕ) → Wrote out at t mid q → e ≡ q + length u → e ≤ length out
-    → Wrote out at (t ++ u) (putMid q (e - q) mid u) e
-wrote-part {out} {at} {t} {mid} {q} u e w f h =
+-- a part that is filled after a first text
+pub wrote-part : {out : List ℕ} {at : ℕ} {t mid : List ℕ} {q : ℕ} (u : List ℕ) (e : ℕ) → Room countLimit (length out) at (length t + length u)
+    → Wrote countLimit out at t mid q → e ≡ q + length u → Wrote countLimit out at (t ++ u) (putMid q (e - q) mid u) e
+wrote-part {out} {at} {t} {mid} {q} u e h w f =
     let l : length mid ≡ length out = ap length (w .laid) ∙ length-sets out at t in
+    let z : q ≡ at + length t = w .end in
     let g : e ≤ length mid = omega arith in
-    wrote-then u (omega (arith, w .end)) w
-    (mid-sets mid u q e g (sym f) ∙ sym (placed-fits mid q u (omega arith)))
-    (f ∙ sym (placedEnd-fits mid q u (omega arith)))
+    let k : e ≤ countLimit = omega arith in
+    wrote-then u h w
+    (record {
+      laid = mid-sets mid u q e g (sym f) ∙ sym (placed-fits mid q u (record { inside = omega arith; counted = omega arith }));
+      end = f ∙ (let y : q + length u ≡ ended countLimit q (length u) = omega arith in y);
+    })

@@ -1,4 +1,2 @@
 pub mod Literal
-pub mod Placed
-pub mod PlacedLaws
 pub mod LiteralLaws

@@ -5,16 +5,15 @@ use mathlib.Core.Bool.{Bool}
 use lib.IntN.{ℤ, pos, negsuc, natAbs}
 use lib.Dec.{ltb, eqb}
 use Rattle.prelude.specs.Choice.{pick}
+use Rattle.prelude.specs.Bytes.{bytes}
 
 -- ---- words
 
--- NULL
 abbrev pub nullText : List ℕ
-nullText = 78 ∷ 85 ∷ 76 ∷ 76 ∷ []
+nullText = bytes "NULL"
 
--- TRUE or FALSE
 abbrev pub boolText : Bool → List ℕ
-boolText b = pick b (84 ∷ 82 ∷ 85 ∷ 69 ∷ []) (70 ∷ 65 ∷ 76 ∷ 83 ∷ 69 ∷ [])
+boolText b = pick b (bytes "TRUE") (bytes "FALSE")
 
 -- ---- numbers
 
@@ -34,7 +33,7 @@ decimal n = digits (suc n) n
 
 -- n ÷ 10^s: the whole part, a point, s digits
 unfoldable pub pointed : ℕ → ℕ → List ℕ
-pointed n s = decimal (n / 10 ^ s) ++ (46 ∷ low s n)
+pointed n s = decimal (n / 10 ^ s) ++ (bytes "." ++ low s n)
 
 -- n ÷ 10^s with the closing zeros of the fraction dropped, and the point where none of the fraction is left
 unfoldable pub plain : ℕ → ℕ → List ℕ
@@ -44,7 +43,7 @@ plain n (suc s) = pick (eqb (n % 10) 0) (plain (n / 10) s) (pointed n (suc s))
 -- a minus before a number below zero
 unfoldable pub sign : ℤ → List ℕ
 sign (pos n) = []
-sign (negsuc n) = 45 ∷ []
+sign (negsuc n) = bytes "-"
 
 -- Num: m ÷ 10^s as exact decimal
 unfoldable pub numText : ℤ → ℕ → List ℕ
@@ -54,11 +53,11 @@ numText m s = sign m ++ plain (natAbs m) s
 
 -- 's'
 unfoldable pub quoted : List ℕ → List ℕ
-quoted s = 39 ∷ (s ++ (39 ∷ []))
+quoted s = bytes "'" ++ (s ++ bytes "'")
 
 -- ` COLLATE ` and a collation's name
 unfoldable pub collate : List ℕ → List ℕ
-collate name = 32 ∷ 67 ∷ 79 ∷ 76 ∷ 76 ∷ 65 ∷ 84 ∷ 69 ∷ 32 ∷ name
+collate name = bytes " COLLATE " ++ name
 
 -- Str (`qstr_to_sql`): the text in quotes; by the flags CQL2_CI for 1, CQL2_AI for 2, CQL2_CAI for 3
 unfoldable pub strText : (ci ai cai : List ℕ) → ℕ → List ℕ → List ℕ
@@ -71,26 +70,25 @@ strText ci ai cai flags s =
 -- Spatial (`G::to_sql`): ST_GeomFromText('w', n)
 unfoldable pub spatialText : ℕ → List ℕ → List ℕ
 spatialText n w =
-    (83 ∷ 84 ∷ 95 ∷ 71 ∷ 101 ∷ 111 ∷ 109 ∷ 70 ∷ 114 ∷ 111 ∷ 109 ∷ 84 ∷ 101 ∷ 120 ∷ 116 ∷ 40 ∷ [])
-    ++ (quoted w ++ (44 ∷ 32 ∷ (decimal n ++ (41 ∷ []))))
+    bytes "ST_GeomFromText(" ++ (quoted w ++ (bytes ", " ++ (decimal n ++ bytes ")")))
 
 -- ---- instants: how a written instant and an open end are spelled
 
 -- YYYY-MM-DD
 unfoldable pub date : (y m d : ℕ) → List ℕ
-date y m d = low 4 y ++ (45 ∷ (low 2 m ++ (45 ∷ low 2 d)))
+date y m d = low 4 y ++ (bytes "-" ++ (low 2 m ++ (bytes "-" ++ low 2 d)))
 
 -- HH:MM:SS
 unfoldable pub clock : (hour minute second : ℕ) → List ℕ
-clock hour minute second = low 2 hour ++ (58 ∷ (low 2 minute ++ (58 ∷ low 2 second)))
+clock hour minute second = low 2 hour ++ (bytes ":" ++ (low 2 minute ++ (bytes ":" ++ low 2 second)))
 
 -- YYYY-MM-DDTHH:MM:SS
 unfoldable pub timestamp : (y m d hour minute second : ℕ) → List ℕ
-timestamp y m d hour minute second = date y m d ++ (84 ∷ clock hour minute second)
+timestamp y m d hour minute second = date y m d ++ (bytes "T" ++ clock hour minute second)
 
--- -2021-01-01 (`MIN_DATE_SQL`)
+-- `MIN_DATE_SQL`
 unfoldable pub openEnd : List ℕ
-openEnd = 45 ∷ 50 ∷ 48 ∷ 50 ∷ 49 ∷ 45 ∷ 48 ∷ 49 ∷ 45 ∷ 48 ∷ 49 ∷ []
+openEnd = bytes "-2021-01-01"
 
 -- Date
 abbrev pub dateText : (y m d : ℕ) → List ℕ

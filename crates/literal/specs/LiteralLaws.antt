@@ -10,6 +10,7 @@ use lib.ListN.{length, length-append}
 use lib.Dec.{ltb, eqb}
 use borrow.Author.Tests.{lt-ltb, le-ltb, ltb-false, ltb-true, eq-eqb, ne-eqb}
 use Rattle.prelude.specs.Choice.{pick}
+use Rattle.prelude.specs.Bytes.{bytes}
 use Rattle.literal.specs.Literal.{low, digits, decimal, pointed, plain, quoted, collate, spatialText, date, clock, timestamp, openEnd, dateText, timestampText, unboundedText}
 
 -- ---- digits
@@ -127,7 +128,7 @@ whole-short (suc s) n h = rw (shift n s) (go (ltb n 10) refl (λ (g : length (de
 pub length-pointed : (n s : ℕ) → length (pointed n s) ≡ length (decimal (n / 10 ^ s)) + (1 + s)
 unfolding pointed
 length-pointed n s =
-    length-append (decimal (n / 10 ^ s)) (46 ∷ low s n)
+    length-append (decimal (n / 10 ^ s)) (bytes "." ++ low s n)
     ∙ ap (λ (x : ℕ). length (decimal (n / 10 ^ s)) + x) (ap suc (length-low s n) ∙ (let e : suc s ≡ 1 + s = omega arith in e))
 
 -- n ÷ 10^s as it stands: no point where there is no fraction
@@ -193,7 +194,7 @@ length-unbounded = refl
 pub length-spatial : (n : ℕ) (w : List ℕ) → length (spatialText n w) ≡ length w + length (decimal n) + 21
 unfolding spatialText
 length-spatial n w =
-    let a = length-append (quoted w) (44 ∷ 32 ∷ (decimal n ++ (41 ∷ []))) in
+    let a = length-append (quoted w) (bytes ", " ++ (decimal n ++ bytes ")")) in
     let b = length-quoted w in
     let c = snoc-length (decimal n) 41 in
     omega arith

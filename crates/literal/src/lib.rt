@@ -1,4 +1,4 @@
-// The texts of the leaves (src/ds/gpkg.rs, `to_sql_impl` and `qstr_to_sql`), written into lent bytes.
+// The texts of the leaves (src/ds/gpkg.rs, `to_sql_impl` and `qstr_to_sql`), each written whole or not at all.
 ghost use mathlib.Core.Path.{_≡_};
 ghost use Prim.Native.Nat.{ℕ, _+_, _/_, _%_, _^_, _≤_, _<_};
 ghost use mathlib.Core.List.{_++_};
@@ -7,88 +7,41 @@ ghost use lib.Dec.{ltb};
 ghost use lib.IntN.{natAbs};
 ghost use Rattle.literal.specs.Literal.{boolText, unboundedText, low, decimal, plain, sign, numText, quoted, collate, date, clock, dateText, timestampText, spatialText};
 ghost use Rattle.literal.specs.LiteralLaws.{shown};
-ghost use Rattle.literal.specs.Placed.{placed, placedEnd};
-
-// n bytes from `at` do not lie within `len` bytes. No sum is made, so `at` may be any number.
-fn lacks_room(len: usize, at: usize, n: usize) -> bool
-    ensures { λ r. ⌜ r ≡ ltb len (at + n) ⌝ }
-{
-    if len < at {
-        return true;
-    }
-    if len - at < n {
-        return true;
-    }
-    false
-}
-
-// Lays s over out from `at`, if it fits there; answers the place behind it.
-pub fn put(s: &[u8], out: &mut [u8], at: usize) -> usize
-    ensures text { λ r. ⌜ now (out .exit) ≡ placed (now (out .entry)) at (now (s .entry)) ⌝ }
-    ensures end { λ r. ⌜ r ≡ placedEnd (now (out .entry)) at (now (s .entry)) ⌝ }
-{
-    if lacks_room(out.len(), at, s.len()) {
-        return at;
-    }
-    let mut k = 0;
-    while k < s.len() {
-        out[at + k] = s[k];
-        k += 1;
-    }
-    at + k
-}
+ghost use Rattle.emit.specs.Emit.{countLimit, Puts};
 
 // Writes TRUE or FALSE.
 pub fn put_bool(b: bool, out: &mut [u8], at: usize) -> usize
-    ensures text { λ r. ⌜ now (out .exit) ≡ placed (now (out .entry)) at (boolText b) ⌝ }
-    ensures end { λ r. ⌜ r ≡ placedEnd (now (out .entry)) at (boolText b) ⌝ }
+    ensures { λ r. ⌜ Puts countLimit at (boolText b) (now (out .entry)) (now (out .exit)) r ⌝ }
 {
     if b {
-        return put(b"TRUE", out, at);
+        return emit::put(b"TRUE", out, at);
     }
-    put(b"FALSE", out, at)
+    emit::put(b"FALSE", out, at)
 }
 
 // Writes a text in quotes.
 pub fn put_quoted(s: &[u8], out: &mut [u8], at: usize) -> usize
-    ensures text { λ r. ⌜ now (out .exit) ≡ placed (now (out .entry)) at (quoted (now (s .entry))) ⌝ }
-    ensures end { λ r. ⌜ r ≡ placedEnd (now (out .entry)) at (quoted (now (s .entry))) ⌝ }
+    ensures { λ r. ⌜ Puts countLimit at (quoted (now (s .entry))) (now (out .entry)) (now (out .exit)) r ⌝ }
 {
-    if lacks_room(out.len(), at, s.len() + 2) {
-        return at;
+    let n = s.len() + 2;
+    if emit::lacks_room(out.len(), at, n) {
+        return emit::ended(at, n);
     }
-    let text = put(b"'", out, at);
-    let close = put(s, out, text);
-    put(b"'", out, close)
+    let text = emit::put(b"'", out, at);
+    let close = emit::put(s, out, text);
+    emit::put(b"'", out, close)
 }
 
 // Writes ` COLLATE ` and a collation's name.
-fn put_collate(name: &[u8], out: &mut [u8], at: usize) -> usize
-    ensures text { λ r. ⌜ now (out .exit) ≡ placed (now (out .entry)) at (collate (now (name .entry))) ⌝ }
-    ensures end { λ r. ⌜ r ≡ placedEnd (now (out .entry)) at (collate (now (name .entry))) ⌝ }
+pub fn put_collate(name: &[u8], out: &mut [u8], at: usize) -> usize
+    ensures { λ r. ⌜ Puts countLimit at (collate (now (name .entry))) (now (out .entry)) (now (out .exit)) r ⌝ }
 {
-    if lacks_room(out.len(), at, name.len() + 9) {
-        return at;
+    let n = name.len() + 9;
+    if emit::lacks_room(out.len(), at, n) {
+        return emit::ended(at, n);
     }
-    let first = put(b" COLLATE ", out, at);
-    put(name, out, first)
-}
-
-// Writes a text in quotes and its collation.
-pub fn put_collated(s: &[u8], name: &[u8], out: &mut [u8], at: usize) -> usize
-    ensures text { λ r. ⌜ now (out .exit) ≡ placed (now (out .entry)) at (quoted (now (s .entry)) ++ collate (now (name .entry))) ⌝ }
-    ensures end { λ r. ⌜ r ≡ placedEnd (now (out .entry)) at (quoted (now (s .entry)) ++ collate (now (name .entry))) ⌝ }
-{
-    let n = s.len() + 2;
-    if lacks_room(out.len(), at, n) {
-        return at;
-    }
-    let end = at + n;
-    if lacks_room(out.len(), end, name.len() + 9) {
-        return at;
-    }
-    let collation = put_quoted(s, out, at);
-    put_collate(name, out, collation)
+    let first = emit::put(b" COLLATE ", out, at);
+    emit::put(name, out, first)
 }
 
 // The last digit of n.
@@ -114,7 +67,7 @@ fn fill_low(n: usize, part: &mut [u8]) -> usize
 }
 
 // How many digits n has.
-pub fn decimal_len(n: usize) -> usize
+fn decimal_len(n: usize) -> usize
     ensures { λ r. ⌜ (r ≡ length (decimal n)) × (r ≤ 20) ⌝ }
 {
     let mut m = n;
@@ -128,12 +81,11 @@ pub fn decimal_len(n: usize) -> usize
 
 // Writes n in base ten.
 pub fn put_decimal(n: usize, out: &mut [u8], at: usize) -> usize
-    ensures text { λ r. ⌜ now (out .exit) ≡ placed (now (out .entry)) at (decimal n) ⌝ }
-    ensures end { λ r. ⌜ r ≡ placedEnd (now (out .entry)) at (decimal n) ⌝ }
+    ensures { λ r. ⌜ Puts countLimit at (decimal n) (now (out .entry)) (now (out .exit)) r ⌝ }
 {
     let w = decimal_len(n);
-    if lacks_room(out.len(), at, w) {
-        return at;
+    if emit::lacks_room(out.len(), at, w) {
+        return emit::ended(at, w);
     }
     let end = at + w;
     fill_low(n, &mut out[at..end]);
@@ -162,13 +114,12 @@ fn sign_len(m: i64) -> usize
 
 // Writes the sign of m.
 fn put_sign(m: i64, out: &mut [u8], at: usize) -> usize
-    ensures text { λ r. ⌜ now (out .exit) ≡ placed (now (out .entry)) at (sign m) ⌝ }
-    ensures end { λ r. ⌜ r ≡ placedEnd (now (out .entry)) at (sign m) ⌝ }
+    ensures { λ r. ⌜ Puts countLimit at (sign m) (now (out .entry)) (now (out .exit)) r ⌝ }
 {
     if m < 0 {
-        return put(b"-", out, at);
+        return emit::put(b"-", out, at);
     }
-    at
+    emit::ended(at, 0)
 }
 
 // A number n ÷ 10^s.
@@ -225,24 +176,15 @@ fn fill_shown(n: usize, s: usize, part: &mut [u8])
     fill_low(whole, &mut part[0..point]);
 }
 
-// How many bytes m ÷ 10^scale takes.
-pub fn num_len(m: i64, scale: u8) -> usize
-    ensures { λ r. ⌜ (r ≡ length (numText m scale)) × (r ≤ 260) ⌝ }
-{
-    let p = shorten(magnitude(m), scale);
-    let k = shown_len(p.n, p.s);
-    sign_len(m) + k
-}
-
 // Writes m ÷ 10^scale as exact decimal.
 pub fn put_num(m: i64, scale: u8, out: &mut [u8], at: usize) -> usize
-    ensures text { λ r. ⌜ now (out .exit) ≡ placed (now (out .entry)) at (numText m scale) ⌝ }
-    ensures end { λ r. ⌜ r ≡ placedEnd (now (out .entry)) at (numText m scale) ⌝ }
+    ensures { λ r. ⌜ Puts countLimit at (numText m scale) (now (out .entry)) (now (out .exit)) r ⌝ }
 {
     let p = shorten(magnitude(m), scale);
     let k = shown_len(p.n, p.s);
-    if lacks_room(out.len(), at, sign_len(m) + k) {
-        return at;
+    let n = sign_len(m) + k;
+    if emit::lacks_room(out.len(), at, n) {
+        return emit::ended(at, n);
     }
     let from = put_sign(m, out, at);
     let end = from + k;
@@ -252,18 +194,17 @@ pub fn put_num(m: i64, scale: u8, out: &mut [u8], at: usize) -> usize
 
 // Writes a geometry: ST_GeomFromText('w', srid).
 pub fn put_spatial(srid: usize, w: &[u8], out: &mut [u8], at: usize) -> usize
-    ensures text { λ r. ⌜ now (out .exit) ≡ placed (now (out .entry)) at (spatialText srid (now (w .entry))) ⌝ }
-    ensures end { λ r. ⌜ r ≡ placedEnd (now (out .entry)) at (spatialText srid (now (w .entry))) ⌝ }
+    ensures { λ r. ⌜ Puts countLimit at (spatialText srid (now (w .entry))) (now (out .entry)) (now (out .exit)) r ⌝ }
 {
     let n = w.len() + decimal_len(srid) + 21;
-    if lacks_room(out.len(), at, n) {
-        return at;
+    if emit::lacks_room(out.len(), at, n) {
+        return emit::ended(at, n);
     }
-    let text = put(b"ST_GeomFromText(", out, at);
+    let text = emit::put(b"ST_GeomFromText(", out, at);
     let comma = put_quoted(w, out, text);
-    let number = put(b", ", out, comma);
+    let number = emit::put(b", ", out, comma);
     let close = put_decimal(srid, out, number);
-    put(b")", out, close)
+    emit::put(b")", out, close)
 }
 
 // The ten bytes of a date.
@@ -302,27 +243,12 @@ fn clock_of(hour: usize, minute: usize, second: usize) -> [u8; 8]
     ]
 }
 
-// How many bytes any date takes.
-pub fn date_len() -> usize
-    ensures { λ r. ⌜ ((y m d : ℕ) → r ≡ length (dateText y m d)) ⌝ }
-{
-    12
-}
-
 // Writes a date in quotes.
 pub fn put_date(y: usize, m: usize, d: usize, out: &mut [u8], at: usize) -> usize
-    ensures text { λ r. ⌜ now (out .exit) ≡ placed (now (out .entry)) at (dateText y m d) ⌝ }
-    ensures end { λ r. ⌜ r ≡ placedEnd (now (out .entry)) at (dateText y m d) ⌝ }
+    ensures { λ r. ⌜ Puts countLimit at (dateText y m d) (now (out .entry)) (now (out .exit)) r ⌝ }
 {
     let text = date_of(y, m, d);
     put_quoted(&text, out, at)
-}
-
-// How many bytes any timestamp takes.
-pub fn timestamp_len() -> usize
-    ensures { λ r. ⌜ ((y m d hour minute second : ℕ) → r ≡ length (timestampText y m d hour minute second)) ⌝ }
-{
-    21
 }
 
 // Writes a timestamp in quotes.
@@ -336,32 +262,23 @@ pub fn put_timestamp(
     out: &mut [u8],
     at: usize,
 ) -> usize
-    ensures text { λ r. ⌜ now (out .exit) ≡ placed (now (out .entry)) at (timestampText y m d hour minute second) ⌝ }
-    ensures end { λ r. ⌜ r ≡ placedEnd (now (out .entry)) at (timestampText y m d hour minute second) ⌝ }
+    ensures { λ r. ⌜ Puts countLimit at (timestampText y m d hour minute second) (now (out .entry)) (now (out .exit)) r ⌝ }
 {
-    if lacks_room(out.len(), at, 21) {
-        return at;
+    if emit::lacks_room(out.len(), at, 21) {
+        return emit::ended(at, 21);
     }
     let day = date_of(y, m, d);
     let time = clock_of(hour, minute, second);
-    let from = put(b"'", out, at);
-    let letter = put(&day, out, from);
-    let hours = put(b"T", out, letter);
-    let close = put(&time, out, hours);
-    put(b"'", out, close)
-}
-
-// How many bytes an open end takes.
-pub fn unbounded_len() -> usize
-    ensures { λ r. ⌜ r ≡ length unboundedText ⌝ }
-{
-    13
+    let from = emit::put(b"'", out, at);
+    let letter = emit::put(&day, out, from);
+    let hours = emit::put(b"T", out, letter);
+    let close = emit::put(&time, out, hours);
+    emit::put(b"'", out, close)
 }
 
 // Writes an open end.
 pub fn put_unbounded(out: &mut [u8], at: usize) -> usize
-    ensures text { λ r. ⌜ now (out .exit) ≡ placed (now (out .entry)) at unboundedText ⌝ }
-    ensures end { λ r. ⌜ r ≡ placedEnd (now (out .entry)) at unboundedText ⌝ }
+    ensures { λ r. ⌜ Puts countLimit at unboundedText (now (out .entry)) (now (out .exit)) r ⌝ }
 {
-    put(b"'-2021-01-01'", out, at)
+    emit::put(b"'-2021-01-01'", out, at)
 }

@@ -14,8 +14,8 @@ use Rattle.op.specs.declared.Named.the-variants.{Is, NoOp}
 use Rattle.op.specs.Op.{opNumber, operators, opAt, opOf, isArithmetic, isArray, isComparison, isXtdComparison, isSpatial, isTemporal, isInstantOrInterval, isNullable}
 use Rattle.op.specs.OpLaws.{each, agree, number-of}
 use Rattle.op.specs.Spelling.{word}
-use Rattle.literal.specs.Placed.{placed, placedEnd}
-use Rattle.literal.specs.PlacedLaws.{placed-none, placedEnd-none}
+use Rattle.emit.specs.Emit.{countLimit, ended, Puts}
+use Rattle.emit.specs.EmitLaws.{placed-none}
 use Rattle.op.proofs.Op.{the-type}
 use denote.Enum.Declared.{tagOf}
 use types.Run.{OneOf}
@@ -112,20 +112,17 @@ arm f o h = key-passes f operators o (rw (← tag-number o) (one-of (keysOf f op
 abbrev pub hasLength : ℕ → Op → Bool
 hasLength n o = eqb n (length (word o))
 
-pub arm-length : (n : ℕ) (o : Op) → OneOf (keysOf (hasLength n) operators) (tagOf the-type o) → n ≡ length (word o)
-arm-length n o h = eqb→eq n (length (word o)) (arm (hasLength n) o h)
-
-nothing : (s out : List ℕ) (at : ℕ) → T (eqb 0 (length s)) → (out ≡ placed out at s) × (at ≡ placedEnd out at s)
-nothing [] out at t = (sym (placed-none out at), sym (placedEnd-none out at))
-nothing (x ∷ s) out at t = let e = eqb→eq 0 (suc (length s)) t in absurd (omega arith)
+nothing : (s out : List ℕ) (at : ℕ) {r : ℕ} → T (eqb 0 (length s)) → r ≡ ended countLimit at 0 → Puts countLimit at s out out r
+nothing [] out at t e = record { laid = sym (placed-none countLimit out at); end = e }
+nothing (x ∷ s) out at t e = let q = eqb→eq 0 (suc (length s)) t in absurd (omega arith)
 
 -- the last arm of a group: an operator of another group, or one that has no spelling
 abbrev pub beside : (Op → Bool) → Op → Bool
 beside g o = pick (g o) (hasLength 0 o) true
 
-pub arm-beside : (g : Op → Bool) (o : Op) (out : List ℕ) (at : ℕ) → g o ≡ true → OneOf (keysOf (beside g) operators) (tagOf the-type o)
-    → (out ≡ placed out at (word o)) × (at ≡ placedEnd out at (word o))
-arm-beside g o out at e h = nothing (word o) out at (rw e at (arm (beside g) o h))
+pub arm-beside : (g : Op → Bool) (o : Op) (out : List ℕ) (at : ℕ) {r : ℕ} → g o ≡ true → OneOf (keysOf (beside g) operators) (tagOf the-type o)
+    → r ≡ ended countLimit at 0 → Puts countLimit at (word o) out out r
+arm-beside g o out at e h q = nothing (word o) out at (rw e at (arm (beside g) o h)) q
 
 -- the last group
 abbrev pub others : Op → Bool
@@ -135,6 +132,5 @@ pub in-others : (o : Op) → 15 < opNumber o → isSpatial o ≡ false → other
 in-others o h e = simp (lt-leb (opNumber o) 15 h, e)
 
 -- an arm that writes the spelling of one operator
-pub arm-text : {exit : List ℕ} {r : ℕ} (out : List ℕ) (at : ℕ) (o p : Op) → o ≡ p → (exit ≡ placed out at (word p)) × (r ≡ placedEnd out at (word p))
-    → (exit ≡ placed out at (word o)) × (r ≡ placedEnd out at (word o))
-arm-text out at o p e h = rw e h
+pub arm-text : {out exit : List ℕ} {at r : ℕ} (o p : Op) → o ≡ p → Puts countLimit at (word p) out exit r → Puts countLimit at (word o) out exit r
+arm-text o p e h = rw e h

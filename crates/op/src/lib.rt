@@ -5,7 +5,7 @@ ghost use lib.ListN.{length};
 ghost use Rattle.prelude.specs.Choice.{between};
 ghost use Rattle.op.specs.Op.{opNumber, opOf, isArithmetic, isArray, isComparison, isXtdComparison, isSpatial, isTemporal, isInstantOrInterval, isNullable};
 ghost use Rattle.op.specs.Spelling.{word};
-ghost use Rattle.literal.specs.Placed.{placed, placedEnd};
+ghost use Rattle.emit.specs.Emit.{countLimit, Puts};
 
 // The operators of src/op.rs, in its order.
 pub enum Op {
@@ -265,76 +265,72 @@ pub fn nullable(op: Op) -> bool
 // The spellings of the operators up to Or: arithmetic, comparison, logic.
 fn put_basic(op: Op, out: &mut [u8], at: usize) -> usize
     requires { ⌜ opNumber op ≤ 15 ⌝ }
-    ensures text { λ r. ⌜ now (out .exit) ≡ placed (now (out .entry)) at (word op) ⌝ }
-    ensures end { λ r. ⌜ r ≡ placedEnd (now (out .entry)) at (word op) ⌝ }
+    ensures { λ r. ⌜ Puts countLimit at (word op) (now (out .entry)) (now (out .exit)) r ⌝ }
 {
     match op {
-        Op::Plus => literal::put(b"+", out, at),
-        Op::Minus => literal::put(b"-", out, at),
-        Op::Mult => literal::put(b"*", out, at),
-        Op::Div => literal::put(b"/", out, at),
-        Op::IntDiv => literal::put(b"div", out, at),
-        Op::Mod => literal::put(b"%", out, at),
-        Op::Exp => literal::put(b"^", out, at),
-        Op::Neg => literal::put(b"NOT", out, at),
-        Op::Eq => literal::put(b"=", out, at),
-        Op::Neq => literal::put(b"<>", out, at),
-        Op::Lt => literal::put(b"<", out, at),
-        Op::Gt => literal::put(b">", out, at),
-        Op::Lte => literal::put(b"<=", out, at),
-        Op::Gte => literal::put(b">=", out, at),
-        Op::And => literal::put(b"AND", out, at),
-        Op::Or => literal::put(b"OR", out, at),
-        _ => at,
+        Op::Plus => emit::put(b"+", out, at),
+        Op::Minus => emit::put(b"-", out, at),
+        Op::Mult => emit::put(b"*", out, at),
+        Op::Div => emit::put(b"/", out, at),
+        Op::IntDiv => emit::put(b"div", out, at),
+        Op::Mod => emit::put(b"%", out, at),
+        Op::Exp => emit::put(b"^", out, at),
+        Op::Neg => emit::put(b"NOT", out, at),
+        Op::Eq => emit::put(b"=", out, at),
+        Op::Neq => emit::put(b"<>", out, at),
+        Op::Lt => emit::put(b"<", out, at),
+        Op::Gt => emit::put(b">", out, at),
+        Op::Lte => emit::put(b"<=", out, at),
+        Op::Gte => emit::put(b">=", out, at),
+        Op::And => emit::put(b"AND", out, at),
+        Op::Or => emit::put(b"OR", out, at),
+        _ => emit::ended(at, 0),
     }
 }
 
 // The spellings of the spatial operators.
 fn put_spatial(op: Op, out: &mut [u8], at: usize) -> usize
     requires { ⌜ isSpatial op ≡ true ⌝ }
-    ensures text { λ r. ⌜ now (out .exit) ≡ placed (now (out .entry)) at (word op) ⌝ }
-    ensures end { λ r. ⌜ r ≡ placedEnd (now (out .entry)) at (word op) ⌝ }
+    ensures { λ r. ⌜ Puts countLimit at (word op) (now (out .entry)) (now (out .exit)) r ⌝ }
 {
     match op {
-        Op::SIntersects => literal::put(b"ST_Intersects", out, at),
-        Op::SEquals => literal::put(b"ST_Equals", out, at),
-        Op::SDisjoint => literal::put(b"ST_Disjoint", out, at),
-        Op::STouches => literal::put(b"ST_Touches", out, at),
-        Op::SWithin => literal::put(b"ST_Within", out, at),
-        Op::SOverlaps => literal::put(b"ST_Overlaps", out, at),
-        Op::SCrosses => literal::put(b"ST_Crosses", out, at),
-        Op::SContains => literal::put(b"ST_Contains", out, at),
-        _ => at,
+        Op::SIntersects => emit::put(b"ST_Intersects", out, at),
+        Op::SEquals => emit::put(b"ST_Equals", out, at),
+        Op::SDisjoint => emit::put(b"ST_Disjoint", out, at),
+        Op::STouches => emit::put(b"ST_Touches", out, at),
+        Op::SWithin => emit::put(b"ST_Within", out, at),
+        Op::SOverlaps => emit::put(b"ST_Overlaps", out, at),
+        Op::SCrosses => emit::put(b"ST_Crosses", out, at),
+        Op::SContains => emit::put(b"ST_Contains", out, at),
+        _ => emit::ended(at, 0),
     }
 }
 
 // The spellings of all others; CaseI, AccentI and the temporal operators have none.
 fn put_rest(op: Op, out: &mut [u8], at: usize) -> usize
     requires { ⌜ (15 < opNumber op) × (isSpatial op ≡ false) ⌝ }
-    ensures text { λ r. ⌜ now (out .exit) ≡ placed (now (out .entry)) at (word op) ⌝ }
-    ensures end { λ r. ⌜ r ≡ placedEnd (now (out .entry)) at (word op) ⌝ }
+    ensures { λ r. ⌜ Puts countLimit at (word op) (now (out .entry)) (now (out .exit)) r ⌝ }
 {
     match op {
-        Op::AEquals => literal::put(b"=", out, at),
-        Op::AContains => literal::put(b"@>", out, at),
-        Op::AContainedBy => literal::put(b"<@", out, at),
-        Op::AOverlaps => literal::put(b"&&", out, at),
-        Op::IsLike => literal::put(b"LIKE", out, at),
-        Op::IsNotLike => literal::put(b"NOT LIKE", out, at),
-        Op::IsBetween => literal::put(b"BETWEEN", out, at),
-        Op::IsNotBetween => literal::put(b"NOT BETWEEN", out, at),
-        Op::IsInList => literal::put(b"IN", out, at),
-        Op::IsNotInList => literal::put(b"NOT IN", out, at),
-        Op::IsNull => literal::put(b"IS NULL", out, at),
-        Op::IsNotNull => literal::put(b"IS NOT NULL", out, at),
-        _ => at,
+        Op::AEquals => emit::put(b"=", out, at),
+        Op::AContains => emit::put(b"@>", out, at),
+        Op::AContainedBy => emit::put(b"<@", out, at),
+        Op::AOverlaps => emit::put(b"&&", out, at),
+        Op::IsLike => emit::put(b"LIKE", out, at),
+        Op::IsNotLike => emit::put(b"NOT LIKE", out, at),
+        Op::IsBetween => emit::put(b"BETWEEN", out, at),
+        Op::IsNotBetween => emit::put(b"NOT BETWEEN", out, at),
+        Op::IsInList => emit::put(b"IN", out, at),
+        Op::IsNotInList => emit::put(b"NOT IN", out, at),
+        Op::IsNull => emit::put(b"IS NULL", out, at),
+        Op::IsNotNull => emit::put(b"IS NOT NULL", out, at),
+        _ => emit::ended(at, 0),
     }
 }
 
 // Writes an operator's spelling (`Op::to_sql`) from `at`, if it fits there; answers the place behind it.
 pub fn to_sql(op: Op, out: &mut [u8], at: usize) -> usize
-    ensures text { λ r. ⌜ now (out .exit) ≡ placed (now (out .entry)) at (word op) ⌝ }
-    ensures end { λ r. ⌜ r ≡ placedEnd (now (out .entry)) at (word op) ⌝ }
+    ensures { λ r. ⌜ Puts countLimit at (word op) (now (out .entry)) (now (out .exit)) r ⌝ }
 {
     if op_number(op) <= 15 {
         return put_basic(op, out, at);
@@ -343,40 +339,4 @@ pub fn to_sql(op: Op, out: &mut [u8], at: usize) -> usize
         return put_spatial(op, out, at);
     }
     put_rest(op, out, at)
-}
-
-// How many bytes that takes.
-pub fn sql_len(op: Op) -> usize
-    ensures { λ r. ⌜ (r ≡ length (word op)) × (r ≤ 13) ⌝ }
-{
-    match op {
-        Op::Plus
-        | Op::Minus
-        | Op::Mult
-        | Op::Div
-        | Op::Mod
-        | Op::Exp
-        | Op::Eq
-        | Op::Lt
-        | Op::Gt
-        | Op::AEquals => 1,
-        Op::Neq
-        | Op::Lte
-        | Op::Gte
-        | Op::Or
-        | Op::AContains
-        | Op::AContainedBy
-        | Op::AOverlaps
-        | Op::IsInList => 2,
-        Op::IntDiv | Op::Neg | Op::And => 3,
-        Op::IsLike => 4,
-        Op::IsNotInList => 6,
-        Op::IsBetween | Op::IsNull => 7,
-        Op::IsNotLike => 8,
-        Op::SEquals | Op::SWithin => 9,
-        Op::STouches | Op::SCrosses => 10,
-        Op::SDisjoint | Op::SOverlaps | Op::SContains | Op::IsNotBetween | Op::IsNotNull => 11,
-        Op::SIntersects => 13,
-        _ => 0,
-    }
 }

@@ -3,6 +3,7 @@ use Prim.Native.Nat.{ℕ}
 use mathlib.Core.List.{List, [], _∷_, _++_}
 use mathlib.Core.Bool.{Bool}
 use Rattle.prelude.specs.Choice.{pick}
+use Rattle.prelude.specs.Bytes.{bytes}
 
 pub data Sign : Type 0 where
   lt : Sign
@@ -29,22 +30,22 @@ pub data Cond : Type 0 where
 
 -- a sign between spaces: < > = !=
 abbrev pub printSign : Sign → List ℕ
-printSign lt = 32 ∷ 60 ∷ 32 ∷ []
-printSign gt = 32 ∷ 62 ∷ 32 ∷ []
-printSign eq = 32 ∷ 61 ∷ 32 ∷ []
-printSign ne = 32 ∷ 33 ∷ 61 ∷ 32 ∷ []
+printSign lt = bytes " < "
+printSign gt = bytes " > "
+printSign eq = bytes " = "
+printSign ne = bytes " != "
 
 -- how a condition is written, given how each end is; a guarded end is a column, whose text is its name
 unfoldable pub print : (ℕ → List ℕ) → Cond → List ℕ
 print end (test i s j) = end i ++ (printSign s ++ end j)
 print end (isNotNull i) =
-    34 ∷ (end i ++ (34 ∷ 32 ∷ 73 ∷ 83 ∷ 32 ∷ 78 ∷ 79 ∷ 84 ∷ 32 ∷ 78 ∷ 85 ∷ 76 ∷ 76 ∷ []))
+    bytes "\"" ++ (end i ++ bytes "\" IS NOT NULL")
 print end (notNull i) =
-    34 ∷ (end i ++ (34 ∷ 32 ∷ 78 ∷ 79 ∷ 84 ∷ 32 ∷ 78 ∷ 85 ∷ 76 ∷ 76 ∷ []))
-print end (and c d) = print end c ++ (32 ∷ 65 ∷ 78 ∷ 68 ∷ 32 ∷ print end d)
-print end (or c d) = print end c ++ (32 ∷ 79 ∷ 82 ∷ 32 ∷ print end d)
-print end (not c) = 78 ∷ 79 ∷ 84 ∷ 40 ∷ (print end c ++ (41 ∷ []))
-print end (brackets c) = 40 ∷ (print end c ++ (41 ∷ []))
+    bytes "\"" ++ (end i ++ bytes "\" NOT NULL")
+print end (and c d) = print end c ++ (bytes " AND " ++ print end d)
+print end (or c d) = print end c ++ (bytes " OR " ++ print end d)
+print end (not c) = bytes "NOT(" ++ (print end c ++ bytes ")")
+print end (brackets c) = bytes "(" ++ (print end c ++ bytes ")")
 
 -- `check_ids` guards only columns: one gives "n" IS NOT NULL AND (base)
 unfoldable pub checkId : (ℕ → Bool) → ℕ → Cond → Cond

@@ -2,7 +2,9 @@
 use Prim.Native.Nat.{ℕ, _+_, _-_}
 use mathlib.Core.List.{List, [], _∷_, _++_}
 use mathlib.Core.Bool.{Bool}
+use lib.Dec.{ltb}
 use lib.ListN.{take, getD}
+use Rattle.prelude.specs.Bytes.{bytes}
 use Rattle.prelude.specs.Choice.{pick, between}
 use Rattle.sql.specs.Condition.{Cond, print}
 use Rattle.sql.specs.declared.Template as template
@@ -15,32 +17,35 @@ digitOf j = (48 + j) ∷ []
 abbrev pub templateOf : Cond → List ℕ
 templateOf c = print digitOf c
 
--- The parts that a text is put together from, by code: 0 to 3 stand for themselves as digits, the ends; from 4 on they are `(` `)` `))`, then
--- the signs > < = != between spaces, then `"` `" IS NOT NULL AND (` `" IS NOT NULL AND "` `" NOT NULL AND (`, then `) OR (` `) AND (` `NOT((`.
+-- The parts that a text is put together from, by code: 0 to 3 are the ends, as digits; from 4 on they are words.
 unfoldable pub parts : List (List ℕ)
 parts =
-    (48 ∷ [])
-    ∷ (49 ∷ [])
-    ∷ (50 ∷ [])
-    ∷ (51 ∷ [])
-    ∷ (40 ∷ [])
-    ∷ (41 ∷ [])
-    ∷ (41 ∷ 41 ∷ [])
-    ∷ (32 ∷ 62 ∷ 32 ∷ [])
-    ∷ (32 ∷ 60 ∷ 32 ∷ [])
-    ∷ (32 ∷ 61 ∷ 32 ∷ [])
-    ∷ (32 ∷ 33 ∷ 61 ∷ 32 ∷ [])
-    ∷ (34 ∷ [])
-    ∷ (34 ∷ 32 ∷ 73 ∷ 83 ∷ 32 ∷ 78 ∷ 79 ∷ 84 ∷ 32 ∷ 78 ∷ 85 ∷ 76 ∷ 76 ∷ 32 ∷ 65 ∷ 78 ∷ 68 ∷ 32 ∷ 40 ∷ [])
-    ∷ (34 ∷ 32 ∷ 73 ∷ 83 ∷ 32 ∷ 78 ∷ 79 ∷ 84 ∷ 32 ∷ 78 ∷ 85 ∷ 76 ∷ 76 ∷ 32 ∷ 65 ∷ 78 ∷ 68 ∷ 32 ∷ 34 ∷ [])
-    ∷ (34 ∷ 32 ∷ 78 ∷ 79 ∷ 84 ∷ 32 ∷ 78 ∷ 85 ∷ 76 ∷ 76 ∷ 32 ∷ 65 ∷ 78 ∷ 68 ∷ 32 ∷ 40 ∷ [])
-    ∷ (41 ∷ 32 ∷ 79 ∷ 82 ∷ 32 ∷ 40 ∷ [])
-    ∷ (41 ∷ 32 ∷ 65 ∷ 78 ∷ 68 ∷ 32 ∷ 40 ∷ [])
-    ∷ (78 ∷ 79 ∷ 84 ∷ 40 ∷ 40 ∷ [])
+    bytes "0"
+    ∷ bytes "1"
+    ∷ bytes "2"
+    ∷ bytes "3"
+    ∷ bytes "("
+    ∷ bytes ")"
+    ∷ bytes "))"
+    ∷ bytes " > "
+    ∷ bytes " < "
+    ∷ bytes " = "
+    ∷ bytes " != "
+    ∷ bytes "\""
+    ∷ bytes "\" IS NOT NULL AND ("
+    ∷ bytes "\" IS NOT NULL AND \""
+    ∷ bytes "\" NOT NULL AND ("
+    ∷ bytes ") OR ("
+    ∷ bytes ") AND ("
+    ∷ bytes "NOT(("
     ∷ []
 
 unfoldable pub partOf : ℕ → List ℕ
 partOf code = getD parts code []
+
+-- the words of a code from 4 on
+unfoldable pub wordsOf : ℕ → List ℕ
+wordsOf code = pick (ltb code 4) [] (partOf code)
 
 -- codes as text
 unfoldable pub spelt : List ℕ → List ℕ
@@ -59,12 +64,11 @@ fill slot (b ∷ s) = pick (between 48 b 57) (slot (b - 48)) (b ∷ []) ++ fill 
 -- check_ids on texts: i and j are digits
 unfoldable pub guardedText : ℕ → List ℕ → List ℕ
 guardedText i base =
-    34 ∷ i ∷ 34 ∷ 32 ∷ 73 ∷ 83 ∷ 32 ∷ 78 ∷ 79 ∷ 84 ∷ 32 ∷ 78 ∷ 85 ∷ 76 ∷ 76 ∷ 32 ∷ 65 ∷ 78 ∷ 68 ∷ 32 ∷ 40 ∷ (base ++ (41 ∷ []))
+    bytes "\"" ++ (i ∷ (bytes "\" IS NOT NULL AND (" ++ (base ++ bytes ")")))
 
 unfoldable pub guardedBothText : ℕ → ℕ → List ℕ → List ℕ
 guardedBothText i j base =
-    34 ∷ i ∷ 34 ∷ 32 ∷ 73 ∷ 83 ∷ 32 ∷ 78 ∷ 79 ∷ 84 ∷ 32 ∷ 78 ∷ 85 ∷ 76 ∷ 76 ∷ 32 ∷ 65 ∷ 78 ∷ 68 ∷ 32
-    ∷ 34 ∷ j ∷ 34 ∷ 32 ∷ 78 ∷ 79 ∷ 84 ∷ 32 ∷ 78 ∷ 85 ∷ 76 ∷ 76 ∷ 32 ∷ 65 ∷ 78 ∷ 68 ∷ 32 ∷ 40 ∷ (base ++ (41 ∷ []))
+    bytes "\"" ++ (i ∷ (bytes "\" IS NOT NULL AND \"" ++ (j ∷ (bytes "\" NOT NULL AND (" ++ (base ++ bytes ")")))))
 
 unfoldable pub checkIdText : Bool → ℕ → List ℕ → List ℕ
 checkIdText c i base = pick c (guardedText i base) base
@@ -73,4 +77,4 @@ unfoldable pub checkIdsText : Bool → Bool → ℕ → ℕ → List ℕ → Lis
 checkIdsText c d i j base = pick c (pick d (guardedBothText i j base) (guardedText i base)) (checkIdText d j base)
 
 unfoldable pub eitherText : List ℕ → List ℕ → List ℕ
-eitherText t u = 40 ∷ (t ++ (41 ∷ 32 ∷ 79 ∷ 82 ∷ 32 ∷ 40 ∷ (u ++ (41 ∷ []))))
+eitherText t u = bytes "(" ++ (t ++ (bytes ") OR (" ++ (u ++ bytes ")")))

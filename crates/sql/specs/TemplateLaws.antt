@@ -8,6 +8,7 @@ use native.Mathlib.Nat.{add-sub-cancel-left}
 use lib.Dec.{T, ltb, leb, eqb, ltb→lt}
 use borrow.Author.Tests.{le-leb}
 use Rattle.prelude.specs.Choice.{pick, both, between}
+use Rattle.prelude.specs.Bytes.{bytes}
 use Rattle.prelude.specs.Table.{both-left, both-right}
 use Rattle.sql.specs.Condition.{Cond, Sign, test, isNotNull, notNull, and, or, not, brackets, lt, gt, eq, ne, print, printSign, checkId, checkIds}
 use Rattle.sql.specs.Template.{fill, digitOf, templateOf, parts, partOf, spelt}
@@ -73,28 +74,28 @@ print-fills slot (test i s j) r t =
     ∙ ap (λ (l : List ℕ). slot i ++ (printSign s ++ l)) (end-fills slot j r (both-right (ltb i 4) (ltb j 4) t))
     ∙ simp append-assoc
 print-fills slot (isNotNull i) r t =
-    ap (λ (l : List ℕ). 34 ∷ l) (end-fills slot i (34 ∷ 32 ∷ 73 ∷ 83 ∷ 32 ∷ 78 ∷ 79 ∷ 84 ∷ 32 ∷ 78 ∷ 85 ∷ 76 ∷ 76 ∷ r) t)
+    ap (λ (l : List ℕ). bytes "\"" ++ l) (end-fills slot i (bytes "\" IS NOT NULL" ++ r) t)
     ∙ simp append-assoc
 print-fills slot (notNull i) r t =
-    ap (λ (l : List ℕ). 34 ∷ l) (end-fills slot i (34 ∷ 32 ∷ 78 ∷ 79 ∷ 84 ∷ 32 ∷ 78 ∷ 85 ∷ 76 ∷ 76 ∷ r) t)
+    ap (λ (l : List ℕ). bytes "\"" ++ l) (end-fills slot i (bytes "\" NOT NULL" ++ r) t)
     ∙ simp append-assoc
 print-fills slot (and c d) r t =
-    ap (λ (l : List ℕ). fill slot l) (append-assoc (print digitOf c) (32 ∷ 65 ∷ 78 ∷ 68 ∷ 32 ∷ print digitOf d) r)
-    ∙ print-fills slot c (32 ∷ 65 ∷ 78 ∷ 68 ∷ 32 ∷ (print digitOf d ++ r)) (both-left (small c) (small d) t)
-    ∙ ap (λ (l : List ℕ). print slot c ++ (32 ∷ 65 ∷ 78 ∷ 68 ∷ 32 ∷ l)) (print-fills slot d r (both-right (small c) (small d) t))
+    ap (λ (l : List ℕ). fill slot l) (append-assoc (print digitOf c) (bytes " AND " ++ print digitOf d) r)
+    ∙ print-fills slot c (bytes " AND " ++ (print digitOf d ++ r)) (both-left (small c) (small d) t)
+    ∙ ap (λ (l : List ℕ). print slot c ++ (bytes " AND " ++ l)) (print-fills slot d r (both-right (small c) (small d) t))
     ∙ simp append-assoc
 print-fills slot (or c d) r t =
-    ap (λ (l : List ℕ). fill slot l) (append-assoc (print digitOf c) (32 ∷ 79 ∷ 82 ∷ 32 ∷ print digitOf d) r)
-    ∙ print-fills slot c (32 ∷ 79 ∷ 82 ∷ 32 ∷ (print digitOf d ++ r)) (both-left (small c) (small d) t)
-    ∙ ap (λ (l : List ℕ). print slot c ++ (32 ∷ 79 ∷ 82 ∷ 32 ∷ l)) (print-fills slot d r (both-right (small c) (small d) t))
+    ap (λ (l : List ℕ). fill slot l) (append-assoc (print digitOf c) (bytes " OR " ++ print digitOf d) r)
+    ∙ print-fills slot c (bytes " OR " ++ (print digitOf d ++ r)) (both-left (small c) (small d) t)
+    ∙ ap (λ (l : List ℕ). print slot c ++ (bytes " OR " ++ l)) (print-fills slot d r (both-right (small c) (small d) t))
     ∙ simp append-assoc
 print-fills slot (not c) r t =
-    ap (λ (l : List ℕ). 78 ∷ 79 ∷ 84 ∷ 40 ∷ fill slot l) (append-assoc (print digitOf c) (41 ∷ []) r)
-    ∙ ap (λ (l : List ℕ). 78 ∷ 79 ∷ 84 ∷ 40 ∷ l) (print-fills slot c (41 ∷ r) t)
+    ap (λ (l : List ℕ). bytes "NOT(" ++ fill slot l) (append-assoc (print digitOf c) (bytes ")") r)
+    ∙ ap (λ (l : List ℕ). bytes "NOT(" ++ l) (print-fills slot c (bytes ")" ++ r) t)
     ∙ simp append-assoc
 print-fills slot (brackets c) r t =
-    ap (λ (l : List ℕ). 40 ∷ fill slot l) (append-assoc (print digitOf c) (41 ∷ []) r)
-    ∙ ap (λ (l : List ℕ). 40 ∷ l) (print-fills slot c (41 ∷ r) t)
+    ap (λ (l : List ℕ). bytes "(" ++ fill slot l) (append-assoc (print digitOf c) (bytes ")") r)
+    ∙ ap (λ (l : List ℕ). bytes "(" ++ l) (print-fills slot c (bytes ")" ++ r) t)
     ∙ simp append-assoc
 
 -- each translator names only the ends 0 to 3
@@ -240,16 +241,16 @@ print-same f h e (test i s j) t =
     ap (λ (l : List ℕ). l ++ (printSign s ++ f j)) (e i (ltb→lt i 4 (both-left (ltb i 4) (ltb j 4) t)))
     ∙ ap (λ (l : List ℕ). h i ++ (printSign s ++ l)) (e j (ltb→lt j 4 (both-right (ltb i 4) (ltb j 4) t)))
 print-same f h e (isNotNull i) t =
-    ap (λ (l : List ℕ). 34 ∷ (l ++ (34 ∷ 32 ∷ 73 ∷ 83 ∷ 32 ∷ 78 ∷ 79 ∷ 84 ∷ 32 ∷ 78 ∷ 85 ∷ 76 ∷ 76 ∷ []))) (e i (ltb→lt i 4 t))
-print-same f h e (notNull i) t = ap (λ (l : List ℕ). 34 ∷ (l ++ (34 ∷ 32 ∷ 78 ∷ 79 ∷ 84 ∷ 32 ∷ 78 ∷ 85 ∷ 76 ∷ 76 ∷ []))) (e i (ltb→lt i 4 t))
+    ap (λ (l : List ℕ). bytes "\"" ++ (l ++ bytes "\" IS NOT NULL")) (e i (ltb→lt i 4 t))
+print-same f h e (notNull i) t = ap (λ (l : List ℕ). bytes "\"" ++ (l ++ bytes "\" NOT NULL")) (e i (ltb→lt i 4 t))
 print-same f h e (and c d) t =
-    ap (λ (l : List ℕ). l ++ (32 ∷ 65 ∷ 78 ∷ 68 ∷ 32 ∷ print f d)) (print-same f h e c (both-left (small c) (small d) t))
-    ∙ ap (λ (l : List ℕ). print h c ++ (32 ∷ 65 ∷ 78 ∷ 68 ∷ 32 ∷ l)) (print-same f h e d (both-right (small c) (small d) t))
+    ap (λ (l : List ℕ). l ++ (bytes " AND " ++ print f d)) (print-same f h e c (both-left (small c) (small d) t))
+    ∙ ap (λ (l : List ℕ). print h c ++ (bytes " AND " ++ l)) (print-same f h e d (both-right (small c) (small d) t))
 print-same f h e (or c d) t =
-    ap (λ (l : List ℕ). l ++ (32 ∷ 79 ∷ 82 ∷ 32 ∷ print f d)) (print-same f h e c (both-left (small c) (small d) t))
-    ∙ ap (λ (l : List ℕ). print h c ++ (32 ∷ 79 ∷ 82 ∷ 32 ∷ l)) (print-same f h e d (both-right (small c) (small d) t))
-print-same f h e (not c) t = ap (λ (l : List ℕ). 78 ∷ 79 ∷ 84 ∷ 40 ∷ (l ++ (41 ∷ []))) (print-same f h e c t)
-print-same f h e (brackets c) t = ap (λ (l : List ℕ). 40 ∷ (l ++ (41 ∷ []))) (print-same f h e c t)
+    ap (λ (l : List ℕ). l ++ (bytes " OR " ++ print f d)) (print-same f h e c (both-left (small c) (small d) t))
+    ∙ ap (λ (l : List ℕ). print h c ++ (bytes " OR " ++ l)) (print-same f h e d (both-right (small c) (small d) t))
+print-same f h e (not c) t = ap (λ (l : List ℕ). bytes "NOT(" ++ (l ++ bytes ")")) (print-same f h e c t)
+print-same f h e (brackets c) t = ap (λ (l : List ℕ). bytes "(" ++ (l ++ bytes ")")) (print-same f h e c t)
 
 pub translate-same : (f h : ℕ → List ℕ) → ((j : ℕ) → j < 4 → f j ≡ h j) → (n : ℕ) (a b : Bool) (column : ℕ → Bool)
     → print f (translate n a b column) ≡ print h (translate n a b column)

@@ -4,8 +4,9 @@ ghost use mathlib.Core.List.{_++_};
 ghost use mathlib.Core.Bool.{true, false};
 ghost use Prim.Native.Nat.{_+_, _≤_, _<_};
 ghost use lib.ListN.{length};
+ghost use Rattle.emit.specs.Emit.{countLimit, Puts};
 ghost use Rattle.sql.specs.Ends.{isColumn, columns, startOf, stopOf, unfoldExpressions};
-ghost use Rattle.sql.specs.Template.{held, spelt, templateOf, guardedText, guardedBothText, checkIdText, checkIdsText, eitherText};
+ghost use Rattle.sql.specs.Template.{held, spelt, wordsOf, templateOf, guardedText, guardedBothText, checkIdText, checkIdsText, eitherText};
 ghost use Rattle.sql.specs.Translators.{tAfter, tBefore, tContains, tDisjoint, tDuring, tEquals, tFinishedBy, tFinishes, tIntersects, tMeets, tMetBy, tOverlappedBy, tOverlaps, tStartedBy, tStarts, translate};
 
 // An end of an operand: the record that holds it lies from the first offset to the second, counted from the start of the operator's own record
@@ -43,46 +44,46 @@ const E2: u8 = 2;
 const E3: u8 = 3;
 
 // `(`
-pub const OPEN: u8 = 4;
+const OPEN: u8 = 4;
 
 // `)`
-pub const CLOSE: u8 = 5;
+const CLOSE: u8 = 5;
 
 // `))`
-pub const CLOSE_BOTH: u8 = 6;
+const CLOSE_BOTH: u8 = 6;
 
 // ` > `
-pub const GREATER: u8 = 7;
+const GREATER: u8 = 7;
 
 // ` < `
-pub const LESS: u8 = 8;
+const LESS: u8 = 8;
 
 // ` = `
-pub const EQUAL: u8 = 9;
+const EQUAL: u8 = 9;
 
 // ` != `
-pub const UNEQUAL: u8 = 10;
+const UNEQUAL: u8 = 10;
 
 // `"`
-pub const QUOTE: u8 = 11;
+const QUOTE: u8 = 11;
 
 // `" IS NOT NULL AND (`
-pub const IS_NOT_NULL: u8 = 12;
+const IS_NOT_NULL: u8 = 12;
 
 // `" IS NOT NULL AND "`
-pub const IS_NOT_NULL_QUOTE: u8 = 13;
+const IS_NOT_NULL_QUOTE: u8 = 13;
 
 // `" NOT NULL AND (`
-pub const NOT_NULL: u8 = 14;
+const NOT_NULL: u8 = 14;
 
 // `) OR (`
-pub const OR: u8 = 15;
+const OR: u8 = 15;
 
 // `) AND (`
-pub const AND: u8 = 16;
+const AND: u8 = 16;
 
 // `NOT((`
-pub const NOT: u8 = 17;
+const NOT: u8 = 17;
 
 fn is_column(e: End) -> bool
     ensures { λ r. ⌜ r ≡ isColumn e ⌝ }
@@ -385,6 +386,29 @@ pub fn temporal_sql(op: usize, a: bool, b: bool, e: [End; 4]) -> Template
         38 => t_overlaps_sql(a, b, e),
         39 => t_started_by_sql(a, b, e),
         _ => t_starts_sql(a, b, e),
+    }
+}
+
+// Writes the words of a code from 4 on; the ends are written by whoever knows them.
+pub fn put_part(code: u8, out: &mut [u8], at: usize) -> usize
+    ensures { λ r. ⌜ Puts countLimit at (wordsOf code) (now (out .entry)) (now (out .exit)) r ⌝ }
+{
+    match code {
+        OPEN => emit::put(b"(", out, at),
+        CLOSE => emit::put(b")", out, at),
+        CLOSE_BOTH => emit::put(b"))", out, at),
+        GREATER => emit::put(b" > ", out, at),
+        LESS => emit::put(b" < ", out, at),
+        EQUAL => emit::put(b" = ", out, at),
+        UNEQUAL => emit::put(b" != ", out, at),
+        QUOTE => emit::put(b"\"", out, at),
+        IS_NOT_NULL => emit::put(b"\" IS NOT NULL AND (", out, at),
+        IS_NOT_NULL_QUOTE => emit::put(b"\" IS NOT NULL AND \"", out, at),
+        NOT_NULL => emit::put(b"\" NOT NULL AND (", out, at),
+        OR => emit::put(b") OR (", out, at),
+        AND => emit::put(b") AND (", out, at),
+        NOT => emit::put(b"NOT((", out, at),
+        _ => emit::ended(at, 0),
     }
 }
 

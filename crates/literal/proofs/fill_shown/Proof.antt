@@ -5,6 +5,7 @@ use mathlib.Core.List.{List, _∷_, _++_}
 use Prim.Native.Nat.{ℕ, _+_, _-_, _/_, _^_}
 use lib.ListN.{length, take, drop, set, length-set, length-append}
 use borrow.Author.Needs.{needs}
+use Rattle.prelude.specs.Bytes.{bytes}
 use Rattle.literal.specs.Literal.{low, decimal, pointed}
 use Rattle.literal.specs.LiteralLaws.{shown, shown-whole, shown-pointed, length-pointed, length-low, decimal-low, decimal-some}
 use borrow.Rule.Slice.PartMut.{putMid}
@@ -108,7 +109,7 @@ same-length-2 c =
     let q = c .before .before .before .before .before .before .fill-low2 .result in
     let r : q ≡ a .n / 10 ^ a .s = c .before .before .before .before .before .before .fill-low2 .ensures .1 ∙ ap (λ (w : ℕ). a .n / 10 ^ w) (sym (length-low (length (take (length p - from) (drop from p))) (a .n)) ∙ ap length (sym (c .before .before .before .before .before .before .fill-low2 .ensures .0) ∙ e) ∙ length-low (a .s) (a .n)) in
     let v = whole-part l2 x q point (omega arith) (omega (arith, ap (λ (w : ℕ). length (decimal w)) r)) (c .before .before .fill-low3 .ensures .0) in
-    ap length (filled p x y from point h (omega arith)) ∙ length-append x (46 ∷ y) ∙ omega (arith, ap length v, ap (λ (w : ℕ). length (decimal w)) r)
+    ap length (filled p x y from point h (omega arith)) ∙ length-append x (bytes "." ++ y) ∙ omega (arith, ap length v, ap (λ (w : ℕ). length (decimal w)) r)
 
 returns-2 : tie.Need-returns-2
 unfolding pointed
@@ -130,8 +131,8 @@ returns-2 c =
     let r : q ≡ a .n / 10 ^ a .s = c .before .before .before .before .before .before .fill-low2 .ensures .1 ∙ ap (λ (w : ℕ). a .n / 10 ^ w) (sym (length-low (length (take (length p - from) (drop from p))) (a .n)) ∙ ap length (sym (c .before .before .before .before .before .before .fill-low2 .ensures .0) ∙ e) ∙ length-low (a .s) (a .n)) in
     let v = whole-part l2 x q point (omega arith) (omega (arith, ap (λ (w : ℕ). length (decimal w)) r)) (c .before .before .fill-low3 .ensures .0) in
     filled p x y from point h (omega arith)
-    ∙ ap (λ (w : List ℕ). w ++ (46 ∷ y)) (v ∙ ap decimal r)
-    ∙ ap (λ (w : List ℕ). decimal (a .n / 10 ^ a .s) ++ (46 ∷ w)) e
+    ∙ ap (λ (w : List ℕ). w ++ (bytes "." ++ y)) (v ∙ ap decimal r)
+    ∙ ap (λ (w : List ℕ). decimal (a .n / 10 ^ a .s) ++ (bytes "." ++ w)) e
     ∙ sym (shown-pointed (a .n) (a .s) (positive (a .s) (c .before .before .before .before .before .before .before .before .if1 .left)))
 
 pub fill-shown-spec : {M : Type 1} → statement M

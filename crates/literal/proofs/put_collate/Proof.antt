@@ -4,21 +4,24 @@ use mathlib.Core.Path.{sym}
 use borrow.Author.Needs.{needs}
 use Rattle.literal.specs.Literal.{collate}
 use Rattle.literal.specs.LiteralLaws.{length-collate}
-use Rattle.literal.proofs.Laws.{no-room, room, both-placed}
-use Rattle.literal.specs.PlacedLaws.{wrote, wrote-then}
+use Rattle.literal.proofs.Laws.{no-room, room, front}
+use Rattle.emit.specs.EmitLaws.{wrote, wrote-then, wrote-puts}
 use Rattle.literal.proofs.put_collate.Statement.{statement}
 use Rattle.literal.proofs.put_collate.Tie as tie
 
-add-lacks-room : tie.Need-add-lacks-room
-add-lacks-room c = search needs
+add-n : tie.Need-add-n
+add-n c = search needs
 
 lacks-room-requires : tie.Need-lacks-room-requires
 lacks-room-requires c κs = search needs
 
+ended-requires : tie.Need-ended-requires
+ended-requires c κs = search needs
+
 returns : tie.Need-returns
 returns c =
-    let i = c .before .before .before .before .args in
-    no-room (i .out .now) (i .at) (collate (i .name .now)) (sym (length-collate (i .name .now))) (c .before .lacks-room .ensures) (c .if1 .taken)
+    let i = c .before .before .before .before .before .args in
+    no-room (i .out .now) (i .at) (collate (i .name .now)) (sym (length-collate (i .name .now))) (c .before .before .lacks-room .ensures) (c .before .if1 .taken) (c .ended .ensures)
 
 slice-aggregate-put : tie.Need-slice-aggregate-put
 slice-aggregate-put c = search needs
@@ -39,16 +42,17 @@ returns-2 c =
     let name = i .name .now in
     let n = length-collate name in
     let g = room (i .out .now) (i .at) (collate name) (sym n) (c .before .before .before .before .before .before .before .before .before .before .lacks-room .ensures) (c .before .before .before .before .before .before .before .before .before .if1 .left) in
-    let one = wrote (omega arith) (c .before .before .before .before .before .before .put .ensures .0) (c .before .before .before .before .before .before .put .ensures .1) in
-    let two = wrote-then name (omega arith) one (c .before .before .put2 .ensures .0) (c .before .before .put2 .ensures .1) in
-    both-placed g two
+    let one = wrote (front _ g (omega arith)) (c .before .before .before .before .before .before .put .ensures) in
+    let two = wrote-then name (front _ g (omega arith)) one (c .before .before .put2 .ensures) in
+    wrote-puts g two
 
 pub put-collate-spec : {M : Type 1} → statement M
 put-collate-spec =
     tie.close
     (tie.spec
-    add-lacks-room
+    add-n
     lacks-room-requires
+    ended-requires
     returns
     slice-aggregate-put
     put-requires

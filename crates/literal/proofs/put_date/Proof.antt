@@ -4,7 +4,7 @@ use mathlib.Core.List.{List}
 use Prim.Native.Nat.{ℕ}
 use borrow.Author.Needs.{needs}
 use Rattle.literal.specs.Literal.{quoted}
-use Rattle.literal.specs.Placed.{placed, placedEnd}
+use Rattle.emit.specs.EmitLaws.{puts-of}
 use Rattle.literal.proofs.put_date.Statement.{statement}
 use Rattle.literal.proofs.put_date.Tie as tie
 
@@ -21,10 +21,7 @@ same-length : tie.Need-same-length
 same-length c = search needs
 
 returns : tie.Need-returns
-returns c =
-    let i = c .before .before .before .before .before .before .before .args in
-    let e = ap quoted (c .before .before .before .before .before .date-of .ensures) in
-    (c .before .before .put-quoted .ensures .0 ∙ ap (λ (x : List ℕ). placed (i .out .now) (i .at) x) e, c .before .before .put-quoted .ensures .1 ∙ ap (λ (x : List ℕ). placedEnd (i .out .now) (i .at) x) e)
+returns c = puts-of (ap quoted (c .before .before .before .before .before .date-of .ensures)) (c .before .before .put-quoted .ensures)
 
 pub put-date-spec : {M : Type 1} → statement M
 put-date-spec =

@@ -5,14 +5,13 @@ use mathlib.Core.List.{List, _++_}
 use Prim.Native.Nat.{ℕ, _+_}
 use lib.ListN.{length}
 use borrow.Author.Needs.{needs}
-use Rattle.literal.specs.PlacedLaws.{wrote, wrote-same}
+use Rattle.emit.specs.EmitLaws.{wrote, wrote-same, wrote-puts, puts-of}
 use lib.Seq.{length-sets}
 use Rattle.literal.specs.Literal.{sign, numText}
 use lib.IntN.{ℤ, natAbs}
 use mir.Syntax.{w64}
 use mir.ValLaws.{toZ-ofZ}
-use Rattle.literal.specs.Placed.{placed, placedEnd}
-use Rattle.literal.proofs.Laws.{num-length, num-is, wrote-part, no-room, room, both-placed}
+use Rattle.literal.proofs.Laws.{num-length, num-is, wrote-part, no-room, room, front}
 use Rattle.literal.proofs.put_num.Statement.{statement}
 use Rattle.literal.proofs.put_num.Tie as tie
 
@@ -28,20 +27,23 @@ shown-len-requires c κs = search needs
 sign-len-requires : tie.Need-sign-len-requires
 sign-len-requires c κs = search needs
 
-add-lacks-room : tie.Need-add-lacks-room
-add-lacks-room c = search needs
+add-n : tie.Need-add-n
+add-n c = search needs
 
 lacks-room-requires : tie.Need-lacks-room-requires
 lacks-room-requires c κs = search needs
 
+ended-requires : tie.Need-ended-requires
+ended-requires c κs = search needs
+
 returns : tie.Need-returns
 returns c =
-    let i = c .before .before .before .before .before .before .before .args in
-    let b = toZ-ofZ w64 (i .m) (c .before .before .before .before .before .before .before .fits .m) in
-    let z = num-length (i .m) (i .scale) (c .before .before .before .before .before .magnitude .ensures .0 ∙ ap natAbs b) (c .before .before .before .before .shorten .ensures .0) in
-    let d : c .before .before .sign-len .result ≡ length (sign (i .m)) = c .before .before .sign-len .ensures .0 ∙ ap (λ (x : ℤ). length (sign x)) b in
-    let n : c .before .before .sign-len .result + c .before .before .before .shown-len .result ≡ length (numText (i .m) (i .scale)) = omega (arith, c .before .before .before .shown-len .ensures .0) in
-    no-room (i .out .now) (i .at) (numText (i .m) (i .scale)) n (c .before .lacks-room .ensures) (c .if1 .taken)
+    let i = c .before .before .before .before .before .before .before .before .args in
+    let b = toZ-ofZ w64 (i .m) (c .before .before .before .before .before .before .before .before .fits .m) in
+    let z = num-length (i .m) (i .scale) (c .before .before .before .before .before .before .magnitude .ensures .0 ∙ ap natAbs b) (c .before .before .before .before .before .shorten .ensures .0) in
+    let d : c .before .before .before .sign-len .result ≡ length (sign (i .m)) = c .before .before .before .sign-len .ensures .0 ∙ ap (λ (x : ℤ). length (sign x)) b in
+    let n : c .before .before .before .sign-len .result + c .before .before .before .before .shown-len .result ≡ length (numText (i .m) (i .scale)) = omega (arith, c .before .before .before .before .shown-len .ensures .0) in
+    no-room (i .out .now) (i .at) (numText (i .m) (i .scale)) n (c .before .before .lacks-room .ensures) (c .before .if1 .taken) (c .ended .ensures)
 
 put-sign-requires : tie.Need-put-sign-requires
 put-sign-requires c κs = search needs
@@ -56,9 +58,7 @@ add-end c =
     let g = room (i .out .now) (i .at) (numText (i .m) (i .scale)) n (c .before .before .before .before .before .lacks-room .ensures) (c .before .before .before .before .if1 .left) in
     let p = c .before .before .put-sign in
     let one =
-    wrote {t = sign (i .m)} (omega arith)
-    (p .ensures .0 ∙ ap (λ (x : ℤ). placed (i .out .now) (i .at) (sign x)) b)
-    (p .ensures .1 ∙ ap (λ (x : ℤ). placedEnd (i .out .now) (i .at) (sign x)) b) in
+    wrote {t = sign (i .m)} (front _ g (omega arith)) (puts-of (ap sign b) (p .ensures)) in
     let y : p .result ≡ i .at + length (sign (i .m)) = one .end in
     let x : length (p .last .1 .0) ≡ length (i .out .now) = ap length (one .laid) ∙ length-sets (i .out .now) (i .at) (sign (i .m)) in
     omega (arith, c .before .before .before .before .before .before .before .shown-len .ensures .0)
@@ -79,9 +79,7 @@ part-fill-shown-end c =
     let g = room (i .out .now) (i .at) (numText (i .m) (i .scale)) n (c .before .before .before .before .before .lacks-room .ensures) (c .before .before .before .before .if1 .left) in
     let p = c .before .before .put-sign in
     let one =
-    wrote {t = sign (i .m)} (omega arith)
-    (p .ensures .0 ∙ ap (λ (x : ℤ). placed (i .out .now) (i .at) (sign x)) b)
-    (p .ensures .1 ∙ ap (λ (x : ℤ). placedEnd (i .out .now) (i .at) (sign x)) b) in
+    wrote {t = sign (i .m)} (front _ g (omega arith)) (puts-of (ap sign b) (p .ensures)) in
     let y : p .result ≡ i .at + length (sign (i .m)) = one .end in
     let x : length (p .last .1 .0) ≡ length (i .out .now) = ap length (one .laid) ∙ length-sets (i .out .now) (i .at) (sign (i .m)) in
     omega (arith, c .before .before .before .before .before .before .before .shown-len .ensures .0)
@@ -102,17 +100,15 @@ returns-2 c =
     let g = room (i .out .now) (i .at) (numText (i .m) (i .scale)) n (c .before .before .before .before .before .before .before .before .before .lacks-room .ensures) (c .before .before .before .before .before .before .before .before .if1 .left) in
     let p = c .before .before .before .before .before .before .put-sign in
     let one =
-    wrote {t = sign (i .m)} (omega arith)
-    (p .ensures .0 ∙ ap (λ (x : ℤ). placed (i .out .now) (i .at) (sign x)) b)
-    (p .ensures .1 ∙ ap (λ (x : ℤ). placedEnd (i .out .now) (i .at) (sign x)) b) in
+    wrote {t = sign (i .m)} (front _ g (omega arith)) (puts-of (ap sign b) (p .ensures)) in
     let y : p .result ≡ i .at + length (sign (i .m)) = one .end in
     let x : length (p .last .1 .0) ≡ length (i .out .now) = ap length (one .laid) ∙ length-sets (i .out .now) (i .at) (sign (i .m)) in
     let u = c .before .before .fill-shown .last .1 .1 .0 in
     let k = c .before .before .before .before .before .before .before .before .before .before .before .shown-len in
     let v = c .before .before .fill-shown .ensures in
     let j : length u ≡ k .result = ap length v ∙ sym (k .ensures .0) in
-    let two = wrote-part u (p .result + k .result) one (ap (λ (w : ℕ). p .result + w) (sym j)) (omega (arith, k .ensures .0)) in
-    both-placed g (wrote-same (ap (λ (w : List ℕ). sign (i .m) ++ w) v ∙ num-is (i .m) (i .scale) (c .before .before .before .before .before .before .before .before .before .before .before .before .before .magnitude .ensures .0 ∙ ap natAbs b) (c .before .before .before .before .before .before .before .before .before .before .before .before .shorten .ensures .0)) two)
+    let two = wrote-part u (p .result + k .result) (front _ g (omega (arith, k .ensures .0))) one (ap (λ (w : ℕ). p .result + w) (sym j)) in
+    wrote-puts g (wrote-same (ap (λ (w : List ℕ). sign (i .m) ++ w) v ∙ num-is (i .m) (i .scale) (c .before .before .before .before .before .before .before .before .before .before .before .before .before .magnitude .ensures .0 ∙ ap natAbs b) (c .before .before .before .before .before .before .before .before .before .before .before .before .shorten .ensures .0)) two)
 
 pub put-num-spec : {M : Type 1} → statement M
 put-num-spec =
@@ -122,8 +118,9 @@ put-num-spec =
     shorten-requires
     shown-len-requires
     sign-len-requires
-    add-lacks-room
+    add-n
     lacks-room-requires
+    ended-requires
     returns
     put-sign-requires
     add-end

@@ -3,23 +3,27 @@ use native.Mathlib.Omega.{arith}
 use mathlib.Core.Path.{sym}
 use mathlib.Core.List.{[], _∷_}
 use borrow.Author.Needs.{needs}
+use Rattle.prelude.specs.Bytes.{bytes}
 use Rattle.literal.specs.Literal.{quoted}
 use Rattle.literal.specs.LiteralLaws.{length-quoted}
-use Rattle.literal.proofs.Laws.{no-room, room, both-placed}
-use Rattle.literal.specs.PlacedLaws.{wrote, wrote-then}
+use Rattle.literal.proofs.Laws.{no-room, room, front}
+use Rattle.emit.specs.EmitLaws.{wrote, wrote-then, wrote-puts}
 use Rattle.literal.proofs.put_quoted.Statement.{statement}
 use Rattle.literal.proofs.put_quoted.Tie as tie
 
-add-lacks-room : tie.Need-add-lacks-room
-add-lacks-room c = search needs
+add-n : tie.Need-add-n
+add-n c = search needs
 
 lacks-room-requires : tie.Need-lacks-room-requires
 lacks-room-requires c κs = search needs
 
+ended-requires : tie.Need-ended-requires
+ended-requires c κs = search needs
+
 returns : tie.Need-returns
 returns c =
-    let i = c .before .before .before .before .args in
-    no-room (i .out .now) (i .at) (quoted (i .s .now)) (sym (length-quoted (i .s .now))) (c .before .lacks-room .ensures) (c .if1 .taken)
+    let i = c .before .before .before .before .before .args in
+    no-room (i .out .now) (i .at) (quoted (i .s .now)) (sym (length-quoted (i .s .now))) (c .before .before .lacks-room .ensures) (c .before .if1 .taken) (c .ended .ensures)
 
 slice-aggregate-put : tie.Need-slice-aggregate-put
 slice-aggregate-put c = search needs
@@ -46,17 +50,18 @@ returns-2 c =
     let s = i .s .now in
     let n = length-quoted s in
     let g = room (i .out .now) (i .at) (quoted s) (sym n) (c .before .before .before .before .before .before .before .before .before .before .before .before .before .before .before .lacks-room .ensures) (c .before .before .before .before .before .before .before .before .before .before .before .before .before .before .if1 .left) in
-    let one = wrote (omega arith) (c .before .before .before .before .before .before .before .before .before .before .before .put .ensures .0) (c .before .before .before .before .before .before .before .before .before .before .before .put .ensures .1) in
-    let two = wrote-then s (omega arith) one (c .before .before .before .before .before .before .before .put2 .ensures .0) (c .before .before .before .before .before .before .before .put2 .ensures .1) in
-    let three = wrote-then (39 ∷ []) (omega arith) two (c .before .before .put3 .ensures .0) (c .before .before .put3 .ensures .1) in
-    both-placed g three
+    let one = wrote (front _ g (omega arith)) (c .before .before .before .before .before .before .before .before .before .before .before .put .ensures) in
+    let two = wrote-then s (front _ g (omega arith)) one (c .before .before .before .before .before .before .before .put2 .ensures) in
+    let three = wrote-then (bytes "'") (front _ g (omega arith)) two (c .before .before .put3 .ensures) in
+    wrote-puts g three
 
 pub put-quoted-spec : {M : Type 1} → statement M
 put-quoted-spec =
     tie.close
     (tie.spec
-    add-lacks-room
+    add-n
     lacks-room-requires
+    ended-requires
     returns
     slice-aggregate-put
     put-requires

@@ -4,8 +4,8 @@ use mathlib.Core.List.{List}
 use Prim.Native.Nat.{ℕ}
 use borrow.Author.Needs.{needs}
 use Rattle.literal.specs.Literal.{sign}
-use Rattle.literal.specs.Placed.{placed, placedEnd}
-use Rattle.literal.specs.PlacedLaws.{placed-none, placedEnd-none}
+use Rattle.emit.specs.Emit.{countLimit}
+use Rattle.emit.specs.EmitLaws.{puts-of, placed-none}
 use Rattle.literal.proofs.Signed.{below, above}
 use Rattle.literal.proofs.put_sign.Statement.{statement}
 use Rattle.literal.proofs.put_sign.Tie as tie
@@ -24,16 +24,17 @@ unfolding sign
 returns c =
     let i = c .before .before .before .before .before .before .before .args in
     let q = below (i .m) (c .before .before .before .before .before .before .before .fits .m) (c .before .before .before .before .before .if1 .taken) in
-    let e = ap sign (q .is) in
-    (c .before .before .put .ensures .0 ∙ ap (λ (x : List ℕ). placed (i .out .now) (i .at) x) (sym e), c .before .before .put .ensures .1 ∙ ap (λ (x : List ℕ). placedEnd (i .out .now) (i .at) x) (sym e))
+    puts-of (sym (ap sign (q .is))) (c .before .before .put .ensures)
+
+ended-requires : tie.Need-ended-requires
+ended-requires c κs = search needs
 
 returns-2 : tie.Need-returns-2
 unfolding sign
 returns-2 c =
-    let i = c .before .before .args in
-    let q = above (i .m) (c .before .before .fits .m) (c .if1 .left) in
-    let e = ap sign (q .is) in
-    (sym (ap (λ (x : List ℕ). placed (i .out .now) (i .at) x) e ∙ placed-none (i .out .now) (i .at)), sym (ap (λ (x : List ℕ). placedEnd (i .out .now) (i .at) x) e ∙ placedEnd-none (i .out .now) (i .at)))
+    let i = c .before .before .before .args in
+    let q = above (i .m) (c .before .before .before .fits .m) (c .before .if1 .left) in
+    puts-of (sym (ap sign (q .is))) (record { laid = sym (placed-none countLimit (i .out .now) (i .at)); end = c .ended .ensures })
 
 pub put-sign-spec : {M : Type 1} → statement M
-put-sign-spec = tie.close (tie.spec slice-aggregate-put put-requires same-length returns returns-2)
+put-sign-spec = tie.close (tie.spec slice-aggregate-put put-requires same-length returns ended-requires returns-2)

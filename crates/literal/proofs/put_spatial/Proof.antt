@@ -5,10 +5,11 @@ use mathlib.Core.List.{[], _∷_, append-assoc}
 use Prim.Native.Nat.{_+_}
 use lib.ListN.{length, length-append}
 use borrow.Author.Needs.{needs}
+use Rattle.prelude.specs.Bytes.{bytes}
 use Rattle.literal.specs.Literal.{quoted, decimal, spatialText}
 use Rattle.literal.specs.LiteralLaws.{length-quoted, length-spatial}
-use Rattle.literal.specs.PlacedLaws.{wrote, wrote-then, wrote-same}
-use Rattle.literal.proofs.Laws.{no-room, room, both-placed}
+use Rattle.emit.specs.EmitLaws.{wrote, wrote-then, wrote-same, wrote-puts}
+use Rattle.literal.proofs.Laws.{no-room, room, front}
 use Rattle.literal.proofs.put_spatial.Statement.{statement}
 use Rattle.literal.proofs.put_spatial.Tie as tie
 
@@ -24,12 +25,15 @@ add-n-2 c = search needs
 lacks-room-requires : tie.Need-lacks-room-requires
 lacks-room-requires c κs = search needs
 
+ended-requires : tie.Need-ended-requires
+ended-requires c κs = search needs
+
 returns : tie.Need-returns
 returns c =
-    let i = c .before .before .before .before .before .args in
+    let i = c .before .before .before .before .before .before .args in
     let w = i .w .now in
-    let n : length w + c .before .before .decimal-len .result + 21 ≡ length (spatialText (i .srid) w) = omega (arith, length-spatial (i .srid) w, c .before .before .decimal-len .ensures .0) in
-    no-room (i .out .now) (i .at) (spatialText (i .srid) w) n (c .before .lacks-room .ensures) (c .if1 .taken)
+    let n : length w + c .before .before .before .decimal-len .result + 21 ≡ length (spatialText (i .srid) w) = omega (arith, length-spatial (i .srid) w, c .before .before .before .decimal-len .ensures .0) in
+    no-room (i .out .now) (i .at) (spatialText (i .srid) w) n (c .before .before .lacks-room .ensures) (c .before .if1 .taken) (c .ended .ensures)
 
 slice-aggregate-put : tie.Need-slice-aggregate-put
 slice-aggregate-put c = search needs
@@ -68,12 +72,12 @@ returns-2 c =
     let q = length-quoted w in
     let n : length w + c .before .before .before .before .before .before .before .before .before .before .before .before .before .before .before .before .before .before .before .before .before .before .before .before .before .decimal-len .result + 21 ≡ length (spatialText (i .srid) w) = omega (arith, c .before .before .before .before .before .before .before .before .before .before .before .before .before .before .before .before .before .before .before .before .before .before .before .before .before .decimal-len .ensures .0) in
     let g = room (i .out .now) (i .at) (spatialText (i .srid) w) n (c .before .before .before .before .before .before .before .before .before .before .before .before .before .before .before .before .before .before .before .before .before .before .before .before .lacks-room .ensures) (c .before .before .before .before .before .before .before .before .before .before .before .before .before .before .before .before .before .before .before .before .before .before .before .if1 .left) in
-    let one = wrote (omega arith) (c .before .before .before .before .before .before .before .before .before .before .before .before .before .before .before .before .before .before .before .before .put .ensures .0) (c .before .before .before .before .before .before .before .before .before .before .before .before .before .before .before .before .before .before .before .before .put .ensures .1) in
-    let two = wrote-then (quoted w) (omega arith) one (c .before .before .before .before .before .before .before .before .before .before .before .before .before .before .before .before .put-quoted .ensures .0) (c .before .before .before .before .before .before .before .before .before .before .before .before .before .before .before .before .put-quoted .ensures .1) in
-    let three = wrote-then (44 ∷ 32 ∷ []) (simp length-append (omega arith)) two (c .before .before .before .before .before .before .before .before .before .before .before .put2 .ensures .0) (c .before .before .before .before .before .before .before .before .before .before .before .put2 .ensures .1) in
-    let four = wrote-then d (simp length-append (omega arith)) three (c .before .before .before .before .before .before .before .put-decimal .ensures .0) (c .before .before .before .before .before .before .before .put-decimal .ensures .1) in
-    let five = wrote-then (41 ∷ []) (simp length-append (omega arith)) four (c .before .before .put3 .ensures .0) (c .before .before .put3 .ensures .1) in
-    both-placed g (wrote-same (simp append-assoc) five)
+    let one = wrote (front _ g (omega arith)) (c .before .before .before .before .before .before .before .before .before .before .before .before .before .before .before .before .before .before .before .before .put .ensures) in
+    let two = wrote-then (quoted w) (front _ g (omega arith)) one (c .before .before .before .before .before .before .before .before .before .before .before .before .before .before .before .before .put-quoted .ensures) in
+    let three = wrote-then (bytes ", ") (front _ g (simp length-append (omega arith))) two (c .before .before .before .before .before .before .before .before .before .before .before .put2 .ensures) in
+    let four = wrote-then d (front _ g (simp length-append (omega arith))) three (c .before .before .before .before .before .before .before .put-decimal .ensures) in
+    let five = wrote-then (bytes ")") (front _ g (simp length-append (omega arith))) four (c .before .before .put3 .ensures) in
+    wrote-puts g (wrote-same (simp append-assoc) five)
 
 pub put-spatial-spec : {M : Type 1} → statement M
 put-spatial-spec =
@@ -83,6 +87,7 @@ put-spatial-spec =
     add-n
     add-n-2
     lacks-room-requires
+    ended-requires
     returns
     slice-aggregate-put
     put-requires

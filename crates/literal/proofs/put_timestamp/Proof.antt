@@ -5,32 +5,36 @@ use mathlib.Core.List.{List, [], _∷_, _++_, append-assoc}
 use Prim.Native.Nat.{ℕ}
 use lib.ListN.{length, length-append}
 use borrow.Author.Needs.{needs}
+use Rattle.prelude.specs.Bytes.{bytes}
 use Rattle.literal.specs.Literal.{quoted, date, clock, timestamp, timestampText}
 use Rattle.literal.specs.LiteralLaws.{date-ten, clock-eight, length-timestamp}
-use Rattle.literal.specs.PlacedLaws.{wrote, wrote-then, wrote-same}
-use Rattle.literal.proofs.Laws.{no-room, room, both-placed}
+use Rattle.emit.specs.EmitLaws.{wrote, wrote-then, wrote-same, wrote-puts}
+use Rattle.literal.proofs.Laws.{no-room, room, front}
 use Rattle.literal.proofs.put_timestamp.Statement.{statement}
 use Rattle.literal.proofs.put_timestamp.Tie as tie
 
 -- the five texts, with the date and the time of day by their other names
-regroup : (day time a b : List ℕ) → day ≡ a → time ≡ b → ((((39 ∷ []) ++ day) ++ (84 ∷ [])) ++ time) ++ (39 ∷ []) ≡ quoted (a ++ (84 ∷ b))
+regroup : (day time a b : List ℕ) → day ≡ a → time ≡ b → (((bytes "'" ++ day) ++ bytes "T") ++ time) ++ bytes "'" ≡ quoted (a ++ (bytes "T" ++ b))
 unfolding quoted
 regroup day time a b e f =
-    ap (λ (x : List ℕ). 39 ∷ x)
-    (append-assoc (day ++ (84 ∷ [])) time (39 ∷ [])
-    ∙ append-assoc day (84 ∷ []) (time ++ (39 ∷ []))
-    ∙ sym (append-assoc day (84 ∷ time) (39 ∷ [])))
-    ∙ ap (λ (x : List ℕ). quoted (x ++ (84 ∷ time))) e
-    ∙ ap (λ (x : List ℕ). quoted (a ++ (84 ∷ x))) f
+    ap (λ (x : List ℕ). bytes "'" ++ x)
+    (append-assoc (day ++ bytes "T") time (bytes "'")
+    ∙ append-assoc day (bytes "T") (time ++ bytes "'")
+    ∙ sym (append-assoc day (bytes "T" ++ time) (bytes "'")))
+    ∙ ap (λ (x : List ℕ). quoted (x ++ (bytes "T" ++ time))) e
+    ∙ ap (λ (x : List ℕ). quoted (a ++ (bytes "T" ++ x))) f
 
 lacks-room-requires : tie.Need-lacks-room-requires
 lacks-room-requires c κs = search needs
 
+ended-requires : tie.Need-ended-requires
+ended-requires c κs = search needs
+
 returns : tie.Need-returns
 returns c =
-    let i = c .before .before .before .args in
+    let i = c .before .before .before .before .args in
     let n = length-timestamp (i .y) (i .m) (i .d) (i .hour) (i .minute) (i .second) in
-    no-room (i .out .now) (i .at) (timestampText (i .y) (i .m) (i .d) (i .hour) (i .minute) (i .second)) (sym n) (c .before .lacks-room .ensures) (c .if1 .taken)
+    no-room (i .out .now) (i .at) (timestampText (i .y) (i .m) (i .d) (i .hour) (i .minute) (i .second)) (sym n) (c .before .before .lacks-room .ensures) (c .before .if1 .taken) (c .ended .ensures)
 
 date-of-requires : tie.Need-date-of-requires
 date-of-requires c κs = search needs
@@ -81,18 +85,19 @@ returns-2 c =
     let time = c .before .before .before .before .before .before .before .before .before .before .before .before .before .before .before .before .before .before .before .before .before .before .before .before .before .clock-of .result in
     let d : length day ≡ 10 = ap length (c .before .before .before .before .before .before .before .before .before .before .before .before .before .before .before .before .before .before .before .before .before .before .before .before .before .before .date-of .ensures) ∙ date-ten (i .y) (i .m) (i .d) in
     let t : length time ≡ 8 = ap length (c .before .before .before .before .before .before .before .before .before .before .before .before .before .before .before .before .before .before .before .before .before .before .before .before .before .clock-of .ensures) ∙ clock-eight (i .hour) (i .minute) (i .second) in
-    let one = wrote (omega arith) (c .before .before .before .before .before .before .before .before .before .before .before .before .before .before .before .before .before .before .before .before .before .before .put .ensures .0) (c .before .before .before .before .before .before .before .before .before .before .before .before .before .before .before .before .before .before .before .before .before .before .put .ensures .1) in
-    let two = wrote-then day (omega arith) one (c .before .before .before .before .before .before .before .before .before .before .before .before .before .before .before .before .before .put2 .ensures .0) (c .before .before .before .before .before .before .before .before .before .before .before .before .before .before .before .before .before .put2 .ensures .1) in
-    let three = wrote-then (84 ∷ []) (simp length-append (omega arith)) two (c .before .before .before .before .before .before .before .before .before .before .before .before .put3 .ensures .0) (c .before .before .before .before .before .before .before .before .before .before .before .before .put3 .ensures .1) in
-    let four = wrote-then time (simp length-append (omega arith)) three (c .before .before .before .before .before .before .before .put4 .ensures .0) (c .before .before .before .before .before .before .before .put4 .ensures .1) in
-    let five = wrote-then (39 ∷ []) (simp length-append (omega arith)) four (c .before .before .put5 .ensures .0) (c .before .before .put5 .ensures .1) in
-    both-placed g (wrote-same (regroup day time (date (i .y) (i .m) (i .d)) (clock (i .hour) (i .minute) (i .second)) (c .before .before .before .before .before .before .before .before .before .before .before .before .before .before .before .before .before .before .before .before .before .before .before .before .before .before .date-of .ensures) (c .before .before .before .before .before .before .before .before .before .before .before .before .before .before .before .before .before .before .before .before .before .before .before .before .before .clock-of .ensures)) five)
+    let one = wrote (front _ g (omega arith)) (c .before .before .before .before .before .before .before .before .before .before .before .before .before .before .before .before .before .before .before .before .before .before .put .ensures) in
+    let two = wrote-then day (front _ g (omega arith)) one (c .before .before .before .before .before .before .before .before .before .before .before .before .before .before .before .before .before .put2 .ensures) in
+    let three = wrote-then (bytes "T") (front _ g (simp length-append (omega arith))) two (c .before .before .before .before .before .before .before .before .before .before .before .before .put3 .ensures) in
+    let four = wrote-then time (front _ g (simp length-append (omega arith))) three (c .before .before .before .before .before .before .before .put4 .ensures) in
+    let five = wrote-then (bytes "'") (front _ g (simp length-append (omega arith))) four (c .before .before .put5 .ensures) in
+    wrote-puts g (wrote-same (regroup day time (date (i .y) (i .m) (i .d)) (clock (i .hour) (i .minute) (i .second)) (c .before .before .before .before .before .before .before .before .before .before .before .before .before .before .before .before .before .before .before .before .before .before .before .before .before .before .date-of .ensures) (c .before .before .before .before .before .before .before .before .before .before .before .before .before .before .before .before .before .before .before .before .before .before .before .before .before .clock-of .ensures)) five)
 
 pub put-timestamp-spec : {M : Type 1} → statement M
 put-timestamp-spec =
     tie.close
     (tie.spec
     lacks-room-requires
+    ended-requires
     returns
     date-of-requires
     clock-of-requires

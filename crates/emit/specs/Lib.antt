@@ -1,0 +1,3 @@
+pub mod Emit
+pub mod Lays
+pub mod EmitLaws
