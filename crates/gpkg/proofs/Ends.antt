@@ -8,11 +8,10 @@ use lib.ListN.{length, drop, length-append}
 use Rattle.prelude.specs.Choice.{both}
 use Rattle.record.specs.Record.{le16}
 use Rattle.tree.specs.Tree.{Tree, encode, null, unbounded, bool, num, str, date, timestamp, spatial, id, monadic, dyadic, function, array, interval}
-use Rattle.tree.specs.Placed.{isInterval}
+use Rattle.tree.specs.Tests.{isInterval, isId, startOf, stopOf, first, second}
 use Rattle.sql.specs.declared.End as end
 use Rattle.sql.specs.declared.End.the-variants.{Column, Instant, Other, Open, Null}
 use Rattle.sql.specs.declared.Operand.the-variants.{Single, Interval}
-use Rattle.gpkg.specs.Text.{isId, startOf, stopOf}
 use Rattle.gpkg.specs.Plan.{Inside, part, Is, IsOperand, Stands, EndOf, sound}
 use Rattle.gpkg.proofs.Records.{kindOf, bodyOf, kind-at, beyond, part-at, ends-at, size-of, long-at}
 use Rattle.gpkg.proofs.Literals.{id-no, id-true, body-at}
@@ -91,7 +90,7 @@ record Alone (x : Tree) : Type 0 where
   pub stops : stopOf x ≡ null
 
 alone : (x : Tree) → (kindOf x ≡ 13 → ⊥) → Alone x
-unfolding isInterval startOf stopOf
+unfolding isInterval startOf stopOf first second
 alone null e = record { plain = refl; starts = refl; stops = refl }
 alone unbounded e = record { plain = refl; starts = refl; stops = refl }
 alone (bool b) e = record { plain = refl; starts = refl; stops = refl }
@@ -186,7 +185,7 @@ halves {s} {a} {z} {k} {p} {m} {x} h e q l n =
     }
 
 pub interval-is : {s : List ℕ} {p m z : ℕ} {x : Tree} {e f : end.End} (h : Halves s p m z x) → Is s e (h .first) → Is s f (h .second) → IsOperand s (Interval e f) x
-unfolding isInterval startOf stopOf
+unfolding isInterval startOf stopOf first second
 interval-is {s} {p} {m} {z} {x} {e} {f} h i j = record {
   split = sym (ap isInterval (h .whole));
   starts = subst (λ (y : Tree). Is s e (startOf y)) (sym (h .whole)) i;

@@ -9,7 +9,7 @@ use lib.Seq.{drop-drop}
 use Rattle.prelude.specs.Choice.{both, either, between}
 use Rattle.record.specs.Record.{le16, recordOf}
 use Rattle.tree.specs.Tree.{Tree, Trees, encode, encodes, null, unbounded, bool, num, str, date, timestamp, spatial, id, monadic, dyadic, function, array, interval, none, _then_}
-use Rattle.gpkg.specs.Text.{isLiteral, allLiteral, isId, isLiteralOrId}
+use Rattle.tree.specs.Tests.{isLiteral, allLiteral, isId, isLiteralOrId, everywhereIn, everywhere}
 use Rattle.gpkg.specs.Plan.{EndOf}
 use Rattle.gpkg.proofs.Records.{kindOf, bodyOf, shape, kind-at, beyond, long, long-at}
 
@@ -34,14 +34,14 @@ both-true true = refl
 both-true false = refl
 
 literal-join : (ts us : Trees) → allLiteral (join ts us) ≡ both (allLiteral ts) (allLiteral us)
-unfolding allLiteral
+unfolding allLiteral everywhereIn everywhere isLiteral
 literal-join none us = refl
 literal-join (t then ts) us = ap (λ (b : Bool). both (isLiteral t) b) (literal-join ts us) ∙ both-assoc (isLiteral t) (allLiteral ts) (allLiteral us)
 
 -- what the kind decides
 
 lit-yes : (u : Tree) → 2 ≤ kindOf u → kindOf u ≤ 7 → isLiteral u ≡ true
-unfolding isLiteral
+unfolding isLiteral everywhere
 lit-yes null h g = absurd (let v : ⊥ = omega arith in v)
 lit-yes unbounded h g = absurd (let v : ⊥ = omega arith in v)
 lit-yes (bool b) h g = refl
@@ -58,7 +58,7 @@ lit-yes (array ts) h g = absurd (let v : ⊥ = omega arith in v)
 lit-yes (interval t v) h g = absurd (let z : ⊥ = omega arith in z)
 
 lit-no : (u : Tree) → (2 ≤ kindOf u → kindOf u ≤ 7 → ⊥) → (kindOf u ≡ 12 → ⊥) → isLiteral u ≡ false
-unfolding isLiteral
+unfolding isLiteral everywhere
 lit-no null h g = refl
 lit-no unbounded h g = refl
 lit-no (bool b) h g = never (h (omega arith) (omega arith))
@@ -137,11 +137,11 @@ pub record Left (s : List ℕ) (p : ℕ) (t : Tree) : Type 0 where
   pub same : isLiteral t ≡ allLiteral us
 
 pub left-start : (s : List ℕ) (t : Tree) → s ≡ encode t → Left s 0 t
-unfolding encodes allLiteral
+unfolding encodes allLiteral everywhereIn everywhere isLiteral
 left-start s t e = record { us = t then none; there = e ∙ sym (append-nil (encode t)); same = sym (both-true (isLiteral t)) }
 
 pub left-end : {s : List ℕ} {p : ℕ} {t : Tree} → length s ≤ p → Left s p t → true ≡ isLiteral t
-unfolding encodes allLiteral
+unfolding encodes allLiteral everywhereIn everywhere isLiteral
 left-end {s} {p} {t} h l = go (l .us) (l .there) (l .same)
   where
     go : (us : Trees) → drop p s ≡ encodes us → isLiteral t ≡ allLiteral us → true ≡ isLiteral t
@@ -159,7 +159,7 @@ pub record Front (s : List ℕ) (p : ℕ) (t : Tree) : Type 0 where
   pub same : isLiteral t ≡ both (isLiteral u) (allLiteral vs)
 
 front : {s : List ℕ} {p : ℕ} {t : Tree} → p < length s → Left s p t → Front s p t
-unfolding encodes allLiteral
+unfolding encodes allLiteral everywhereIn everywhere isLiteral
 front {s} {p} {t} h l = go (l .us) (l .there) (l .same)
   where
     go : (us : Trees) → drop p s ≡ encodes us → isLiteral t ≡ allLiteral us → Front s p t
@@ -173,7 +173,7 @@ pub left-long : {s : List ℕ} {p : ℕ} {t : Tree} → p < length s → Left s 
 left-long {s} {p} h l = let f = front h l in long-at s p (f .u) (encodes (f .vs)) (f .at)
 
 pub left-array : {s : List ℕ} {p k : ℕ} {t : Tree} → p < length s → k ≡ le16 s (p + 4) → k ≡ 12 → Left s p t → Left s (p + 6) t
-unfolding isLiteral
+unfolding isLiteral everywhere allLiteral everywhereIn
 left-array {s} {p} {k} {t} h e q l =
     let f = front h l in
     let a : kindOf (f .u) ≡ 12 = sym (kind-at s p (f .u) (encodes (f .vs)) (f .at)) ∙ sym e ∙ q in
@@ -214,7 +214,7 @@ kind-whole s t e = kind-at s 0 t [] (whole s t e)
 
 -- what the kind of any tree but an array tells
 pub kind-tells : (s : List ℕ) (k : ℕ) (t : Tree) → s ≡ encode t → k ≡ le16 s 4 → (k ≡ 12 → ⊥) → between 2 k 8 ≡ isLiteralOrId t
-unfolding isLiteralOrId isLiteral isId
+unfolding isLiteralOrId isLiteral isId everywhere
 kind-tells s k t e q z = ap (λ (n : ℕ). between 2 n 8) w ∙ go t (λ y. z (w ∙ y))
   where
     w : k ≡ kindOf t

@@ -14,13 +14,13 @@ use Rattle.op.specs.declared.Op.the-variants.{Minus, Neg, CaseI, AccentI, STouc
 use Rattle.op.specs.Op.{opNumber, oneOf, isArray, isSpatial, isTemporal, isNullable}
 use Rattle.op.specs.OpLaws.{agree, number-below}
 use Rattle.tree.specs.Tree.{Tree, Settings, encode, null, unbounded, bool, num, str, date, timestamp, spatial, id, monadic, dyadic, function, array, interval, none, _then_}
-use Rattle.tree.specs.Parse.{first, second}
-use Rattle.tree.specs.Placed.{isInterval, isBetween}
+use Rattle.tree.specs.Tests.{first, second, isInterval, isId, isLiteralOrId, isMonadic, isItems, startOf, stopOf, endsOf, columnsOf, byOperator}
+use Rattle.tree.specs.Placed.{isBetween}
 use Rattle.literal.specs.Literal.{collate}
 use Rattle.sql.specs.Translators.{translate}
 use Rattle.sql.specs.Template.{fill, templateOf}
 use Rattle.sql.specs.TemplateLaws.{translate-fills, translate-same}
-use Rattle.gpkg.specs.Text.{isId, isLiteralOrId, isMonadic, isItems, startOf, stopOf, endsOf, columnsOf, bare, reducePrecision, monadicText, reduces, startText, stopText, boundText, dyadicText, text, children, texts}
+use Rattle.gpkg.specs.Text.{bare, reducePrecision, monadicText, reduces, startText, stopText, boundText, dyadicText, text, children, texts}
 use Rattle.op.specs.Spelling.{word}
 use Rattle.gpkg.specs.Plan.{twin, twinOf, underOf, operandOf, itemsOf, nameOf, beforeText, behindText, collationFlags, slot, reducedText, infixText, leftBare, rightBare}
 use Rattle.gpkg.proofs.Records.{kindOf}
@@ -70,7 +70,7 @@ unfolding encode recordOf
 op-at p t = let h = number-below p in omega arith
 
 inner-of : (t : Tree) (k : ℕ) (o : Op) → k ≡ opNumber o → isMonadic o t ≡ pick (eqb (kindOf t) 9) (eqb (le16 (encode t) 6) k) false
-unfolding isMonadic encode recordOf
+unfolding isMonadic encode recordOf byOperator
 inner-of null k o e = refl
 inner-of unbounded k o e = refl
 inner-of (bool b) k o e = refl
@@ -105,7 +105,7 @@ is-twin o t =
 
 -- the operand's text under a twin
 under-text : (g : Settings) (o : Op) (t : Tree) → isMonadic o t ≡ true → getD (children g t) 0 [] ≡ text g (underOf t)
-unfolding isMonadic children underOf
+unfolding isMonadic children underOf byOperator first
 under-text g o null e = absurd (let z : _≡_ {A = ℕ} 0 1 = cc in let v : ⊥ = omega arith in v)
 under-text g o unbounded e = absurd (let z : _≡_ {A = ℕ} 0 1 = cc in let v : ⊥ = omega arith in v)
 under-text g o (bool b) e = absurd (let z : _≡_ {A = ℕ} 0 1 = cc in let v : ⊥ = omega arith in v)
@@ -225,7 +225,7 @@ bound-1 g (array (t then (u then ts))) = refl
 bound-1 g (interval t u) = refl
 
 start-text : (g : Settings) (t : Tree) → startText t (text g t) (children g t) ≡ text g (startOf t)
-unfolding isInterval children startOf stopOf text
+unfolding isInterval children startOf stopOf text first second
 start-text g null = refl
 start-text g unbounded = refl
 start-text g (bool b) = refl
@@ -242,7 +242,7 @@ start-text g (array ts) = refl
 start-text g (interval t u) = refl
 
 stop-text : (g : Settings) (t : Tree) → stopText t (children g t) ≡ text g (stopOf t)
-unfolding isInterval children startOf stopOf text
+unfolding isInterval children startOf stopOf text first second
 stop-text g null = refl
 stop-text g unbounded = refl
 stop-text g (bool b) = refl

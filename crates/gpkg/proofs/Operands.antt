@@ -13,10 +13,9 @@ use Rattle.record.specs.Record.{le16, recordOf}
 use Rattle.op.specs.declared.Op.{Op}
 use Rattle.op.specs.Op.{opNumber}
 use Rattle.tree.specs.Tree.{Tree, Trees, encode, encodes, null, unbounded, bool, num, str, date, timestamp, spatial, id, monadic, dyadic, function, array, interval, none, _then_}
-use Rattle.tree.specs.Parse.{first, second}
+use Rattle.tree.specs.Tests.{first, second, endsOf, isItems}
 use Rattle.sql.specs.declared.Operand as operand
 use Rattle.sql.specs.Ends.{unfoldExpressions}
-use Rattle.gpkg.specs.Text.{endsOf}
 use Rattle.gpkg.specs.Plan.{IsOperand, Stands, EndOf, Are, sound, sounds, twin, twinOf, underOf, itemsOf, operandOf, Bound, gone, item}
 use Rattle.gpkg.proofs.Records.{kindOf, bodyOf, beyond, ends-at, size-of}
 use Rattle.gpkg.proofs.Literals.{body-at}
@@ -57,7 +56,7 @@ items-of (array ts) e = (ts, refl)
 items-of (interval t u) e = absurd (let v : ⊥ = omega arith in v)
 
 no-items : (x : Tree) → (kindOf x ≡ 12 → ⊥) → itemsOf x ≡ none
-unfolding itemsOf
+unfolding itemsOf isItems
 no-items null e = refl
 no-items unbounded e = refl
 no-items (bool b) e = refl
@@ -127,7 +126,7 @@ module _ (s : List ℕ) (op kind inner : ℕ) (b : Bool) (k : kind ≡ le16 s 12
 
   -- the operand that is written
   pub under-stands : (a : ℕ) → a ≡ pick b (min 16 (length s)) 8 → Stands s a (length s) (operandOf o t)
-  unfolding operandOf underOf sound
+  unfolding operandOf underOf sound first
   under-stands a z = rw twins (go b refl z)
     where
       go : (c : Bool) → b ≡ c → a ≡ pick c (min 16 (length s)) 8 → Stands s a (length s) (pick c (underOf t) t)
@@ -160,7 +159,7 @@ record Items (s : List ℕ) (p : ℕ) (u : Tree) : Type 0 where
   pub fit : sounds ts ≡ true
 
 items-stand : {s : List ℕ} {m p k : ℕ} {u : Tree} → Stands s m (length s) u → k ≡ le16 s (m + 4) → k ≡ 12 → p ≡ min (m + 6) (length s) → Items s p u
-unfolding itemsOf sound
+unfolding itemsOf sound isItems
 items-stand {s} {m} {p} {k} {u} h e q l =
     let w = items-of u (sym (stands-kind h) ∙ sym e ∙ q) in
     let en = ends-at s m u (h .rest) (h .there) (h .inside) in

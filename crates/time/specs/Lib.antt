@@ -1,5 +1,6 @@
 -- What a reader opens first: the definitions (Filter to Accepted), the theorems of demands 2 and 3 (ReadsTruth, Theorems), and computed
 -- instances with the smallest cases outside each hypothesis (Examples). The rest are laws.
+pub mod Operators
 pub mod Filter
 pub mod FilterTruth
 pub mod Converse
@@ -10,6 +11,7 @@ pub mod ReadsTruth
 pub mod Theorems
 pub mod Instances
 pub mod Examples
+pub mod FilterLaws
 pub mod OperatorLaws
 pub mod TruthLaws
 pub mod ConverseLaws

@@ -10,31 +10,33 @@ use Rattle.prelude.specs.ChoiceLaws.{both-true}
 use Rattle.op.specs.declared.Op.{Op}
 use Rattle.op.specs.declared.Op.the-variants.{TDisjoint, TIntersects}
 use Rattle.op.specs.Op.{opNumber, oneOf, isTemporal}
-use Rattle.tree.specs.Tree.{Tree, Trees, null, unbounded, bool, num, str, date, timestamp, spatial, id, monadic, dyadic, function, array, interval}
+use Rattle.tree.specs.Tree.{Tree, dyadic, interval}
 use Rattle.tree.specs.Limits.{depthLimit}
 use Rattle.tree.specs.Good.{Good}
-use Rattle.tree.specs.Placed.{placed, inner, operands, isInterval}
+use Rattle.tree.specs.Placed.{operands, inPlace, inner, placed}
+use Rattle.tree.specs.Tests.{everywhere, byOperator, isInterval, startOf, stopOf}
+use Rattle.tree.specs.TestsLaws.{both-of}
 use Rattle.row.specs.Row.{Column}
 use Rattle.truth.specs.declared.Reading.{Reading}
 use Rattle.truth.specs.declared.Reading.the-variants.{True as SaysTrue, False as SaysFalse, Unknown as SaysUnknown}
-use Rattle.truth.specs.Grammar.{truthOf}
+use Rattle.truth.specs.Grammar.{value, truthOf}
 use Rattle.truth.specs.Reading.{answered, readingOf}
-use Rattle.time.specs.Filter.{isEnd, isOperand, isNeg, isAnd, isOr, compares, timeFilter, holds}
-use Rattle.time.specs.FilterTruth.{temporalTruth, truthOn, columnsNonNull, proper}
+use Rattle.time.specs.Filter.{isEnd, isOperand, isNeg, isAnd, isOr, compares, timeFilter}
+use Rattle.time.specs.FilterTruth.{treeAtom, valueOn, holds, temporalTruth, truthOn, columnsNonNull, proper}
 use Rattle.time.specs.Converse.{converse, Turned, keep, turn, in-both, in-neg, thirteen}
-use Rattle.time.specs.Ogc.{Width, isTen, isStart, isPoint, instants, ogcOperand, ogcOn}
+use Rattle.time.specs.Ogc.{Width, isStart, isPoint, instants, ogcOperand, ogcOn}
 use Rattle.time.specs.Accepted.{Lowers, IsRow}
 use Rattle.time.specs.Claims.{Opposite, ExactlyOne}
 use Rattle.time.specs.OperatorLaws.{AllOf, done, _also_, among, fifteen, of-temporal}
 use Rattle.time.specs.ConverseLaws.{turned-truth, converse-temporal, predicate-truth}
 use Rattle.time.specs.ComplementLaws.{complement-readings}
 use Rattle.time.specs.ThirteenLaws as laws
-use Rattle.time.specs.OgcLaws.{ogc-agrees}
+use Rattle.time.specs.OgcLaws.{start-is-end, point-start, ogc-agrees}
 use Rattle.time.specs.ReadsTruth.{Parts, parts, reads-truth}
 
 -- a temporal predicate is a time filter if its operands are operands
 predicate-filter : (t u : Tree) (o : Op) → isTemporal o ≡ true → timeFilter (dyadic o t u) ≡ both (isOperand t) (isOperand u)
-unfolding timeFilter isTemporal some
+unfolding timeFilter byOperator isTemporal some
 predicate-filter t u =
     of-temporal (λ o. timeFilter (dyadic o t u) ≡ both (isOperand t) (isOperand u))
     (refl also refl also refl also refl also refl also refl also refl also refl also refl also refl also refl also refl also refl also refl also refl also done)
@@ -44,19 +46,15 @@ both-swap true true e = refl
 both-swap true false e = e
 both-swap false b e = absurd (false≢true e)
 
-both-of : (a b : Bool) → a ≡ true → b ≡ true → both a b ≡ true
-both-of true b e f = f
-both-of false b e f = e
-
 both-holds : (cs : List Column) (t u : Tree) (o : Op) → holds cs t ≡ true → holds cs u ≡ true → holds cs (dyadic o t u) ≡ true
-unfolding holds
+unfolding holds everywhere valueOn treeAtom value
 both-holds cs t u o e f = both-of (holds cs t) (holds cs u) e f
 
 -- ---- Converses.
 
 -- a filter in which predicates were turned is a filter, over the same columns
 turned-filter : {t t' : Tree} → Turned t t' → timeFilter t ≡ true → timeFilter t' ≡ true
-unfolding timeFilter
+unfolding timeFilter byOperator
 turned-filter (keep t) e = e
 turned-filter (turn o t u h) e =
     predicate-filter u t (converse o) (converse-temporal o h) ∙ both-swap (isOperand t) (isOperand u) (sym (predicate-filter t u o h) ∙ e)
@@ -67,7 +65,7 @@ turned-filter (in-both {t} {t'} {u} {u'} o h p q) e =
 turned-filter (in-neg {t} {t'} o h p) e = rw h (turned-filter p (rw h at e))
 
 turned-holds : (cs : List Column) {t t' : Tree} → Turned t t' → holds cs t ≡ true → holds cs t' ≡ true
-unfolding holds
+unfolding holds everywhere valueOn treeAtom value
 turned-holds cs (keep t) e = e
 turned-holds cs (turn o t u h) e = both-swap (holds cs t) (holds cs u) e
 turned-holds cs (in-both {t} {t'} {u} {u'} o h p q) e =
@@ -132,61 +130,18 @@ exactly-one-reads {a} {b} {c} {d} {row} {cs} x L p q R hp hq s t =
 
 -- ---- Agreement with OGC 21-065r2.
 
-start-is-end : (w : Width) (t : Tree) → isStart w t ≡ true → isEnd t ≡ true
-unfolding isStart isEnd
-start-is-end w null e = absurd (false≢true e)
-start-is-end w unbounded e = refl
-start-is-end w (bool b) e = absurd (false≢true e)
-start-is-end w (num m s) e = absurd (false≢true e)
-start-is-end w (str f s) e = absurd (false≢true e)
-start-is-end w (date y m d) e = refl
-start-is-end w (timestamp y m d h i s) e = refl
-start-is-end w (spatial n s) e = absurd (false≢true e)
-start-is-end w (id s) e = refl
-start-is-end w (monadic o t) e = absurd (false≢true e)
-start-is-end w (dyadic o t u) e = absurd (false≢true e)
-start-is-end w (function n ts) e = absurd (false≢true e)
-start-is-end w (array ts) e = absurd (false≢true e)
-start-is-end w (interval t u) e = absurd (false≢true e)
-
-point-is-end : (w : Width) (t : Tree) → isPoint w t ≡ true → isEnd t ≡ true
-unfolding isPoint isEnd
-point-is-end w null e = absurd (false≢true e)
-point-is-end w unbounded e = absurd (false≢true e)
-point-is-end w (bool b) e = absurd (false≢true e)
-point-is-end w (num m s) e = absurd (false≢true e)
-point-is-end w (str f s) e = absurd (false≢true e)
-point-is-end w (date y m d) e = refl
-point-is-end w (timestamp y m d h i s) e = refl
-point-is-end w (spatial n s) e = absurd (false≢true e)
-point-is-end w (id s) e = refl
-point-is-end w (monadic o t) e = absurd (false≢true e)
-point-is-end w (dyadic o t u) e = absurd (false≢true e)
-point-is-end w (function n ts) e = absurd (false≢true e)
-point-is-end w (array ts) e = absurd (false≢true e)
-point-is-end w (interval t u) e = absurd (false≢true e)
-
 ogc-is-operand : (w : Width) (t : Tree) → ogcOperand w t ≡ true → isOperand t ≡ true
 unfolding ogcOperand isOperand
-ogc-is-operand w null e = absurd (false≢true e)
-ogc-is-operand w unbounded e = absurd (false≢true e)
-ogc-is-operand w (bool b) e = absurd (false≢true e)
-ogc-is-operand w (num m s) e = absurd (false≢true e)
-ogc-is-operand w (str f s) e = absurd (false≢true e)
-ogc-is-operand w (date y m d) e = refl
-ogc-is-operand w (timestamp y m d h i s) e = refl
-ogc-is-operand w (spatial n s) e = absurd (false≢true e)
-ogc-is-operand w (id s) e = refl
-ogc-is-operand w (monadic o t) e = absurd (false≢true e)
-ogc-is-operand w (dyadic o t u) e = absurd (false≢true e)
-ogc-is-operand w (function n ts) e = absurd (false≢true e)
-ogc-is-operand w (array ts) e = absurd (false≢true e)
-ogc-is-operand w (interval t u) e =
-    let h = both-true (isStart w t) (isPoint w u) e in
-    both-of (isEnd t) (isEnd u) (start-is-end w t (h .0)) (point-is-end w u (h .1))
+ogc-is-operand w t e = go (isInterval t) e
+  where
+    go : (b : Bool) → pick b (both (isStart w (startOf t)) (isPoint w (stopOf t))) (isPoint w t) ≡ true → pick b (both (isEnd (startOf t)) (isEnd (stopOf t))) (isEnd t) ≡ true
+    go true f =
+        let h = both-true (isStart w (startOf t)) (isPoint w (stopOf t)) f in
+        both-of (isEnd (startOf t)) (isEnd (stopOf t)) (start-is-end w (startOf t) (h .0)) (start-is-end w (stopOf t) (point-start w (stopOf t) (h .1)))
+    go false f = start-is-end w t (point-start w t f)
 
 predicate-placed : (o : Op) (t u : Tree) → placed (dyadic o t u) ≡ true → operands o t u ≡ true
-unfolding placed inner isInterval
+unfolding placed inner inPlace everywhere byOperator isInterval
 predicate-placed o t u e = both-true (operands o t u) (both (inner t) (inner u)) e .0
 
 -- On a row without NULL, all values valid ten-byte dates or all valid 19-byte timestamps, the written instants of that width, `..` only as an

@@ -24,7 +24,8 @@ use Rattle.op.specs.Op.{opNumber, opOf}
 use Rattle.op.specs.OpLaws.{number-of, number-below}
 use Rattle.tree.specs.Limits.{depthLimit, mantissaLimit, scaleLimit, flagsLimit, textLimit}
 use Rattle.tree.specs.Tree.{Tree, Trees, null, unbounded, bool, num, str, date, timestamp, spatial, id, monadic, dyadic, function, array, interval, none, _then_, twos, dateBytes, counted, encode, encodes}
-use Rattle.tree.specs.Parse.{Read, refused, got, also, Body, cons, end, exactly, many, first, second, le64, signed, mantissa, nameAt, past, namedAt, emptyBody, boolBody, numBody, strBody, dateBody, timestampBody, spatialBody, leaf, takesOne, takesTwo, allowed, operated, readMonadic, readDyadic, readFunction, readArray, readInterval, choose, kinds, readKind, node, parse}
+use Rattle.tree.specs.Parse.{Read, refused, got, also, Body, cons, end, exactly, many, le64, signed, mantissa, nameAt, past, namedAt, emptyBody, boolBody, numBody, strBody, dateBody, timestampBody, spatialBody, leaf, takesOne, takesTwo, allowed, operated, readMonadic, readDyadic, readFunction, readArray, readInterval, choose, kinds, readKind, node, parse}
+use Rattle.tree.specs.Tests.{first, second}
 use Rattle.tree.specs.Good.{Good, AllGood}
 use Rattle.tree.specs.ByteLaws.{le16-le, le32-le, le64-le, signed-twos, twos-low}
 use Rattle.tree.specs.ParseLaws.{both-true, within}

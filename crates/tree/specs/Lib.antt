@@ -1,5 +1,7 @@
 pub mod Limits
+pub mod Kinds
 pub mod Tree
+pub mod Tests
 pub mod Parse
 pub mod Placed
 pub mod Accepted
@@ -8,4 +10,5 @@ pub mod Good
 pub mod ByteLaws
 pub mod ParseLaws
 pub mod EncodeLaws
+pub mod TestsLaws
 pub mod AcceptedLaws

@@ -19,7 +19,9 @@ use Rattle.op.specs.declared.Named.{Named}
 use Rattle.op.specs.declared.Named.the-variants.{Is, NoOp}
 use Rattle.op.specs.Op.{opOf, oneOf}
 use Rattle.tree.specs.Limits.{depthLimit, mantissaLimit, scaleLimit, flagsLimit, textLimit}
+use Rattle.tree.specs.Tests.{first, second}
 use Rattle.tree.specs.Tree.{Tree, Trees, null, unbounded, bool, num, str, date, timestamp, spatial, id, monadic, dyadic, function, array, interval, none, _then_}
+use Rattle.tree.specs.Kinds.{NULL, UNBOUNDED, BOOL, NUM, STR, DATE, TIMESTAMP, SPATIAL, ID, MONADIC, DYADIC, FUNCTION, ARRAY, INTERVAL}
 
 -- what reading gives: a refusal, or a value
 pub data Read (A : Type 0) : Type 0 where
@@ -62,14 +64,6 @@ many body (suc fuel) (x ∷ s) = cons body (x ∷ s) (frame (x ∷ s)) (λ rest.
 -- a body of records alone
 abbrev pub items : Body → List ℕ → Read Trees
 items body s = many body (length s) s
-
-unfoldable pub first : Trees → Tree
-first none = null
-first (t then ts) = t
-
-unfoldable pub second : Trees → Tree
-second none = null
-second (t then ts) = first ts
 
 -- Fields.
 
@@ -177,20 +171,20 @@ choose k s (r ∷ rs) = pick (eqb k (r .kind)) (r .read s) (choose k s rs)
 -- the table of kinds
 unfoldable pub kinds : Body → List Row
 kinds below =
-    row 0 (leaf emptyBody (λ s. null))
-    ∷ row 1 (leaf emptyBody (λ s. unbounded))
-    ∷ row 2 (leaf boolBody (λ s. bool (eqb (getD s 0 0) 1)))
-    ∷ row 3 (leaf numBody (λ s. num (mantissa s 0) (getD s 8 0)))
-    ∷ row 4 (leaf strBody (λ s. str (getD s 0 0) (drop 1 s)))
-    ∷ row 5 (leaf dateBody (λ s. date (le16 s 0) (getD s 2 0) (getD s 3 0)))
-    ∷ row 6 (leaf timestampBody (λ s. timestamp (le16 s 0) (getD s 2 0) (getD s 3 0) (getD s 4 0) (getD s 5 0) (getD s 6 0)))
-    ∷ row 7 (leaf spatialBody (λ s. spatial (le32 s 0) (drop 4 s)))
-    ∷ row 8 (leaf name (λ s. id s))
-    ∷ row 9 (readMonadic below)
-    ∷ row 10 (readDyadic below)
-    ∷ row 11 (readFunction below)
-    ∷ row 12 (readArray below)
-    ∷ row 13 (readInterval below)
+    row NULL (leaf emptyBody (λ s. null))
+    ∷ row UNBOUNDED (leaf emptyBody (λ s. unbounded))
+    ∷ row BOOL (leaf boolBody (λ s. bool (eqb (getD s 0 0) 1)))
+    ∷ row NUM (leaf numBody (λ s. num (mantissa s 0) (getD s 8 0)))
+    ∷ row STR (leaf strBody (λ s. str (getD s 0 0) (drop 1 s)))
+    ∷ row DATE (leaf dateBody (λ s. date (le16 s 0) (getD s 2 0) (getD s 3 0)))
+    ∷ row TIMESTAMP (leaf timestampBody (λ s. timestamp (le16 s 0) (getD s 2 0) (getD s 3 0) (getD s 4 0) (getD s 5 0) (getD s 6 0)))
+    ∷ row SPATIAL (leaf spatialBody (λ s. spatial (le32 s 0) (drop 4 s)))
+    ∷ row ID (leaf name (λ s. id s))
+    ∷ row MONADIC (readMonadic below)
+    ∷ row DYADIC (readDyadic below)
+    ∷ row FUNCTION (readFunction below)
+    ∷ row ARRAY (readArray below)
+    ∷ row INTERVAL (readInterval below)
     ∷ []
 
 abbrev pub readKind : Body → Body

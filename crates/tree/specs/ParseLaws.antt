@@ -26,8 +26,8 @@ use Rattle.op.specs.Op.{opNumber, opOf}
 use Rattle.op.specs.OpLaws.{number-of, of-number}
 use Rattle.tree.specs.Limits.{depthLimit, mantissaLimit, scaleLimit, flagsLimit, textLimit}
 use Rattle.tree.specs.Tree.{Tree, Trees, null, unbounded, bool, num, str, date, timestamp, spatial, id, monadic, dyadic, function, array, interval, none, _then_, twos, dateBytes, counted, encode, encodes}
-use Rattle.tree.specs.Parse.{Read, refused, got, also, Body, cons, end, exactly, many, items, first, second, le64, signed, mantissa, nameAt, past, namedAt, emptyBody, boolBody, numBody, strBody, dateBody, timestampBody, spatialBody, leaf, takesOne, takesTwo, allowed, operated, readMonadic, readDyadic, readFunction, readArray, readInterval, Row, row, choose, kinds, readKind, node, parse}
-use Rattle.tree.specs.Placed.{count}
+use Rattle.tree.specs.Parse.{Read, refused, got, also, Body, cons, end, exactly, many, items, le64, signed, mantissa, nameAt, past, namedAt, emptyBody, boolBody, numBody, strBody, dateBody, timestampBody, spatialBody, leaf, takesOne, takesTwo, allowed, operated, readMonadic, readDyadic, readFunction, readArray, readInterval, Row, row, choose, kinds, readKind, node, parse}
+use Rattle.tree.specs.Tests.{first, second, count}
 use Rattle.tree.specs.Good.{Good, AllGood}
 use Rattle.tree.specs.ByteLaws.{Bytes, bytes-drop, bytes-take, byte-at, reads, value, reads-drop, le-at, reads-all, twos-signed}
 

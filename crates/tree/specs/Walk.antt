@@ -28,8 +28,9 @@ use Rattle.tree.specs.declared.First.the-variants.{Stop, Next}
 use Rattle.tree.specs.declared.Taken.{Taken}
 use Rattle.tree.specs.declared.Taken.the-variants.{Takes, Refuses}
 use Rattle.tree.specs.Tree.{Tree, Trees}
-use Rattle.tree.specs.Parse.{Read, refused, got, Body, first, second}
-use Rattle.tree.specs.Placed.{isInterval, isPair, isBetween, count, inner, inners}
+use Rattle.tree.specs.Parse.{Read, refused, got, Body}
+use Rattle.tree.specs.Tests.{first, second, isInterval, isPair, count}
+use Rattle.tree.specs.Placed.{isBetween, inner, inners}
 
 -- the answer of the public call
 unfoldable pub verdict : {A : Type 0} → Read A → Checked
