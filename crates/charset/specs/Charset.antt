@@ -1,22 +1,22 @@
 -- Which bytes may stand in a name, in a Str text and in a Spatial text: document 01, "Records". The settings, trees, rows and SQL texts all keep to these rules.
 use Prim.Native.Nat.{ℕ, _-_}
-use mathlib.Core.List.{List, [], _∷_, map}
+use mathlib.Core.List.{List, [], _∷_, _++_, map}
 use mathlib.Core.Bool.{Bool}
 use lib.ListN.{length, getD}
 use lib.Dec.{leb, eqb}
 use Rattle.prelude.specs.Choice.{pick, both, either, negated, between, all, some, same}
-use Rattle.prelude.specs.Bytes.{bytes}
+use Rattle.prelude.specs.Bytes.{bytes, byte, space, apostrophe, openBracket, closeBracket, comma, point, underscore}
 
 -- A to Z and a to z
 unfoldable pub letter : ℕ → Bool
-letter b = either (between 65 b 90) (between 97 b 122)
+letter b = either (between (byte "A") b (byte "Z")) (between (byte "a") b (byte "z"))
 
 unfoldable pub digit : ℕ → Bool
-digit b = between 48 b 57
+digit b = between (byte "0") b (byte "9")
 
 -- a name begins with a letter or an underscore
 unfoldable pub nameStart : ℕ → Bool
-nameStart b = either (letter b) (eqb b 95)
+nameStart b = either (letter b) (eqb b underscore)
 
 -- and goes on with letters, digits, underscores
 unfoldable pub nameByte : ℕ → Bool
@@ -24,7 +24,7 @@ nameByte b = either (nameStart b) (digit b)
 
 -- a letter as its capital, any other byte as it is
 unfoldable pub upper : ℕ → ℕ
-upper b = pick (between 97 b 122) (b - 32) b
+upper b = pick (between (byte "a") b (byte "z")) (b - 32) b
 
 -- a text with its letters as capitals: two texts are equal in any letter case if these are equal
 abbrev pub uppers : List ℕ → List ℕ
@@ -33,28 +33,33 @@ uppers s = map upper s
 -- the words that are no names: AND BETWEEN COLLATE DIV FALSE IN IS ISNULL LIKE NOT NOTNULL NULL OR TRUE
 unfoldable pub reservedWords : List (List ℕ)
 reservedWords =
-    (bytes "AND")
-    ∷ (bytes "BETWEEN")
-    ∷ (bytes "COLLATE")
-    ∷ (bytes "DIV")
-    ∷ (bytes "FALSE")
-    ∷ (bytes "IN")
-    ∷ (bytes "IS")
-    ∷ (bytes "ISNULL")
-    ∷ (bytes "LIKE")
-    ∷ (bytes "NOT")
-    ∷ (bytes "NOTNULL")
-    ∷ (bytes "NULL")
-    ∷ (bytes "OR")
-    ∷ (bytes "TRUE")
+    bytes "AND"
+    ∷ bytes "BETWEEN"
+    ∷ bytes "COLLATE"
+    ∷ bytes "DIV"
+    ∷ bytes "FALSE"
+    ∷ bytes "IN"
+    ∷ bytes "IS"
+    ∷ bytes "ISNULL"
+    ∷ bytes "LIKE"
+    ∷ bytes "NOT"
+    ∷ bytes "NOTNULL"
+    ∷ bytes "NULL"
+    ∷ bytes "OR"
+    ∷ bytes "TRUE"
     ∷ []
 
 -- in any letter case one of them
 unfoldable pub reserved : List ℕ → Bool
 reserved s = some (same (uppers s)) reservedWords
 
+-- the most bytes of a name
 abbrev pub nameLimit : ℕ
 nameLimit = 64
+
+-- what a word must be besides, to be a name: at most 64 bytes, and not reserved
+abbrev pub freeWord : List ℕ → Bool
+freeWord s = both (leb (length s) nameLimit) (negated (reserved s))
 
 -- a name: 1 to 64 bytes, a letter or underscore and then letters, digits, underscores, and no reserved word
 unfoldable pub name : List ℕ → Bool
@@ -65,12 +70,23 @@ name s =
 
 -- a byte of a Str text: 20 to 7E except the apostrophe 27
 unfoldable pub strByte : ℕ → Bool
-strByte b = both (between 32 b 126) (negated (eqb b 39))
+strByte b = both (between 32 b 126) (negated (eqb b apostrophe))
+
+-- what a Str text, a row's value and a quoted text may hold
+abbrev pub strText : List ℕ → Bool
+strText s = all strByte s
+
+-- how a Str text stands in a SQL text: as it is, between apostrophes
+abbrev pub quotedForm : List ℕ → List ℕ
+quotedForm s = apostrophe ∷ (s ++ (apostrophe ∷ []))
 
 -- a byte of a Spatial text: letters, digits, space, comma, parentheses, minus, point
 unfoldable pub spatialByte : ℕ → Bool
 spatialByte b =
     either (letter b)
     (either (digit b)
-    (either (eqb b 32)
-    (either (between 40 b 41) (between 44 b 46))))
+    (either (eqb b space)
+    (either (between openBracket b closeBracket) (between comma b point))))
+
+abbrev pub spatialText : List ℕ → Bool
+spatialText s = all spatialByte s

@@ -2,8 +2,23 @@ ghost use mathlib.Core.Path.{_≡_};
 ghost use Prim.Native.Nat.{_≤_, _<_};
 ghost use lib.ListN.{length};
 ghost use Rattle.prelude.specs.Choice.{between, all};
-ghost use Rattle.charset.specs.Charset.{letter, digit, nameStart, nameByte, upper, uppers, reserved, name, strByte, spatialByte};
+ghost use Rattle.charset.specs.Charset.{letter, digit, nameStart, nameByte, upper, uppers, reserved, freeWord, name, strByte, strText, spatialByte, spatialText};
+ghost use Rattle.charset.specs.Classes.{classByte};
 ghost use Rattle.charset.specs.WordKey.{keyOf, Bytes, mayBe};
+
+// The most bytes of a name.
+const NAME_LIMIT: usize = 64;
+
+// What lies between a small letter and its capital.
+const CASE_STEP: u8 = 32;
+
+// The classes of bytes that runs of a text are made of.
+pub enum Class {
+    Space,
+    Name,
+    Str,
+    Spatial,
+}
 
 fn within(lo: u8, b: u8, hi: u8) -> bool
     ensures { λ r. ⌜ r ≡ between lo b hi ⌝ }
@@ -14,16 +29,16 @@ fn within(lo: u8, b: u8, hi: u8) -> bool
 fn is_letter(b: u8) -> bool
     ensures { λ r. ⌜ r ≡ letter b ⌝ }
 {
-    if within(65, b, 90) {
+    if within(b'A', b, b'Z') {
         return true;
     }
-    within(97, b, 122)
+    within(b'a', b, b'z')
 }
 
 fn is_digit(b: u8) -> bool
     ensures { λ r. ⌜ r ≡ digit b ⌝ }
 {
-    within(48, b, 57)
+    within(b'0', b, b'9')
 }
 
 pub fn is_name_start(b: u8) -> bool
@@ -32,21 +47,21 @@ pub fn is_name_start(b: u8) -> bool
     if is_letter(b) {
         return true;
     }
-    b == 95
+    b == b'_'
 }
 
 // Most bytes of names are small letters, so these are told first, by two comparisons; then the capitals and the underscore, which lie below them, then the digits.
 pub fn is_name_byte(b: u8) -> bool
     ensures { λ r. ⌜ r ≡ nameByte b ⌝ }
 {
-    if 97 <= b {
-        return b <= 122;
+    if b'a' <= b {
+        return b <= b'z';
     }
-    if 65 <= b {
-        if b <= 90 {
+    if b'A' <= b {
+        if b <= b'Z' {
             return true;
         }
-        return b == 95;
+        return b == b'_';
     }
     is_digit(b)
 }
@@ -55,14 +70,18 @@ pub fn is_name_byte(b: u8) -> bool
 pub fn upper_of(b: u8) -> u8
     ensures { λ r. ⌜ r ≡ upper b ⌝ }
 {
-    if within(97, b, 122) { b - 32 } else { b }
+    if within(b'a', b, b'z') {
+        b - CASE_STEP
+    } else {
+        b
+    }
 }
 
 pub fn is_str_byte(b: u8) -> bool
     ensures { λ r. ⌜ r ≡ strByte b ⌝ }
 {
-    if within(32, b, 126) {
-        if b == 39 {
+    if within(b' ', b, b'~') {
+        if b == b'\'' {
             return false;
         }
         return true;
@@ -79,21 +98,33 @@ fn is_spatial_byte(b: u8) -> bool
     if is_digit(b) {
         return true;
     }
-    if b == 32 {
+    if b == b' ' {
         return true;
     }
-    if within(40, b, 41) {
+    if within(b'(', b, b')') {
         return true;
     }
-    within(44, b, 46)
+    within(b',', b, b'.')
 }
 
-fn are_name_bytes(s: &[u8]) -> bool
-    ensures { λ r. ⌜ r ≡ all nameByte (now (s .entry)) ⌝ }
+// Whether a byte is of a class.
+pub fn is_of(class: Class, b: u8) -> bool
+    ensures { λ r. ⌜ r ≡ classByte class b ⌝ }
+{
+    match class {
+        Class::Space => b == b' ',
+        Class::Name => is_name_byte(b),
+        Class::Str => is_str_byte(b),
+        Class::Spatial => is_spatial_byte(b),
+    }
+}
+
+fn are_all(class: Class, s: &[u8]) -> bool
+    ensures { λ r. ⌜ r ≡ all (classByte class) (now (s .entry)) ⌝ }
 {
     let mut i = 0;
     while i < s.len() {
-        if is_name_byte(s[i]) {
+        if is_of(class, s[i]) {
             i += 1;
         } else {
             return false;
@@ -104,32 +135,16 @@ fn are_name_bytes(s: &[u8]) -> bool
 
 // Every byte may stand in a Str text.
 pub fn is_str_text(s: &[u8]) -> bool
-    ensures { λ r. ⌜ r ≡ all strByte (now (s .entry)) ⌝ }
+    ensures { λ r. ⌜ r ≡ strText (now (s .entry)) ⌝ }
 {
-    let mut i = 0;
-    while i < s.len() {
-        if is_str_byte(s[i]) {
-            i += 1;
-        } else {
-            return false;
-        }
-    }
-    true
+    are_all(Class::Str, s)
 }
 
 // Every byte may stand in a Spatial text.
 pub fn is_spatial_text(s: &[u8]) -> bool
-    ensures { λ r. ⌜ r ≡ all spatialByte (now (s .entry)) ⌝ }
+    ensures { λ r. ⌜ r ≡ spatialText (now (s .entry)) ⌝ }
 {
-    let mut i = 0;
-    while i < s.len() {
-        if is_spatial_byte(s[i]) {
-            i += 1;
-        } else {
-            return false;
-        }
-    }
-    true
+    are_all(Class::Spatial, s)
 }
 
 fn wide(x: u8) -> u64
@@ -181,22 +196,22 @@ fn may_be_reserved(n: usize, b: u8) -> bool
     ensures { λ r. ⌜ r ≡ mayBe n b ⌝ }
 {
     match b {
-        65 => n == 3, // AND
-        66 => n == 7, // BETWEEN
-        67 => n == 7, // COLLATE
-        68 => n == 3, // DIV
-        70 => n == 5, // FALSE
-        73 => if n == 2 { true } else { n == 6 }, // IN, IS, ISNULL
-        76 => n == 4, // LIKE
-        78 => if n == 3 {
+        b'A' => n == 3, // AND
+        b'B' => n == 7, // BETWEEN
+        b'C' => n == 7, // COLLATE
+        b'D' => n == 3, // DIV
+        b'F' => n == 5, // FALSE
+        b'I' => if n == 2 { true } else { n == 6 }, // IN, IS, ISNULL
+        b'L' => n == 4, // LIKE
+        b'N' => if n == 3 {
             true
         } else if n == 7 {
             true
         } else {
             n == 4
         }, // NOT, NOTNULL, NULL
-        79 => n == 2, // OR
-        84 => n == 4, // TRUE
+        b'O' => n == 2, // OR
+        b'T' => n == 4, // TRUE
         _ => false,
     }
 }
@@ -217,6 +232,19 @@ pub fn is_reserved(s: &[u8]) -> bool
     false
 }
 
+// What is left of the name rule for a word of name bytes that begins as a name does: its length, and that it is not reserved.
+pub fn is_free_word(s: &[u8]) -> bool
+    ensures { λ r. ⌜ r ≡ freeWord (now (s .entry)) ⌝ }
+{
+    if NAME_LIMIT < s.len() {
+        return false;
+    }
+    if is_reserved(s) {
+        return false;
+    }
+    true
+}
+
 // A name that the settings, a tree, a row or an SQL text may hold.
 pub fn is_name(s: &[u8]) -> bool
     ensures { λ r. ⌜ r ≡ name (now (s .entry)) ⌝ }
@@ -224,11 +252,11 @@ pub fn is_name(s: &[u8]) -> bool
     if s.len() < 1 {
         return false;
     }
-    if 64 < s.len() {
+    if NAME_LIMIT < s.len() {
         return false;
     }
     if is_name_start(s[0]) {
-        if are_name_bytes(&s[1..]) {
+        if are_all(Class::Name, &s[1..]) {
             if is_reserved(s) {
                 return false;
             }

@@ -1,8 +1,13 @@
-// The parts of a case on standard input, each behind its length in four bytes, little-endian.
+// The parts of a case as programs read them, each after its length in four bytes, little-endian. No contract of the kit says which bytes a call
+// of C's reads. So what is read and what it is stand apart: `read_part` fills the buffers and counts, and `part_of` says what was read.
 ghost use mathlib.Core.Path.{_≡_};
-ghost use lib.ListN.{length, take};
-ghost use Rattle.input.specs.Fits.{Fits};
-use libc::STDIN_FILENO;
+ghost use Prim.Native.Nat.{_+_, _≤_, _<_};
+ghost use lib.ListN.{take};
+ghost use Rattle.record.specs.Record.{le32};
+ghost use Rattle.input.specs.Part.{partOf};
+
+// How many bytes hold a part's length.
+const LENGTH_SIZE: usize = 4;
 
 pub enum Part {
     // The input ended before the part began.
@@ -14,45 +19,58 @@ pub enum Part {
     Whole(usize),
 }
 
-// Fills the first n bytes; false if there is no room or the input ends.
-fn fill(buffer: &mut [u8], n: usize) -> bool {
-    if buffer.len() < n {
-        return false;
-    }
-    let got = io::read_full(STDIN_FILENO, &mut buffer[..n]);
-    got == n
+fn wide(x: u8) -> usize
+    ensures { λ r. ⌜ (r ≡ x) × (r < 256) ⌝ }
+{
+    x as usize
 }
 
-// Reads n bytes by way of the buffer; false if the input ends before.
-fn pass(buffer: &mut [u8], n: usize) -> bool {
+fn length_in(head: &[u8; 4]) -> usize
+    ensures { λ r. ⌜ (r ≡ le32 (now (head .entry)) 0) × (r < 4294967296) ⌝ }
+{
+    wide(head[0]) + wide(head[1]) * 256 + (wide(head[2]) + wide(head[3]) * 256) * 65536
+}
+
+// Reads n bytes by way of the buffer: how many there were.
+fn pass(file: i32, buffer: &mut [u8], n: usize) -> usize
+    ensures { λ r. ⌜ r ≤ n ⌝ }
+{
     let mut left = n;
     while buffer.len() < left {
-        let got = io::read_full(STDIN_FILENO, buffer);
+        let got = io::read_full(file, buffer);
         if got == 0 {
-            return false;
+            return n - left;
         }
         left -= got;
     }
-    fill(buffer, left)
+    let got = io::read_full(file, &mut buffer[..left]);
+    n - left + got
 }
 
-pub fn next_part(buffer: &mut [u8]) -> Part
-    ensures { λ r. ⌜ Fits r (length (now (buffer .exit))) ⌝ }
+// Reads the next part, its length into head and what follows into the buffer: how many bytes there were.
+pub fn read_part(file: i32, head: &mut [u8; 4], buffer: &mut [u8]) -> usize
+    ensures { λ r. ⌜ r ≤ 4 + le32 (now (head .exit)) 0 ⌝ }
 {
-    let mut head = [0u8; 4];
-    let had = io::read_full(STDIN_FILENO, &mut head);
-    if had == 0 {
+    let had = io::read_full(file, head);
+    if had < LENGTH_SIZE {
+        return had;
+    }
+    LENGTH_SIZE + pass(file, buffer, length_in(head))
+}
+
+// What was read, if that many bytes were: head holds the length, and the buffer has this much room.
+pub fn part_of(head: &[u8; 4], read: usize, room: usize) -> Part
+    ensures { λ r. ⌜ r ≡ partOf (now (head .entry)) read room ⌝ }
+{
+    if read == 0 {
         return Part::End;
     }
-    if had < 4 {
+    let n = length_in(head);
+    if read < LENGTH_SIZE + n {
         return Part::Short;
     }
-    let n = tree::dword_at(&head, 0);
-    if !pass(buffer, n) {
-        return Part::Short;
-    }
-    if buffer.len() < n {
-        return Part::Whole(buffer.len());
+    if room < n {
+        return Part::Whole(room);
     }
     Part::Whole(n)
 }

@@ -1,7 +1,8 @@
-// Lowers filters. Standard input: cases to its end, each a settings record and then a tree, each of these behind its length in four bytes,
+// Lowers filters. Standard input: cases to its end, each a settings record and then a tree, each of these after its length in four bytes,
 // little-endian. Standard output: a line for each case, the SQL text or `refused N`; `incomplete` if the input ends inside a case.
 use gpkg::Lowered;
 use input::Part;
+use libc::STDIN_FILENO;
 use libc::STDOUT_FILENO;
 
 fn answer(settings: &[u8], tree: &[u8], out: &mut [u8]) {
@@ -23,7 +24,9 @@ fn incomplete() {
 
 // Answers the case whose settings are settings[..n]; false if the input ends inside it.
 fn rest_of_case(settings: &mut [u8], n: usize, tree: &mut [u8], out: &mut [u8]) -> bool {
-    match input::next_part(tree) {
+    let mut head = [0u8; 4];
+    let read = input::read_part(STDIN_FILENO, &mut head, tree);
+    match input::part_of(&head, read, tree.len()) {
         Part::Whole(m) => {
             answer(input::first(settings, n), input::first(tree, m), out);
             true
@@ -37,7 +40,9 @@ fn rest_of_case(settings: &mut [u8], n: usize, tree: &mut [u8], out: &mut [u8]) 
 
 // Answers the case that comes next; false if there is none, or the input ends inside it.
 fn next_case(settings: &mut [u8], tree: &mut [u8], out: &mut [u8]) -> bool {
-    match input::next_part(settings) {
+    let mut head = [0u8; 4];
+    let read = input::read_part(STDIN_FILENO, &mut head, settings);
+    match input::part_of(&head, read, settings.len()) {
         Part::End => false,
         Part::Short => {
             incomplete();
