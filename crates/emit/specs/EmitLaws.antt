@@ -73,7 +73,7 @@ placed-none cap out at = go (lacks cap (length out) at 0)
     go true = refl
     go false = refl
 
-no-bytes : (t : List ℕ) → length t ≡ 0 → t ≡ []
+pub no-bytes : (t : List ℕ) → length t ≡ 0 → t ≡ []
 no-bytes [] h = refl
 no-bytes (x ∷ t) h = absurd (let v : ⊥ = omega arith in v)
 

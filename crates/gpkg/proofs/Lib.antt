@@ -1,4 +1,3 @@
-pub mod LaysLaws
 pub mod Records
 pub mod Clip
 pub mod Literals
@@ -6,7 +5,6 @@ pub mod Ends
 pub mod Words
 pub mod Nodes
 pub mod Operands
-pub mod Parts
 pub mod Sorts
 pub mod Walk
 pub mod Leaves

@@ -8,6 +8,7 @@ use lib.ListN.{length, getD, drop, length-drop, drop-of-length-le}
 use lib.Seq.{drop-drop, getD-drop}
 use lib.Dec.{eqb}
 use borrow.Author.Tests.{eqb-true, eqb-false}
+use Rattle.emit.specs.EmitLaws.{no-bytes}
 use Rattle.prelude.specs.Choice.{pick, between}
 use Rattle.record.specs.Record.{le16, recordOf}
 use Rattle.op.specs.declared.Op.{Op}
@@ -21,7 +22,6 @@ use Rattle.gpkg.proofs.Records.{kindOf, bodyOf, beyond, ends-at, size-o
 use Rattle.gpkg.proofs.Literals.{body-at}
 use Rattle.gpkg.proofs.Ends.{stands-kind, stands-part, both-first, both-second}
 use Rattle.gpkg.proofs.Nodes.{is-twin}
-use Rattle.gpkg.proofs.LaysLaws.{no-bytes}
 
 monadic-of : (x : Tree) → kindOf x ≡ 9 → (o : Op) × ((t : Tree) × (x ≡ monadic o t))
 monadic-of null e = absurd (let v : ⊥ = omega arith in v)

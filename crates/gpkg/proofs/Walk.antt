@@ -8,6 +8,7 @@ use lib.ListN.{length, getD, take, drop, length-drop, length-take, length-append
 use lib.Seq.{drop-drop, take-take, take-suc, take-all, take-at, drop-at}
 use native.Mathlib.Nat.{add-sub-cancel-left}
 use native.Mathlib.Numerals.{add-one}
+use Rattle.emit.specs.EmitLaws.{lays-none, lays-of, lays-then}
 use Rattle.sql.specs.TemplateLaws.{fill-append, spelt-append, digit-part, end-fills}
 use lib.Dec.{T, eqb, ltb, lt→ltb}
 use borrow.Author.Tests.{ltb-true, ltb-false, eqb-true, eq-eqb, ne-eqb}
@@ -20,16 +21,17 @@ use Rattle.op.specs.Op.{opNumber}
 use Rattle.op.specs.OpLaws.{number-below}
 use Rattle.tree.specs.Tree.{Tree, Trees, Settings, encode, encodes, counted, null, unbounded, bool, num, str, date, timestamp, spatial, id, monadic, dyadic, function, array, interval, none, _then_}
 use Rattle.literal.specs.Literal.{nullText}
-use Rattle.sql.specs.Template.{fill, spelt, parts, partOf}
+use Rattle.sql.specs.Template.{fill, spelt, parts, partOf, wordsOf}
 use Rattle.sql.specs.declared.End as end
 use Rattle.sql.specs.declared.End.the-variants.{Column, Instant, Other, Open, Null}
 use Rattle.gpkg.specs.declared.Flat as flat
 use Rattle.gpkg.specs.declared.Flat.the-variants.{Words, Opened, Nothing}
 use Rattle.gpkg.specs.declared.Piece.the-variants as pieces
-use Rattle.gpkg.specs.Lays.{Lays, capped}
+use Rattle.emit.specs.Emit.{countLimit, ended}
+use Rattle.emit.specs.Lays.{Lays}
 use Rattle.gpkg.specs.Text.{text, texts, joined}
 use Rattle.op.specs.Spelling.{word}
-use Rattle.gpkg.specs.Plan.{Inside, part, Is, Are, Stands, EndOf, Node, one, two, nodeEnds, Bound, gone, item, sound, sounds, slot, endPiece, pieceOf, partText, flatText, leafText, itemsOf, temporalOf, infixText, reducedText, leftBare, rightBare, twin, twinOf, operandOf, beforeText, behindText}
+use Rattle.gpkg.specs.Plan.{Inside, part, Is, Are, Stands, EndOf, Node, one, two, nodeEnds, Bound, gone, item, sound, sounds, slot, endPiece, pieceOf, flatText, leafText, itemsOf, temporalOf, infixText, reducedText, leftBare, rightBare, twin, twinOf, operandOf, beforeText, behindText}
 use Rattle.gpkg.proofs.Records.{kindOf, beyond, size-of, long, part-at}
 use Rattle.gpkg.proofs.Literals.{kind-whole}
 use Rattle.gpkg.proofs.Ends.{both-first, both-second, stands-part}
@@ -38,7 +40,6 @@ use Rattle.gpkg.proofs.Operands.{operand-stands, twins, under-stands, b
 use Rattle.gpkg.proofs.Sorts.{kind-id}
 use Rattle.tree.specs.Tests.{first, second, isId, isLiteralOrId, endsOf, byOperator}
 use Rattle.tree.specs.Placed.{isBetween}
-use Rattle.gpkg.proofs.LaysLaws.{lays-of, lays-then, lays-none}
 
 never : {A : Type 0} → _≡_ {A = ℕ} 0 1 → A
 never e = absurd (let v : ⊥ = omega arith in v)
@@ -66,9 +67,9 @@ pub record Come (g : Settings) (s : List ℕ) (at : ℕ) (out₀ : List ℕ) (ts
   pub there : drop p s ≡ encodes us
   pub fit : sounds us ≡ true
   pub whole : joined (texts g ts) ≡ done ++ tail g p us
-  pub laid : Lays at done out₀ out here
+  pub laid : Lays countLimit at done out₀ out here
 
-pub come-start : (g : Settings) (s : List ℕ) (at : ℕ) (out : List ℕ) (ts : Trees) (here : ℕ) → s ≡ encodes ts → sounds ts ≡ true → here ≡ capped (at + 0) → Come g s at out ts 0 here out
+pub come-start : (g : Settings) (s : List ℕ) (at : ℕ) (out : List ℕ) (ts : Trees) (here : ℕ) → s ≡ encodes ts → sounds ts ≡ true → here ≡ ended countLimit at 0 → Come g s at out ts 0 here out
 unfolding tail
 come-start g s at out ts here e f h = record { done = []; us = ts; there = e; fit = f; whole = refl; laid = lays-none h }
 
@@ -88,7 +89,7 @@ no-more s p (x then ts) d h =
     let b = long x in
     absurd (let v : ⊥ = omega arith in v)
 
-pub come-end : {g : Settings} {s : List ℕ} {at : ℕ} {out₀ : List ℕ} {ts : Trees} {p here : ℕ} {out : List ℕ} → length s ≤ p → Come g s at out₀ ts p here out → Lays at (joined (texts g ts)) out₀ out here
+pub come-end : {g : Settings} {s : List ℕ} {at : ℕ} {out₀ : List ℕ} {ts : Trees} {p here : ℕ} {out : List ℕ} → length s ≤ p → Come g s at out₀ ts p here out → Lays countLimit at (joined (texts g ts)) out₀ out here
 come-end {g} {s} {at} {out₀} {ts} {p} h c =
     let z : tail g p (c .us) ≡ [] = ap (λ (us : Trees). tail g p us) (no-more s p (c .us) (c .there) h) ∙ tail-none g p in
     lays-of (sym (c .whole ∙ ap (λ (l : List ℕ). c .done ++ l) z ∙ append-nil (c .done))) (c .laid)
@@ -106,7 +107,7 @@ pub record Next (g : Settings) (s : List ℕ) (at : ℕ) (out₀ : List ℕ) (ts
   pub u : Tree
   pub bytes : part s p z ≡ encode u
   pub fit : sound u ≡ true
-  pub on : {m n : List ℕ} {comma there : ℕ} → Lays here (pick (eqb p 0) [] (44 ∷ 32 ∷ [])) out m comma → Lays comma (text g u) m n there → Come g s at out₀ ts z there n
+  pub on : {m n : List ℕ} {comma there : ℕ} → Lays countLimit here (pick (eqb p 0) [] (44 ∷ 32 ∷ [])) out m comma → Lays countLimit comma (text g u) m n there → Come g s at out₀ ts z there n
 
 pub come-next : {g : Settings} {s : List ℕ} {at : ℕ} {out₀ : List ℕ} {ts : Trees} {p z here : ℕ} {out : List ℕ} → p < length s → EndOf s p z → Come g s at out₀ ts p here out → Next g s at out₀ ts p z here out
 unfolding encodes sounds tail
@@ -231,7 +232,7 @@ end-part g xs c h =
 
 -- a code of a template that is written as it is
 plain-piece : (g : Settings) {s : List ℕ} {es : List end.End} {xs : List Tree} → Are s es xs → (c : ℕ) (f : flat.Flat) → pieceOf c (getD es (c % 4) (Column 0 0)) ≡ pieces.Plain f → fill (slot g xs) (partOf c) ≡ flatText f
-unfolding pieceOf flatText partText
+unfolding pieceOf flatText wordsOf
 plain-piece g {s} {es} {xs} a c f e = go (ltb c 4) refl e
   where
     go : (b : Bool) → ltb c 4 ≡ b → pick b (endPiece (getD es (c % 4) (Column 0 0))) (pieces.Plain (Words c)) ≡ pieces.Plain f → fill (slot g xs) (partOf c) ≡ flatText f
@@ -452,14 +453,14 @@ fourteen s (function y ts) k e q a b = absurd (let w = kind-whole s (function y 
 fourteen s (array ts) k e q a b = absurd (let w = kind-whole s (array ts) e in let v : ⊥ = omega arith in v)
 fourteen s (interval x y) k e q a b = absurd (let w = kind-whole s (interval x y) e in let v : ⊥ = omega arith in v)
 
-module _ (g : Settings) {s : List ℕ} {es : List end.End} {xs : List Tree} (a : Are s es xs) (codes : List ℕ) (n k : ℕ) (h : k < n) (l : k < length codes) {at here r : ℕ} {l₀ out m : List ℕ} (laid : Lays at (fill (slot g xs) (spelt (take k (take n codes)))) l₀ out here) where
-  pub plain-step : (f : flat.Flat) → pieceOf (getD codes k 0) (getD es (getD codes k 0 % 4) (Column 0 0)) ≡ pieces.Plain f → Lays here (flatText f) out m r → Lays at (fill (slot g xs) (spelt (take (k + 1) (take n codes)))) l₀ m r
+module _ (g : Settings) {s : List ℕ} {es : List end.End} {xs : List Tree} (a : Are s es xs) (codes : List ℕ) (n k : ℕ) (h : k < n) (l : k < length codes) {at here r : ℕ} {l₀ out m : List ℕ} (laid : Lays countLimit at (fill (slot g xs) (spelt (take k (take n codes)))) l₀ out here) where
+  pub plain-step : (f : flat.Flat) → pieceOf (getD codes k 0) (getD es (getD codes k 0 % 4) (Column 0 0)) ≡ pieces.Plain f → Lays countLimit here (flatText f) out m r → Lays countLimit at (fill (slot g xs) (spelt (take (k + 1) (take n codes)))) l₀ m r
   plain-step f e x = lays-of (sym (fill-next (slot g xs) codes n k h l ∙ ap (λ (y : List ℕ). fill (slot g xs) (spelt (take k (take n codes))) ++ y) (plain-piece g a (getD codes k 0) f e))) (lays-then laid x)
 
-  pub node-step : (p z : ℕ) (e : pieceOf (getD codes k 0) (getD es (getD codes k 0 % 4) (Column 0 0)) ≡ pieces.Node p z) → Lays here (text g (node-piece g a (getD codes k 0) p z e .x)) out m r → Lays at (fill (slot g xs) (spelt (take (k + 1) (take n codes)))) l₀ m r
+  pub node-step : (p z : ℕ) (e : pieceOf (getD codes k 0) (getD es (getD codes k 0 % 4) (Column 0 0)) ≡ pieces.Node p z) → Lays countLimit here (text g (node-piece g a (getD codes k 0) p z e .x)) out m r → Lays countLimit at (fill (slot g xs) (spelt (take (k + 1) (take n codes)))) l₀ m r
   node-step p z e x = lays-of (sym (fill-next (slot g xs) codes n k h l ∙ ap (λ (y : List ℕ). fill (slot g xs) (spelt (take k (take n codes))) ++ y) (node-piece g a (getD codes k 0) p z e .filled))) (lays-then laid x)
 
-  pub name-step : (p z : ℕ) (e : pieceOf (getD codes k 0) (getD es (getD codes k 0 % 4) (Column 0 0)) ≡ pieces.Name p z) → Lays here (drop 6 (part s p z)) out m r → Lays at (fill (slot g xs) (spelt (take (k + 1) (take n codes)))) l₀ m r
+  pub name-step : (p z : ℕ) (e : pieceOf (getD codes k 0) (getD es (getD codes k 0 % 4) (Column 0 0)) ≡ pieces.Name p z) → Lays countLimit here (drop 6 (part s p z)) out m r → Lays countLimit at (fill (slot g xs) (spelt (take (k + 1) (take n codes)))) l₀ m r
   name-step p z e x = lays-of (sym (fill-next (slot g xs) codes n k h l ∙ ap (λ (y : List ℕ). fill (slot g xs) (spelt (take k (take n codes))) ++ y) (name-piece g a (getD codes k 0) p z e .filled))) (lays-then laid x)
 
 pub all-filled : (f : ℕ → List ℕ) (codes : List ℕ) (n k : ℕ) → n ≤ k → fill f (spelt (take k (take n codes))) ≡ fill f (spelt (take n codes))
@@ -504,11 +505,11 @@ not-temporal kind op k e = simp (eq-eqb kind 10 k) at e
 pub infix-step : {s : List ℕ} {op m : ℕ} {t : Tree} (g : Settings) → Node s 10 op m t → between 26 op 40 ≡ false → between 18 op 25 ≡ false → between 47 op 48 ≡ false → {a b : Bool}
     → ((x : Tree) → part s 8 m ≡ encode x → a ≡ leftBare op x) → ((y : Tree) → part s m (length s) ≡ encode y → b ≡ rightBare op y)
     → {at i j k n r : ℕ} {l₀ l₁ l₂ l₃ l₄ l₅ : List ℕ}
-    → Lays at (pick a [] (40 ∷ [])) l₀ l₁ i
-    → ((x : Tree) → part s 8 m ≡ encode x → sound x ≡ true → Lays i (text g x) l₁ l₂ j)
-    → ((o : Op) → op ≡ opNumber o → Lays j (infixText a (word o) b) l₂ l₃ k)
-    → ((y : Tree) → part s m (length s) ≡ encode y → sound y ≡ true → Lays k (text g y) l₃ l₄ n)
-    → Lays n (pick b [] (41 ∷ [])) l₄ l₅ r → Lays at (text g t) l₀ l₅ r
+    → Lays countLimit at (pick a [] (40 ∷ [])) l₀ l₁ i
+    → ((x : Tree) → part s 8 m ≡ encode x → sound x ≡ true → Lays countLimit i (text g x) l₁ l₂ j)
+    → ((o : Op) → op ≡ opNumber o → Lays countLimit j (infixText a (word o) b) l₂ l₃ k)
+    → ((y : Tree) → part s m (length s) ≡ encode y → sound y ≡ true → Lays countLimit k (text g y) l₃ l₄ n)
+    → Lays countLimit n (pick b [] (41 ∷ [])) l₄ l₅ r → Lays countLimit at (text g t) l₀ l₅ r
 infix-step g (one o x k n e f) ht hs hw ha hb l1 l2 l3 l4 l5 = absurd (let v : ⊥ = omega (arith, k) in v)
 infix-step {s} {op} {m} g (two o x y k n p q) ht hs hw {a} {b} ha hb l1 l2 l3 l4 l5 =
     let ex = stands-part p .1 in
@@ -538,10 +539,10 @@ from-bounds false n from h e = (omega arith, omega arith)
 pub monadic-step : {s : List ℕ} {op m : ℕ} {t : Tree} (g : Settings) → Node s 9 op m t → {bare d : Bool} {below inner from : ℕ}
     → ((x : Tree) → part s 8 (length s) ≡ encode x → bare ≡ isLiteralOrId x) → below ≡ le16 s 12 → inner ≡ le16 s 14 → d ≡ twinOf op below inner → from ≡ pick d (min 16 (length s)) 8
     → {at i j r : ℕ} {l₀ l₁ l₂ l₃ : List ℕ}
-    → ((o : Op) → op ≡ opNumber o → Lays at (beforeText op (word o) bare) l₀ l₁ i)
-    → ((x : Tree) → part s from (length s) ≡ encode x → sound x ≡ true → Lays i (text g x) l₁ l₂ j)
-    → ((o : Op) → op ≡ opNumber o → Lays j (behindText g op (word o) bare d) l₂ l₃ r)
-    → Lays at (text g t) l₀ l₃ r
+    → ((o : Op) → op ≡ opNumber o → Lays countLimit at (beforeText op (word o) bare) l₀ l₁ i)
+    → ((x : Tree) → part s from (length s) ≡ encode x → sound x ≡ true → Lays countLimit i (text g x) l₁ l₂ j)
+    → ((o : Op) → op ≡ opNumber o → Lays countLimit j (behindText g op (word o) bare d) l₂ l₃ r)
+    → Lays countLimit at (text g t) l₀ l₃ r
 monadic-step g (two o x y k n p q) hb b i w f l1 l2 l3 = absurd (let v : ⊥ = omega (arith, k) in v)
 monadic-step {s} {op} g (one o x k n e f) {bare} {d} hb b i w z l1 l2 l3 =
     let st = under-stands s op _ _ d b i w o x e f n _ z in
@@ -576,12 +577,12 @@ bound-item h (item x b f) = (b, f)
 pub between-step : {s : List ℕ} {op m : ℕ} {t : Tree} (g : Settings) → Node s 10 op m t → between 47 op 48 ≡ true → {p q z : ℕ}
     → p ≡ pick (eqb (le16 s (m + 4)) 12) (min (m + 6) (length s)) (length s) → EndOf s p q → EndOf s q z
     → {at i j k n r : ℕ} {l₀ l₁ l₂ l₃ l₄ l₅ : List ℕ}
-    → ((x : Tree) → part s 8 m ≡ encode x → sound x ≡ true → Lays at (text g x) l₀ l₁ i)
-    → ((o : Op) → op ≡ opNumber o → Lays i (infixText true (word o) true) l₁ l₂ j)
-    → ((x : Tree) → Bound s p q x → Lays j (text g x) l₂ l₃ k)
-    → Lays k (32 ∷ 65 ∷ 78 ∷ 68 ∷ 32 ∷ []) l₃ l₄ n
-    → ((x : Tree) → Bound s q z x → Lays n (text g x) l₄ l₅ r)
-    → Lays at (text g t) l₀ l₅ r
+    → ((x : Tree) → part s 8 m ≡ encode x → sound x ≡ true → Lays countLimit at (text g x) l₀ l₁ i)
+    → ((o : Op) → op ≡ opNumber o → Lays countLimit i (infixText true (word o) true) l₁ l₂ j)
+    → ((x : Tree) → Bound s p q x → Lays countLimit j (text g x) l₂ l₃ k)
+    → Lays countLimit k (32 ∷ 65 ∷ 78 ∷ 68 ∷ 32 ∷ []) l₃ l₄ n
+    → ((x : Tree) → Bound s q z x → Lays countLimit n (text g x) l₄ l₅ r)
+    → Lays countLimit at (text g t) l₀ l₅ r
 between-step g (one o x k n e f) h ep eq ez l1 l2 l3 l4 l5 = absurd (let v : ⊥ = omega (arith, k) in v)
 between-step {s} {op} {m} g (two o x y k n p q) h ep eq ez l1 l2 l3 l4 l5 =
     let b = bounds q ep eq ez in
@@ -594,15 +595,15 @@ pub spatial-step : {s : List ℕ} {op m : ℕ} {t : Tree} (g : Settings) → Nod
     → x ≡ eqb (le16 (part s 8 m) 4) 8 → y ≡ eqb (le16 (part s m (length s)) 4) 8
     → a ≡ both (between 21 op 23) (both x (negated y)) → b ≡ both (between 21 op 23) (both y (negated x))
     → {at i j k n o u v r : ℕ} {l₀ l₁ l₂ l₃ l₄ l₅ l₆ l₇ l₈ : List ℕ}
-    → ((c : Op) → op ≡ opNumber c → Lays at (word c) l₀ l₁ i)
-    → Lays i (pick a (40 ∷ 83 ∷ 84 ∷ 95 ∷ 82 ∷ 101 ∷ 100 ∷ 117 ∷ 99 ∷ 101 ∷ 80 ∷ 114 ∷ 101 ∷ 99 ∷ 105 ∷ 115 ∷ 105 ∷ 111 ∷ 110 ∷ 40 ∷ []) (40 ∷ [])) l₁ l₂ j
-    → ((w : Tree) → part s 8 m ≡ encode w → sound w ≡ true → Lays j (text g w) l₂ l₃ k)
-    → Lays k (pick a (reducedText (g .precision)) []) l₃ l₄ n
-    → Lays n (pick b (44 ∷ 32 ∷ 83 ∷ 84 ∷ 95 ∷ 82 ∷ 101 ∷ 100 ∷ 117 ∷ 99 ∷ 101 ∷ 80 ∷ 114 ∷ 101 ∷ 99 ∷ 105 ∷ 115 ∷ 105 ∷ 111 ∷ 110 ∷ 40 ∷ []) (44 ∷ 32 ∷ [])) l₄ l₅ o
-    → ((w : Tree) → part s m (length s) ≡ encode w → sound w ≡ true → Lays o (text g w) l₅ l₆ u)
-    → Lays u (pick b (reducedText (g .precision)) []) l₆ l₇ v
-    → Lays v (41 ∷ []) l₇ l₈ r
-    → Lays at (text g t) l₀ l₈ r
+    → ((c : Op) → op ≡ opNumber c → Lays countLimit at (word c) l₀ l₁ i)
+    → Lays countLimit i (pick a (40 ∷ 83 ∷ 84 ∷ 95 ∷ 82 ∷ 101 ∷ 100 ∷ 117 ∷ 99 ∷ 101 ∷ 80 ∷ 114 ∷ 101 ∷ 99 ∷ 105 ∷ 115 ∷ 105 ∷ 111 ∷ 110 ∷ 40 ∷ []) (40 ∷ [])) l₁ l₂ j
+    → ((w : Tree) → part s 8 m ≡ encode w → sound w ≡ true → Lays countLimit j (text g w) l₂ l₃ k)
+    → Lays countLimit k (pick a (reducedText (g .precision)) []) l₃ l₄ n
+    → Lays countLimit n (pick b (44 ∷ 32 ∷ 83 ∷ 84 ∷ 95 ∷ 82 ∷ 101 ∷ 100 ∷ 117 ∷ 99 ∷ 101 ∷ 80 ∷ 114 ∷ 101 ∷ 99 ∷ 105 ∷ 115 ∷ 105 ∷ 111 ∷ 110 ∷ 40 ∷ []) (44 ∷ 32 ∷ [])) l₄ l₅ o
+    → ((w : Tree) → part s m (length s) ≡ encode w → sound w ≡ true → Lays countLimit o (text g w) l₅ l₆ u)
+    → Lays countLimit u (pick b (reducedText (g .precision)) []) l₆ l₇ v
+    → Lays countLimit v (41 ∷ []) l₇ l₈ r
+    → Lays countLimit at (text g t) l₀ l₈ r
 spatial-step g (one c x k n e f) h ex ey ea eb l1 l2 l3 l4 l5 l6 l7 l8 = absurd (let v : ⊥ = omega (arith, k) in v)
 spatial-step {s} {op} {m} g (two c t u k n p q) h {x} {y} {a} {b} ex ey ea eb l1 l2 l3 l4 l5 l6 l7 l8 =
     let et = stands-part p .1 in

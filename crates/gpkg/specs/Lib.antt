@@ -1,4 +1,3 @@
 pub mod Text
 pub mod Lowered
-pub mod Lays
 pub mod Plan

@@ -20,7 +20,7 @@ use Rattle.literal.specs.Literal.{nullText, boolText, unboundedText, numText, s
 use Rattle.sql.specs.Ends.{isColumn}
 use Rattle.sql.specs.Ends as sqlEnds
 use Rattle.sql.specs.declared.Operand as operand
-use Rattle.sql.specs.Template.{partOf}
+use Rattle.sql.specs.Template.{wordsOf}
 use Rattle.sql.specs.declared.End as end
 use Rattle.sql.specs.declared.End.the-variants.{Column, Instant, Other, Open, Null}
 use Rattle.gpkg.specs.Text.{text}
@@ -140,12 +140,8 @@ endPiece Null = pieces.Plain Nothing
 unfoldable pub pieceOf : ℕ → end.End → piece.Piece
 pieceOf code x = pick (ltb code 4) (endPiece x) (pieces.Plain (Words code))
 
--- the text of a code from 4 on
-unfoldable pub partText : ℕ → List ℕ
-partText code = pick (ltb code 4) [] (partOf code)
-
 unfoldable pub flatText : flat.Flat → List ℕ
-flatText (Words code) = partText code
+flatText (Words code) = wordsOf code
 flatText Opened = unboundedText
 flatText Nothing = nullText
 

@@ -6,15 +6,15 @@ use mathlib.Core.Bool.{true}
 use Prim.Native.Nat.{_+_, _-_, _*_, _≤_}
 use lib.ListN.{length, take, length-take, length-drop}
 use denote.Ref.{now}
-use Rattle.gpkg.proofs.LaysLaws.{lays-none, lays-of, lays-then}
+use Rattle.emit.specs.EmitLaws.{lays, lays-none, lays-of, lays-past, lays-then}
 use Rattle.tree.specs.Tree.{Tree, Trees, encode, encodes}
 use Rattle.record.specs.Record.{le16}
 use Rattle.sql.specs.Template.{fill, spelt}
-use Rattle.gpkg.specs.Lays.{Lays}
+use Rattle.emit.specs.Emit.{countLimit}
+use Rattle.emit.specs.Lays.{Lays}
 use Rattle.gpkg.specs.Plan.{settingsIn, sound, sounds, slot, nodeEnds}
 use Rattle.gpkg.proofs.Walk.{Come, come-start, come-next, come-end, leaf-step, high-text, six, fourteen, listed, node-of, node-piece, name-piece, plain-step, node-step, name-step, monadic-node, monadic-step, from-bounds, all-filled, items-fall, items-short, infix-step, two-node, temporal-node, node-ends, not-temporal, bounds-range, bound-null, bound-item, between-step, spatial-step}
 use borrow.Author.Tests.{not-true, not-false}
-use Rattle.gpkg.proofs.LaysLaws.{lays-past}
 use lib.Dec.{eqb}
 use Prim.Native.Nat.{ℕ, _<_}
 use borrow.Fn.Kinds.{In}
@@ -48,7 +48,7 @@ use Rattle.gpkg.proofs.write_spatial.Kinds as write-spatial-kinds
 use Rattle.gpkg.proofs.+write_between+write_bound+write_infix+write_items+write_monadic+write_node+write_operands+write_others+write_spatial.Lts-write_spatial as write-spatial-lts
 use Rattle.gpkg.proofs.bounds_at.Reads as bounds-at-reads
 use Rattle.gpkg.proofs.end_of.Reads as end-of-reads
-use Rattle.gpkg.proofs.ended.Reads as ended-reads
+use Rattle.emit.proofs.ended.Reads as ended-reads
 use Rattle.gpkg.proofs.inside.Reads as inside-reads
 use Rattle.gpkg.proofs.is_kind.Reads as is-kind-reads
 use Rattle.gpkg.proofs.is_left_bare.Reads as is-left-bare-reads
@@ -61,11 +61,11 @@ use Rattle.gpkg.proofs.items_at.Reads as items-at-reads
 use Rattle.gpkg.proofs.least.Reads as least-reads
 use Rattle.gpkg.proofs.operand_from.Reads as operand-from-reads
 use Rattle.gpkg.proofs.piece_of.Reads as piece-of-reads
-use Rattle.gpkg.proofs.put.Reads as put-reads
+use Rattle.emit.proofs.put.Reads as put-reads
 use Rattle.gpkg.proofs.put_before.Reads as put-before-reads
 use Rattle.gpkg.proofs.put_behind.Reads as put-behind-reads
 use Rattle.gpkg.proofs.put_comma.Reads as put-comma-reads
-use Rattle.gpkg.proofs.put_either.Reads as put-either-reads
+use Rattle.emit.proofs.put_either.Reads as put-either-reads
 use Rattle.gpkg.proofs.put_flat.Reads as put-flat-reads
 use Rattle.gpkg.proofs.put_infix.Reads as put-infix-reads
 use Rattle.gpkg.proofs.put_leaf.Reads as put-leaf-reads
@@ -428,7 +428,7 @@ write-between-returns : (t : ℕ) → write-between-lts.Need-returns (
   put-reads.Asked,
   put-reads.Learnt,
 ) (write-between-at t) write-between.Post
-write-between-returns t c = λ t nd h. between-step (settingsIn (c .before .before .before .before .before .before .before .before .before .before .before .before .before .before .before .before .before .before .before .before .before .before .before .before .before .before .before .before .args .set .now)) nd h (c .before .before .before .before .before .before .before .before .before .before .before .before .before .before .before .before .before .before .before .before .before .before .before .before .bounds-at .ensures) (c .before .before .before .before .before .before .before .before .before .before .before .before .before .before .before .before .before .before .before .before .before .before .before .end-of .ensures) (c .before .before .before .before .before .before .before .before .before .before .before .before .before .before .before .before .before .before .before .before .before .before .end-of2 .ensures) (c .before .before .before .before .before .before .before .before .before .before .before .before .before .before .before .before .before .before .before .write-node .ensures) (c .before .before .before .before .before .before .before .before .before .before .before .before .before .before .before .put-infix .ensures) (c .before .before .before .before .before .before .before .before .before .before .before .write-bound .ensures) (c .before .before .before .before .before .before .put .ensures) (c .before .before .write-bound2 .ensures)
+write-between-returns t c = λ t nd h. between-step (settingsIn (c .before .before .before .before .before .before .before .before .before .before .before .before .before .before .before .before .before .before .before .before .before .before .before .before .before .before .before .before .args .set .now)) nd h (c .before .before .before .before .before .before .before .before .before .before .before .before .before .before .before .before .before .before .before .before .before .before .before .before .bounds-at .ensures) (c .before .before .before .before .before .before .before .before .before .before .before .before .before .before .before .before .before .before .before .before .before .before .before .end-of .ensures) (c .before .before .before .before .before .before .before .before .before .before .before .before .before .before .before .before .before .before .before .before .before .before .end-of2 .ensures) (c .before .before .before .before .before .before .before .before .before .before .before .before .before .before .before .before .before .before .before .write-node .ensures) (c .before .before .before .before .before .before .before .before .before .before .before .before .before .before .before .put-infix .ensures) (c .before .before .before .before .before .before .before .before .before .before .before .write-bound .ensures) (lays (c .before .before .before .before .before .before .put .ensures)) (c .before .before .write-bound2 .ensures)
 
 write-bound-slice-aggregate-put : (t : ℕ) → write-bound-lts.Need-slice-aggregate-put (
   put-reads.Asked,
@@ -460,7 +460,7 @@ write-bound-returns : (t : ℕ) → write-bound-lts.Need-returns (
   write-node-below t,
   write-node.Post,
 ) (write-bound-at t) write-bound.Post
-write-bound-returns t c = λ x b. lays-of (bound-null (settingsIn (c .before .before .before .before .before .before .before .before .before .args .set .now)) (c .before .before .before .before .before .if1 .taken) b) (c .before .before .put .ensures)
+write-bound-returns t c = λ x b. lays-of (bound-null (settingsIn (c .before .before .before .before .before .before .before .before .before .args .set .now)) (c .before .before .before .before .before .if1 .taken) b) (lays (c .before .before .put .ensures))
 
 write-bound-sub-write-node : (t : ℕ) → write-bound-lts.Need-sub-write-node (
   put-reads.Asked,
@@ -861,7 +861,7 @@ write-infix-returns : (t : ℕ) → write-infix-lts.Need-returns (
   put-infix-reads.Asked,
   put-infix-reads.Learnt,
 ) (write-infix-at t) write-infix.Post
-write-infix-returns t c = λ t nd ht hs hw. infix-step (settingsIn (c .before .before .before .before .before .before .before .before .before .before .before .before .before .before .before .before .before .before .before .before .before .before .before .before .before .before .before .before .before .before .before .before .before .args .set .now)) nd ht hs hw (c .before .before .before .before .before .before .before .before .before .before .before .before .before .before .before .before .before .before .before .before .before .before .before .before .before .before .before .before .is-left-bare .ensures) (c .before .before .before .before .before .before .before .before .before .before .before .before .before .before .before .before .before .before .before .before .before .before .before .before .before .before .is-right-bare .ensures) (c .before .before .before .before .before .before .before .before .before .before .before .before .before .before .before .before .before .before .before .before .before .before .put-either .ensures) (c .before .before .before .before .before .before .before .before .before .before .before .before .before .before .before .before .before .write-node .ensures) (c .before .before .before .before .before .before .before .before .before .before .before .before .before .put-infix .ensures) (c .before .before .before .before .before .before .before .before .write-node2 .ensures) (c .before .before .put-either2 .ensures)
+write-infix-returns t c = λ t nd ht hs hw. infix-step (settingsIn (c .before .before .before .before .before .before .before .before .before .before .before .before .before .before .before .before .before .before .before .before .before .before .before .before .before .before .before .before .before .before .before .before .before .args .set .now)) nd ht hs hw (c .before .before .before .before .before .before .before .before .before .before .before .before .before .before .before .before .before .before .before .before .before .before .before .before .before .before .before .before .is-left-bare .ensures) (c .before .before .before .before .before .before .before .before .before .before .before .before .before .before .before .before .before .before .before .before .before .before .before .before .before .before .is-right-bare .ensures) (lays (c .before .before .before .before .before .before .before .before .before .before .before .before .before .before .before .before .before .before .before .before .before .before .put-either .ensures)) (c .before .before .before .before .before .before .before .before .before .before .before .before .before .before .before .before .before .write-node .ensures) (c .before .before .before .before .before .before .before .before .before .before .before .before .before .put-infix .ensures) (c .before .before .before .before .before .before .before .before .write-node2 .ensures) (lays (c .before .before .put-either2 .ensures))
 
 abbrev write-items-Inv-loop : write-items-lts.InvT-loop
 write-items-Inv-loop s set out₀ at here₀ p₀ out here p = (length out ≡ length out₀) × ((ts : Trees) → s ≡ encodes ts → sounds ts ≡ true → Come (settingsIn set) s at out₀ ts p here out)
@@ -1902,10 +1902,10 @@ write-node-returns-7 : (t : ℕ) → write-node-lts.Need-returns-7 (
   write-items-below t,
   write-items.Post,
 ) (write-node-at t) write-node.Post
-write-node-returns-7 t c = λ t e f. let w = listed (settingsIn (c .before .before .before .before .before .before .before .before .before .before .before .before .before .before .before .before .before .before .before .before .before .before .before .before .before .before .before .before .before .before .before .args .set .now)) (c .before .before .before .before .before .before .before .before .before .before .before .before .before .before .before .before .before .before .before .before .before .before .before .before .before .before .before .before .before .before .before .args .s .now) (c .before .before .before .before .before .before .before .before .before .before .before .before .before .before .before .before .before .before .before .before .before .before .before .before .before .before .word-at .result) (c .before .before .before .before .before .before .before .before .before .before .before .before .before .before .before .before .before .before .before .before .least .result) (c .before .before .before .before .before .before .before .before .before .before .before .before .before .before .before .before .before .before .before .before .before .items-at .result) t e f (c .before .before .before .before .before .before .before .before .before .before .before .before .before .before .before .before .before .before .before .before .before .before .before .before .before .before .word-at .ensures .0) (omega arith) (omega arith) (c .before .before .before .before .before .before .before .before .before .before .before .before .before .before .before .before .before .before .before .before .before .items-at .ensures .2) (c .before .before .before .before .before .before .before .before .before .before .before .before .before .before .before .before .before .before .before .before .least .ensures) in lays-of (sym (w .whole)) (lays-then (c .before .before .before .before .before .before .before .before .before .before .before .before .before .before .before .before .before .put .ensures) (lays-then (c .before .before .before .before .before .before .before .before .before .before .before .before .put2 .ensures) (lays-then (c .before .before .before .before .before .before .before .write-items .ensures (w .ts) (w .there) (w .fit)) (c .before .before .put3 .ensures))))
+write-node-returns-7 t c = λ t e f. let w = listed (settingsIn (c .before .before .before .before .before .before .before .before .before .before .before .before .before .before .before .before .before .before .before .before .before .before .before .before .before .before .before .before .before .before .before .args .set .now)) (c .before .before .before .before .before .before .before .before .before .before .before .before .before .before .before .before .before .before .before .before .before .before .before .before .before .before .before .before .before .before .before .args .s .now) (c .before .before .before .before .before .before .before .before .before .before .before .before .before .before .before .before .before .before .before .before .before .before .before .before .before .before .word-at .result) (c .before .before .before .before .before .before .before .before .before .before .before .before .before .before .before .before .before .before .before .before .least .result) (c .before .before .before .before .before .before .before .before .before .before .before .before .before .before .before .before .before .before .before .before .before .items-at .result) t e f (c .before .before .before .before .before .before .before .before .before .before .before .before .before .before .before .before .before .before .before .before .before .before .before .before .before .before .word-at .ensures .0) (omega arith) (omega arith) (c .before .before .before .before .before .before .before .before .before .before .before .before .before .before .before .before .before .before .before .before .before .items-at .ensures .2) (c .before .before .before .before .before .before .before .before .before .before .before .before .before .before .before .before .before .before .before .before .least .ensures) in lays-of (sym (w .whole)) (lays-then (lays (c .before .before .before .before .before .before .before .before .before .before .before .before .before .before .before .before .before .put .ensures)) (lays-then (lays (c .before .before .before .before .before .before .before .before .before .before .before .before .put2 .ensures)) (lays-then (c .before .before .before .before .before .before .before .write-items .ensures (w .ts) (w .there) (w .fit)) (lays (c .before .before .put3 .ensures)))))
 
 abbrev write-operands-Inv-loop : write-operands-lts.InvT-loop
-write-operands-Inv-loop s set out₀ at kind op m e codes n here₀ k₀ out here k = (length out ≡ length out₀) × (k ≤ n) × ((t : Tree) → s ≡ encode t → sound t ≡ true → 9 ≤ le16 s 4 → le16 s 4 < 11 → Lays at (fill (slot (settingsIn set) (nodeEnds t)) (spelt (take k (take n codes)))) out₀ out here)
+write-operands-Inv-loop s set out₀ at kind op m e codes n here₀ k₀ out here k = (length out ≡ length out₀) × (k ≤ n) × ((t : Tree) → s ≡ encode t → sound t ≡ true → 9 ≤ le16 s 4 → le16 s 4 < 11 → Lays countLimit at (fill (slot (settingsIn set) (nodeEnds t)) (spelt (take k (take n codes)))) out₀ out here)
 
 abbrev write-operands-μ-loop : write-operands-lts.MeasureT-loop
 write-operands-μ-loop s set out₀ at kind op m e codes n here₀ k₀ out here k = n - k
@@ -3169,7 +3169,7 @@ write-operands-loop-again-3 : (t : ℕ) → write-operands-lts.Need-loop-again-3
   put-reads.Asked,
   put-reads.Learnt,
 ) (write-operands-at t) write-operands.Post write-operands-Inv-loop write-operands-μ-loop
-write-operands-loop-again-3 t c = (c .before .before .put .kept .1 .0 ∙ c .before .before .before .before .before .before .before .before .before .before .before .before .before .before .loop .inv .0, omega arith, λ t e f a b. let tn = temporal-node (sym (c .before .before .before .before .before .before .before .before .before .before .before .before .before .before .before .before .before .before .before .before .is-temporal .ensures) ∙ not-false (c .before .before .before .before .before .before .before .before .before .before .before .before .before .before .before .before .before .before .before .before .is-temporal .result) (c .before .before .before .before .before .before .before .before .before .before .before .before .before .before .before .before .before .before .before .if1 .left)) (node-of (c .before .before .before .before .before .before .before .before .before .before .before .before .before .before .before .before .before .before .before .before .before .before .before .before .before .before .before .args .s .now) (c .before .before .before .before .before .before .before .before .before .before .before .before .before .before .before .before .before .before .before .before .before .before .before .word-at .result) (c .before .before .before .before .before .before .before .before .before .before .before .before .before .before .before .before .before .before .before .before .before .before .word-at2 .result) (c .before .before .before .before .before .before .before .before .before .before .before .before .before .before .before .before .before .before .before .before .before .end-of .result) t e f (c .before .before .before .before .before .before .before .before .before .before .before .before .before .before .before .before .before .before .before .before .before .before .before .word-at .ensures .0) (c .before .before .before .before .before .before .before .before .before .before .before .before .before .before .before .before .before .before .before .before .before .before .word-at2 .ensures .0) (c .before .before .before .before .before .before .before .before .before .before .before .before .before .before .before .before .before .before .before .before .before .end-of .ensures) (let q = c .before .before .before .before .before .before .before .before .before .before .before .before .before .before .before .before .before .before .before .before .before .before .before .word-at .ensures .0 in omega arith) (let q = c .before .before .before .before .before .before .before .before .before .before .before .before .before .before .before .before .before .before .before .before .before .before .before .word-at .ensures .0 in omega arith)) in let ar = node-ends (tn .0) _ (c .before .before .before .before .before .before .before .before .before .before .before .before .before .before .before .before .before .before .temporal-ends .ensures) in let hb = c .before .before .before .before .before .before .before .before .before .before .before .before .before .before .before .before .before .template-of .ensures .1 in let lb : length (c .before .before .before .before .before .before .before .before .before .before .before .before .before .before .before .before .before .template-of .result .codes) ≡ 24 = search (needs, c .before .before .before .before .before .before .before .before .before .before .before .before .before .before .before .before .before .template-of .ok) in let pc = sym (c .before .before .before .before .before .before .before .before .before .before .before .piece-of .ensures) ∙ c .before .before .before .before .before .before .before .before .before .piece3 .given .1 in name-step (settingsIn (c .before .before .before .before .before .before .before .before .before .before .before .before .before .before .before .before .before .before .before .before .before .before .before .before .before .before .before .args .set .now)) ar (c .before .before .before .before .before .before .before .before .before .before .before .before .before .before .before .before .before .template-of .result .codes) (c .before .before .before .before .before .before .before .before .before .before .before .before .before .before .before .before .before .template-of .result .len) (c .before .before .before .before .before .before .before .before .before .before .before .before .before .before .loop .k) (omega arith) (omega arith) (c .before .before .before .before .before .before .before .before .before .before .before .before .before .before .loop .inv .2 t e f a b) _ _ pc (lays-of (c .before .before .before .before .rest .ensures) (c .before .before .put .ensures)))
+write-operands-loop-again-3 t c = (c .before .before .put .kept .1 .0 ∙ c .before .before .before .before .before .before .before .before .before .before .before .before .before .before .loop .inv .0, omega arith, λ t e f a b. let tn = temporal-node (sym (c .before .before .before .before .before .before .before .before .before .before .before .before .before .before .before .before .before .before .before .before .is-temporal .ensures) ∙ not-false (c .before .before .before .before .before .before .before .before .before .before .before .before .before .before .before .before .before .before .before .before .is-temporal .result) (c .before .before .before .before .before .before .before .before .before .before .before .before .before .before .before .before .before .before .before .if1 .left)) (node-of (c .before .before .before .before .before .before .before .before .before .before .before .before .before .before .before .before .before .before .before .before .before .before .before .before .before .before .before .args .s .now) (c .before .before .before .before .before .before .before .before .before .before .before .before .before .before .before .before .before .before .before .before .before .before .before .word-at .result) (c .before .before .before .before .before .before .before .before .before .before .before .before .before .before .before .before .before .before .before .before .before .before .word-at2 .result) (c .before .before .before .before .before .before .before .before .before .before .before .before .before .before .before .before .before .before .before .before .before .end-of .result) t e f (c .before .before .before .before .before .before .before .before .before .before .before .before .before .before .before .before .before .before .before .before .before .before .before .word-at .ensures .0) (c .before .before .before .before .before .before .before .before .before .before .before .before .before .before .before .before .before .before .before .before .before .before .word-at2 .ensures .0) (c .before .before .before .before .before .before .before .before .before .before .before .before .before .before .before .before .before .before .before .before .before .end-of .ensures) (let q = c .before .before .before .before .before .before .before .before .before .before .before .before .before .before .before .before .before .before .before .before .before .before .before .word-at .ensures .0 in omega arith) (let q = c .before .before .before .before .before .before .before .before .before .before .before .before .before .before .before .before .before .before .before .before .before .before .before .word-at .ensures .0 in omega arith)) in let ar = node-ends (tn .0) _ (c .before .before .before .before .before .before .before .before .before .before .before .before .before .before .before .before .before .before .temporal-ends .ensures) in let hb = c .before .before .before .before .before .before .before .before .before .before .before .before .before .before .before .before .before .template-of .ensures .1 in let lb : length (c .before .before .before .before .before .before .before .before .before .before .before .before .before .before .before .before .before .template-of .result .codes) ≡ 24 = search (needs, c .before .before .before .before .before .before .before .before .before .before .before .before .before .before .before .before .before .template-of .ok) in let pc = sym (c .before .before .before .before .before .before .before .before .before .before .before .piece-of .ensures) ∙ c .before .before .before .before .before .before .before .before .before .piece3 .given .1 in name-step (settingsIn (c .before .before .before .before .before .before .before .before .before .before .before .before .before .before .before .before .before .before .before .before .before .before .before .before .before .before .before .args .set .now)) ar (c .before .before .before .before .before .before .before .before .before .before .before .before .before .before .before .before .before .template-of .result .codes) (c .before .before .before .before .before .before .before .before .before .before .before .before .before .before .before .before .before .template-of .result .len) (c .before .before .before .before .before .before .before .before .before .before .before .before .before .before .loop .k) (omega arith) (omega arith) (c .before .before .before .before .before .before .before .before .before .before .before .before .before .before .loop .inv .2 t e f a b) _ _ pc (lays-of (c .before .before .before .before .rest .ensures) (lays (c .before .before .put .ensures))))
 
 write-operands-same-length-4 : (t : ℕ) → write-operands-lts.Need-same-length-4 (
   word-at-reads.Asked,
@@ -3987,7 +3987,7 @@ write-spatial-returns : (t : ℕ) → write-spatial-lts.Need-returns (
   put-reads.Asked,
   put-reads.Learnt,
 ) (write-spatial-at t) write-spatial.Post
-write-spatial-returns t c = λ t nd h. spatial-step (settingsIn (c .before .before .before .before .before .before .before .before .before .before .before .before .before .before .before .before .before .before .before .before .before .before .before .before .before .before .before .before .before .before .before .before .before .before .before .before .before .before .before .before .before .before .before .before .before .before .before .before .args .set .now)) nd h (c .before .before .before .before .before .before .before .before .before .before .before .before .before .before .before .before .before .before .before .before .before .before .before .before .before .before .before .before .before .before .before .before .before .before .before .before .before .before .before .before .before .before .before .is-kind .ensures) (c .before .before .before .before .before .before .before .before .before .before .before .before .before .before .before .before .before .before .before .before .before .before .before .before .before .before .before .before .before .before .before .before .before .before .before .before .before .before .before .before .before .is-kind2 .ensures) (c .before .before .before .before .before .before .before .before .before .before .before .before .before .before .before .before .before .before .before .before .before .before .before .before .before .before .before .before .before .before .before .before .before .before .before .before .before .before .before .before .is-reduced .ensures) (c .before .before .before .before .before .before .before .before .before .before .before .before .before .before .before .before .before .before .before .before .before .before .before .before .before .before .before .before .before .before .before .before .before .before .before .before .before .before .before .is-reduced2 .ensures) (c .before .before .before .before .before .before .before .before .before .before .before .before .before .before .before .before .before .before .before .before .before .before .before .before .before .before .before .before .before .before .before .before .before .before .before .before .before .put-word .ensures) (c .before .before .before .before .before .before .before .before .before .before .before .before .before .before .before .before .before .before .before .before .before .before .before .before .before .before .before .before .before .before .before .put-either .ensures) (c .before .before .before .before .before .before .before .before .before .before .before .before .before .before .before .before .before .before .before .before .before .before .before .before .before .before .write-node .ensures) (c .before .before .before .before .before .before .before .before .before .before .before .before .before .before .before .before .before .before .before .before .before .before .put-reduced .ensures) (c .before .before .before .before .before .before .before .before .before .before .before .before .before .before .before .before .put-either2 .ensures) (c .before .before .before .before .before .before .before .before .before .before .before .write-node2 .ensures) (c .before .before .before .before .before .before .before .put-reduced2 .ensures) (c .before .before .put .ensures)
+write-spatial-returns t c = λ t nd h. spatial-step (settingsIn (c .before .before .before .before .before .before .before .before .before .before .before .before .before .before .before .before .before .before .before .before .before .before .before .before .before .before .before .before .before .before .before .before .before .before .before .before .before .before .before .before .before .before .before .before .before .before .before .before .args .set .now)) nd h (c .before .before .before .before .before .before .before .before .before .before .before .before .before .before .before .before .before .before .before .before .before .before .before .before .before .before .before .before .before .before .before .before .before .before .before .before .before .before .before .before .before .before .before .is-kind .ensures) (c .before .before .before .before .before .before .before .before .before .before .before .before .before .before .before .before .before .before .before .before .before .before .before .before .before .before .before .before .before .before .before .before .before .before .before .before .before .before .before .before .before .is-kind2 .ensures) (c .before .before .before .before .before .before .before .before .before .before .before .before .before .before .before .before .before .before .before .before .before .before .before .before .before .before .before .before .before .before .before .before .before .before .before .before .before .before .before .before .is-reduced .ensures) (c .before .before .before .before .before .before .before .before .before .before .before .before .before .before .before .before .before .before .before .before .before .before .before .before .before .before .before .before .before .before .before .before .before .before .before .before .before .before .before .is-reduced2 .ensures) (c .before .before .before .before .before .before .before .before .before .before .before .before .before .before .before .before .before .before .before .before .before .before .before .before .before .before .before .before .before .before .before .before .before .before .before .before .before .put-word .ensures) (lays (c .before .before .before .before .before .before .before .before .before .before .before .before .before .before .before .before .before .before .before .before .before .before .before .before .before .before .before .before .before .before .before .put-either .ensures)) (c .before .before .before .before .before .before .before .before .before .before .before .before .before .before .before .before .before .before .before .before .before .before .before .before .before .before .write-node .ensures) (c .before .before .before .before .before .before .before .before .before .before .before .before .before .before .before .before .before .before .before .before .before .before .put-reduced .ensures) (lays (c .before .before .before .before .before .before .before .before .before .before .before .before .before .before .before .before .put-either2 .ensures)) (c .before .before .before .before .before .before .before .before .before .before .before .write-node2 .ensures) (c .before .before .before .before .before .before .before .put-reduced2 .ensures) (lays (c .before .before .put .ensures))
 
 pub +write-between+write-bound+write-infix+write-items+write-monadic+write-node+write-operands+write-others+write-spatial-spec :
     {M : Type 1} → statement M

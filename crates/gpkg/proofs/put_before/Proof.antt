@@ -1,16 +1,16 @@
 -- Each branch is a case of the definition.
 use mathlib.Core.Path.{sym, _∙_}
+use Rattle.emit.specs.EmitLaws.{lays, lays-none, lays-of, lays-then}
 use Rattle.op.specs.Spelling.{word}
 use Rattle.gpkg.proofs.Nodes.{before-nullable, before-sign, before-none}
-use Rattle.gpkg.proofs.LaysLaws.{lays-none, lays-of, lays-then}
 use borrow.Author.Needs.{needs}
 use Rattle.gpkg.proofs.put_before.Statement.{statement}
 use Rattle.gpkg.proofs.put_before.Tie as tie
 use Rattle.gpkg.proofs.put_before.Reads as reads
 use Rattle.gpkg.proofs.put_before.Lts as lts
-use Rattle.gpkg.proofs.ended.Reads as ended-reads
+use Rattle.emit.proofs.ended.Reads as ended-reads
 use Rattle.gpkg.proofs.is_neg_or_minus.Reads as is-neg-or-minus-reads
-use Rattle.gpkg.proofs.put_either.Reads as put-either-reads
+use Rattle.emit.proofs.put_either.Reads as put-either-reads
 use Rattle.gpkg.proofs.put_word.Reads as put-word-reads
 use Rattle.gpkg.proofs.within.Reads as within-reads
 
@@ -30,7 +30,7 @@ same-length : tie.Need-same-length
 same-length c = search needs
 
 returns : tie.Need-returns
-returns c = λ o e. lays-of (before-nullable (c .before .before .before .before .before .before .before .before .before .args .op) (word o) (c .before .before .before .before .before .before .before .before .before .args .bare) (sym (c .before .before .before .before .before .before .before .within .ensures) ∙ c .before .before .before .before .before .before .if1 .taken)) (c .before .before .put-either .ensures)
+returns c = λ o e. lays-of (before-nullable (c .before .before .before .before .before .before .before .before .before .args .op) (word o) (c .before .before .before .before .before .before .before .before .before .args .bare) (sym (c .before .before .before .before .before .before .before .within .ensures) ∙ c .before .before .before .before .before .before .if1 .taken)) (lays (c .before .before .put-either .ensures))
 
 is-neg-or-minus-requires : tie.Need-is-neg-or-minus-requires
 is-neg-or-minus-requires c κs = search needs
@@ -51,7 +51,7 @@ same-length-2 : tie.Need-same-length-2
 same-length-2 c = search needs
 
 returns-2 : tie.Need-returns-2
-returns-2 c = λ o e. lays-of (before-sign (c .before .before .before .before .before .before .before .before .before .before .before .before .before .before .before .args .op) (word o) (c .before .before .before .before .before .before .before .before .before .before .before .before .before .before .before .args .bare) (sym (c .before .before .before .before .before .before .before .before .before .before .before .before .before .within .ensures) ∙ c .before .before .before .before .before .before .before .before .before .before .before .before .if1 .left) (sym (c .before .before .before .before .before .before .before .before .before .before .before .is-neg-or-minus .ensures) ∙ c .before .before .before .before .before .before .before .before .before .before .if2 .taken)) (lays-then (c .before .before .before .before .before .before .before .before .put-word .ensures o e) (c .before .before .put-either2 .ensures))
+returns-2 c = λ o e. lays-of (before-sign (c .before .before .before .before .before .before .before .before .before .before .before .before .before .before .before .args .op) (word o) (c .before .before .before .before .before .before .before .before .before .before .before .before .before .before .before .args .bare) (sym (c .before .before .before .before .before .before .before .before .before .before .before .before .before .within .ensures) ∙ c .before .before .before .before .before .before .before .before .before .before .before .before .if1 .left) (sym (c .before .before .before .before .before .before .before .before .before .before .before .is-neg-or-minus .ensures) ∙ c .before .before .before .before .before .before .before .before .before .before .if2 .taken)) (lays-then (c .before .before .before .before .before .before .before .before .put-word .ensures o e) (lays (c .before .before .put-either2 .ensures)))
 
 ended-requires : tie.Need-ended-requires
 ended-requires c κs = search needs

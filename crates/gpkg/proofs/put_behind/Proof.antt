@@ -1,10 +1,10 @@
 -- Each branch is a case of the definition.
+use Rattle.emit.specs.EmitLaws.{lays, lays-of, lays-then}
 use Rattle.literal.specs.Literal.{collate}
 use mathlib.Core.Path.{sym, _∙_}
 use Rattle.op.specs.Spelling.{word}
 use Rattle.gpkg.specs.Plan.{settingsIn}
 use Rattle.gpkg.proofs.Nodes.{behind-nullable, behind-sign, behind-collate}
-use Rattle.gpkg.proofs.LaysLaws.{lays-of, lays-then}
 use borrow.Author.Needs.{needs}
 use Rattle.gpkg.proofs.put_behind.Statement.{statement}
 use Rattle.gpkg.proofs.put_behind.Tie as tie
@@ -13,8 +13,8 @@ use Rattle.gpkg.proofs.put_behind.Lts as lts
 use Rattle.gpkg.proofs.collation_flags.Reads as collation-flags-reads
 use Rattle.gpkg.proofs.is_neg_or_minus.Reads as is-neg-or-minus-reads
 use Rattle.gpkg.proofs.name_of.Reads as name-of-reads
-use Rattle.gpkg.proofs.put.Reads as put-reads
-use Rattle.gpkg.proofs.put_either.Reads as put-either-reads
+use Rattle.emit.proofs.put.Reads as put-reads
+use Rattle.emit.proofs.put_either.Reads as put-either-reads
 use Rattle.gpkg.proofs.put_word.Reads as put-word-reads
 use Rattle.gpkg.proofs.within.Reads as within-reads
 
@@ -37,7 +37,7 @@ same-length : tie.Need-same-length
 same-length c = search needs
 
 returns : tie.Need-returns
-returns c = λ o e. lays-of (behind-nullable (c .before .before .before .before .before .before .before .before .before .before .before .before .before .before .args .op) (word o) (c .before .before .before .before .before .before .before .before .before .before .before .before .before .before .args .bare) (settingsIn (c .before .before .before .before .before .before .before .before .before .before .before .before .before .before .args .set .now)) (c .before .before .before .before .before .before .before .before .before .before .before .before .before .before .args .twin) (sym (c .before .before .before .before .before .before .before .before .before .before .before .within .ensures) ∙ c .before .before .before .before .before .before .before .before .before .before .if1 .taken)) (lays-then (c .before .before .before .before .before .before .put-either .ensures) (c .before .before .put-word .ensures o e))
+returns c = λ o e. lays-of (behind-nullable (c .before .before .before .before .before .before .before .before .before .before .before .before .before .before .args .op) (word o) (c .before .before .before .before .before .before .before .before .before .before .before .before .before .before .args .bare) (settingsIn (c .before .before .before .before .before .before .before .before .before .before .before .before .before .before .args .set .now)) (c .before .before .before .before .before .before .before .before .before .before .before .before .before .before .args .twin) (sym (c .before .before .before .before .before .before .before .before .before .before .before .within .ensures) ∙ c .before .before .before .before .before .before .before .before .before .before .if1 .taken)) (lays-then (lays (c .before .before .before .before .before .before .put-either .ensures)) (c .before .before .put-word .ensures o e))
 
 is-neg-or-minus-requires : tie.Need-is-neg-or-minus-requires
 is-neg-or-minus-requires c κs = search needs
@@ -55,7 +55,7 @@ same-length-2 : tie.Need-same-length-2
 same-length-2 c = search needs
 
 returns-2 : tie.Need-returns-2
-returns-2 c = λ o e. lays-of (behind-sign (c .before .before .before .before .before .before .before .before .before .before .before .before .args .op) (word o) (c .before .before .before .before .before .before .before .before .before .before .before .before .args .bare) (settingsIn (c .before .before .before .before .before .before .before .before .before .before .before .before .args .set .now)) (c .before .before .before .before .before .before .before .before .before .before .before .before .args .twin) (sym (c .before .before .before .before .before .before .before .before .before .within .ensures) ∙ c .before .before .before .before .before .before .before .before .if1 .left) (sym (c .before .before .before .before .before .before .before .is-neg-or-minus .ensures) ∙ c .before .before .before .before .before .before .if2 .taken)) (c .before .before .put-either2 .ensures)
+returns-2 c = λ o e. lays-of (behind-sign (c .before .before .before .before .before .before .before .before .before .before .before .before .args .op) (word o) (c .before .before .before .before .before .before .before .before .before .before .before .before .args .bare) (settingsIn (c .before .before .before .before .before .before .before .before .before .before .before .before .args .set .now)) (c .before .before .before .before .before .before .before .before .before .before .before .before .args .twin) (sym (c .before .before .before .before .before .before .before .before .before .within .ensures) ∙ c .before .before .before .before .before .before .before .before .if1 .left) (sym (c .before .before .before .before .before .before .before .is-neg-or-minus .ensures) ∙ c .before .before .before .before .before .before .if2 .taken)) (lays (c .before .before .put-either2 .ensures))
 
 slice-aggregate-put : tie.Need-slice-aggregate-put
 slice-aggregate-put c = search needs
@@ -77,7 +77,7 @@ same-length-3 c = search needs
 
 returns-3 : tie.Need-returns-3
 unfolding collate
-returns-3 c = λ o e. lays-of (behind-collate (c .before .before .before .before .before .before .before .before .before .before .before .before .before .before .before .before .before .args .op) (word o) (c .before .before .before .before .before .before .before .before .before .before .before .before .before .before .before .before .before .args .bare) (settingsIn (c .before .before .before .before .before .before .before .before .before .before .before .before .before .before .before .before .before .args .set .now)) (c .before .before .before .before .before .before .before .before .before .before .before .before .before .before .before .before .before .args .twin) (sym (c .before .before .before .before .before .before .before .before .before .before .before .before .before .before .within .ensures) ∙ c .before .before .before .before .before .before .before .before .before .before .before .before .before .if1 .left) (sym (c .before .before .before .before .before .before .before .before .before .before .before .before .is-neg-or-minus .ensures) ∙ c .before .before .before .before .before .before .before .before .before .before .before .if2 .left) (c .before .before .before .before .before .collation-flags .result) (c .before .before .before .before .before .collation-flags .ensures)) (lays-then (c .before .before .before .before .before .before .before .before .put .ensures) (lays-of (c .before .before .before .before .name-of .ensures) (c .before .before .put2 .ensures)))
+returns-3 c = λ o e. lays-of (behind-collate (c .before .before .before .before .before .before .before .before .before .before .before .before .before .before .before .before .before .args .op) (word o) (c .before .before .before .before .before .before .before .before .before .before .before .before .before .before .before .before .before .args .bare) (settingsIn (c .before .before .before .before .before .before .before .before .before .before .before .before .before .before .before .before .before .args .set .now)) (c .before .before .before .before .before .before .before .before .before .before .before .before .before .before .before .before .before .args .twin) (sym (c .before .before .before .before .before .before .before .before .before .before .before .before .before .before .within .ensures) ∙ c .before .before .before .before .before .before .before .before .before .before .before .before .before .if1 .left) (sym (c .before .before .before .before .before .before .before .before .before .before .before .before .is-neg-or-minus .ensures) ∙ c .before .before .before .before .before .before .before .before .before .before .before .if2 .left) (c .before .before .before .before .before .collation-flags .result) (c .before .before .before .before .before .collation-flags .ensures)) (lays-then (lays (c .before .before .before .before .before .before .before .before .put .ensures)) (lays-of (c .before .before .before .before .name-of .ensures) (lays (c .before .before .put2 .ensures))))
 
 pub put-behind-spec : {M : Type 1} → statement M
 put-behind-spec =

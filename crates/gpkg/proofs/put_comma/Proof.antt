@@ -4,13 +4,13 @@ use native.Mathlib.Omega.{arith}
 use Prim.Native.Nat.{_-_}
 use lib.ListN.{length}
 use borrow.Author.Tests.{ne-eqb}
-use Rattle.gpkg.proofs.LaysLaws.{lays-none}
+use Rattle.emit.specs.EmitLaws.{lays, lays-none}
 use Rattle.gpkg.proofs.put_comma.Statement.{statement}
 use Rattle.gpkg.proofs.put_comma.Tie as tie
 use Rattle.gpkg.proofs.put_comma.Reads as reads
 use Rattle.gpkg.proofs.put_comma.Lts as lts
-use Rattle.gpkg.proofs.ended.Reads as ended-reads
-use Rattle.gpkg.proofs.put.Reads as put-reads
+use Rattle.emit.proofs.ended.Reads as ended-reads
+use Rattle.emit.proofs.put.Reads as put-reads
 
 ended-requires : tie.Need-ended-requires
 ended-requires c κs = search needs
@@ -28,7 +28,7 @@ same-length : tie.Need-same-length
 same-length c = search needs
 
 returns-2 : tie.Need-returns-2
-returns-2 c = simp (ne-eqb _ _ (c .before .before .before .before .before .if1 .left)) (c .before .before .put .ensures)
+returns-2 c = simp (ne-eqb _ _ (c .before .before .before .before .before .if1 .left)) (lays (c .before .before .put .ensures))
 
 pub put-comma-spec : {M : Type 1} → statement M
 put-comma-spec =

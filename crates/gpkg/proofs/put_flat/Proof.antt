@@ -1,15 +1,15 @@
 -- What the calls ensure, by the case that was taken.
-use mathlib.Core.Path.{ap, sym}
+use mathlib.Core.Path.{sym, ap}
 use Rattle.gpkg.specs.Plan.{flatText}
-use Rattle.gpkg.proofs.LaysLaws.{lays-of}
+use Rattle.emit.specs.EmitLaws.{lays, lays-of}
 use borrow.Author.Needs.{needs}
 use Rattle.gpkg.proofs.put_flat.Statement.{statement}
 use Rattle.gpkg.proofs.put_flat.Tie as tie
 use Rattle.gpkg.proofs.put_flat.Reads as reads
 use Rattle.gpkg.proofs.put_flat.Lts as lts
-use Rattle.gpkg.proofs.put.Reads as put-reads
-use Rattle.gpkg.proofs.put_open_end.Reads as put-open-end-reads
-use Rattle.gpkg.proofs.put_part.Reads as put-part-reads
+use Rattle.emit.proofs.put.Reads as put-reads
+use Rattle.literal.proofs.put_unbounded.Reads as put-unbounded-reads
+use Rattle.sql.proofs.put_part.Reads as put-part-reads
 
 enum-known-flat : tie.Need-enum-known-flat
 enum-known-flat c = search needs
@@ -20,8 +20,8 @@ put-part-requires c κs = search needs
 enum-told : tie.Need-enum-told
 enum-told c = search needs
 
-put-open-end-requires : tie.Need-put-open-end-requires
-put-open-end-requires c κs = search needs
+put-unbounded-requires : tie.Need-put-unbounded-requires
+put-unbounded-requires c κs = search needs
 
 enum-told-2 : tie.Need-enum-told-2
 enum-told-2 c = search needs
@@ -37,21 +37,21 @@ same-length c = search needs
 
 returns : tie.Need-returns
 unfolding flatText
-returns c = lays-of (ap flatText (sym (c .before .before .before .before .before .flat .given .1))) (c .before .before .put-part .ensures)
+returns c = lays-of (ap flatText (sym (c .before .before .before .before .before .flat .given .1))) (lays (c .before .before .put-part .ensures))
 
 same-length-2 : tie.Need-same-length-2
 same-length-2 c = search needs
 
 returns-2 : tie.Need-returns-2
 unfolding flatText
-returns-2 c = lays-of (ap flatText (sym (c .before .before .before .before .enum-told .given .1))) (c .before .before .put-open-end .ensures)
+returns-2 c = lays-of (ap flatText (sym (c .before .before .before .before .enum-told .given .1))) (lays (c .before .before .put-unbounded .ensures))
 
 same-length-3 : tie.Need-same-length-3
 same-length-3 c = search needs
 
 returns-3 : tie.Need-returns-3
 unfolding flatText
-returns-3 c = lays-of (ap flatText (sym (c .before .before .before .before .before .enum-told2 .given .1))) (c .before .before .put .ensures)
+returns-3 c = lays-of (ap flatText (sym (c .before .before .before .before .before .enum-told2 .given .1))) (lays (c .before .before .put .ensures))
 
 pub put-flat-spec : {M : Type 1} → statement M
 put-flat-spec =
@@ -60,7 +60,7 @@ put-flat-spec =
     enum-known-flat
     put-part-requires
     enum-told
-    put-open-end-requires
+    put-unbounded-requires
     enum-told-2
     slice-aggregate-put
     put-requires

@@ -2,14 +2,14 @@
 use native.Mathlib.Omega.{arith}
 use Prim.Native.Nat.{_-_}
 use lib.ListN.{length}
-use Rattle.gpkg.proofs.LaysLaws.{lays-then}
+use Rattle.emit.specs.EmitLaws.{lays, lays-then}
 use Rattle.gpkg.specs.Plan.{infixText}
 use borrow.Author.Needs.{needs}
 use Rattle.gpkg.proofs.put_infix.Statement.{statement}
 use Rattle.gpkg.proofs.put_infix.Tie as tie
 use Rattle.gpkg.proofs.put_infix.Reads as reads
 use Rattle.gpkg.proofs.put_infix.Lts as lts
-use Rattle.gpkg.proofs.put_either.Reads as put-either-reads
+use Rattle.emit.proofs.put_either.Reads as put-either-reads
 use Rattle.gpkg.proofs.put_word.Reads as put-word-reads
 
 slice-aggregate-put-either : tie.Need-slice-aggregate-put-either
@@ -38,7 +38,7 @@ same-length c = search needs
 
 returns : tie.Need-returns
 unfolding infixText
-returns c = λ o e. lays-then (c .before .before .before .before .before .before .before .before .before .before .before .before .put-either .ensures) (lays-then (c .before .before .before .before .before .before .before .before .put-word .ensures o e) (c .before .before .put-either2 .ensures))
+returns c = λ o e. lays-then (lays (c .before .before .before .before .before .before .before .before .before .before .before .before .put-either .ensures)) (lays-then (c .before .before .before .before .before .before .before .before .put-word .ensures o e) (lays (c .before .before .put-either2 .ensures)))
 
 pub put-infix-spec : {M : Type 1} → statement M
 put-infix-spec =

@@ -1,31 +1,35 @@
 -- Each kind lays its own text.
-use native.Mathlib.Omega.{arith}
-use mathlib.Core.Path.{ap, sym, _∙_}
-use Prim.Native.Nat.{ℕ, _-_}
-use lib.ListN.{length, getD, drop}
-use denote.Ref.{now}
-use borrow.Author.Tests.{ne-eqb}
-use Rattle.gpkg.proofs.LaysLaws.{lays-of}
-use Rattle.gpkg.proofs.Leaves.{str-collated}
-use Rattle.gpkg.specs.Plan.{leafText, settingsIn}
-use Rattle.literal.specs.Literal.{boolText}
-use Rattle.record.specs.Record.{le16}
+use mathlib.Core.Path.{_≡_, ap, sym, _∙_}
+use Prim.Native.Nat.{ℕ}
+use lib.ListN.{getD, drop}
 use lib.Dec.{eqb}
+use mir.Syntax.{w64}
+use mir.Val.{toZ, ofZ}
+use mir.Facts.{toZ-ofZ}
+use borrow.Author.Tests.{ne-eqb}
+use Rattle.record.specs.Record.{le16, le32}
+use Rattle.tree.specs.Parse.{mantissa}
+use Rattle.literal.specs.Literal.{boolText, numText, spatialText}
+use Rattle.emit.specs.EmitLaws.{lays, lays-of}
+use Rattle.gpkg.specs.Plan.{leafText, settingsIn}
+use Rattle.gpkg.proofs.Leaves.{str-collated}
 use borrow.Author.Needs.{needs}
 use Rattle.gpkg.proofs.put_leaf.Statement.{statement}
 use Rattle.gpkg.proofs.put_leaf.Tie as tie
 use Rattle.gpkg.proofs.put_leaf.Reads as reads
 use Rattle.gpkg.proofs.put_leaf.Lts as lts
-use Rattle.gpkg.proofs.put.Reads as put-reads
-use Rattle.gpkg.proofs.put_bool.Reads as put-bool-reads
+use Rattle.emit.proofs.put.Reads as put-reads
 use Rattle.gpkg.proofs.put_date.Reads as put-date-reads
-use Rattle.gpkg.proofs.put_num.Reads as put-num-reads
-use Rattle.gpkg.proofs.put_open_end.Reads as put-open-end-reads
-use Rattle.gpkg.proofs.put_spatial.Reads as put-spatial-reads
 use Rattle.gpkg.proofs.put_str.Reads as put-str-reads
 use Rattle.gpkg.proofs.put_timestamp.Reads as put-timestamp-reads
 use Rattle.gpkg.proofs.rest.Reads as rest-reads
+use Rattle.literal.proofs.put_bool.Reads as put-bool-reads
+use Rattle.literal.proofs.put_num.Reads as put-num-reads
+use Rattle.literal.proofs.put_spatial.Reads as put-spatial-reads
+use Rattle.literal.proofs.put_unbounded.Reads as put-unbounded-reads
 use Rattle.tree.proofs.byte_at.Reads as byte-at-reads
+use Rattle.tree.proofs.dword_at.Reads as dword-at-reads
+use Rattle.tree.proofs.mantissa_at.Reads as mantissa-at-reads
 use Rattle.tree.proofs.word_at.Reads as word-at-reads
 
 word-at-requires : tie.Need-word-at-requires
@@ -37,14 +41,23 @@ slice-aggregate-put c = search needs
 put-requires : tie.Need-put-requires
 put-requires c κs = search needs
 
-put-open-end-requires : tie.Need-put-open-end-requires
-put-open-end-requires c κs = search needs
+put-unbounded-requires : tie.Need-put-unbounded-requires
+put-unbounded-requires c κs = search needs
 
 byte-at-requires : tie.Need-byte-at-requires
 byte-at-requires c κs = search needs
 
 put-bool-requires : tie.Need-put-bool-requires
 put-bool-requires c κs = search needs
+
+mantissa-at-requires : tie.Need-mantissa-at-requires
+mantissa-at-requires c κs = search needs
+
+byte-at-requires-2 : tie.Need-byte-at-requires-2
+byte-at-requires-2 c κs = search needs
+
+cast-put-num : tie.Need-cast-put-num
+cast-put-num c = search needs
 
 put-num-requires : tie.Need-put-num-requires
 put-num-requires c κs = search needs
@@ -58,11 +71,17 @@ put-date-requires c κs = search needs
 put-timestamp-requires : tie.Need-put-timestamp-requires
 put-timestamp-requires c κs = search needs
 
-put-spatial-requires : tie.Need-put-spatial-requires
-put-spatial-requires c κs = search needs
+dword-at-requires : tie.Need-dword-at-requires
+dword-at-requires c κs = search needs
 
 rest-requires : tie.Need-rest-requires
 rest-requires c κs = search needs
+
+put-spatial-requires : tie.Need-put-spatial-requires
+put-spatial-requires c κs = search needs
+
+rest-requires-2 : tie.Need-rest-requires-2
+rest-requires-2 c κs = search needs
 
 put-requires-2 : tie.Need-put-requires-2
 put-requires-2 c κs = search needs
@@ -72,35 +91,35 @@ same-length c = search needs
 
 returns : tie.Need-returns
 unfolding leafText
-returns c = rw (sym (c .before .before .before .before .before .before .word-at .ensures .0) ∙ c .before .before .before .before .before .match .keys1) (c .before .before .put .ensures)
+returns c = rw (sym (c .before .before .before .before .before .before .word-at .ensures .0) ∙ c .before .before .before .before .before .match .keys1) (lays (c .before .before .put .ensures))
 
 same-length-2 : tie.Need-same-length-2
 same-length-2 c = search needs
 
 returns-2 : tie.Need-returns-2
 unfolding leafText
-returns-2 c = rw (sym (c .before .before .before .before .before .word-at .ensures .0) ∙ c .before .before .before .before .match .keys2) (c .before .before .put-open-end .ensures)
+returns-2 c = rw (sym (c .before .before .before .before .before .word-at .ensures .0) ∙ c .before .before .before .before .match .keys2) (lays (c .before .before .put-unbounded .ensures))
 
 same-length-3 : tie.Need-same-length-3
 same-length-3 c = search needs
 
 returns-3 : tie.Need-returns-3
 unfolding leafText
-returns-3 c = rw (sym (c .before .before .before .before .before .before .word-at .ensures .0) ∙ c .before .before .before .before .before .match .keys3) (lays-of (ap (λ (x : ℕ). boolText (eqb x 1)) (c .before .before .before .before .byte-at .ensures .0)) (c .before .before .put-bool .ensures))
+returns-3 c = rw (sym (c .before .before .before .before .before .before .word-at .ensures .0) ∙ c .before .before .before .before .before .match .keys3) (lays-of (ap (λ (x : ℕ). boolText (eqb x 1)) (c .before .before .before .before .byte-at .ensures .0)) (lays (c .before .before .put-bool .ensures)))
 
 same-length-4 : tie.Need-same-length-4
 same-length-4 c = search needs
 
 returns-4 : tie.Need-returns-4
 unfolding leafText
-returns-4 c = rw (sym (c .before .before .before .before .before .word-at .ensures .0) ∙ c .before .before .before .before .match .keys4) (c .before .before .put-num .ensures)
+returns-4 c = let s = c .before .before .before .before .before .before .before .before .before .before .before .args .s .now in let m = c .before .before .before .before .before .mantissa-at .result in let q : toZ w64 (ofZ w64 m) ≡ mantissa s 6 = toZ-ofZ {w = w64} {z = m} (record { sfits = c .before .before .before .before .before .mantissa-at .ok }) ∙ c .before .before .before .before .before .mantissa-at .ensures in let e : numText (toZ w64 (ofZ w64 m)) (c .before .before .before .before .byte-at2 .result) ≡ numText (mantissa s 6) (getD s 14 0) = cc in rw (sym (c .before .before .before .before .before .before .before .word-at .ensures .0) ∙ c .before .before .before .before .before .before .match .keys4) (lays-of e (lays (c .before .before .put-num .ensures)))
 
 same-length-5 : tie.Need-same-length-5
 same-length-5 c = search needs
 
 returns-5 : tie.Need-returns-5
 unfolding leafText
-returns-5 c = rw (sym (c .before .before .before .before .before .word-at .ensures .0) ∙ c .before .before .before .before .match .keys5) (lays-of (str-collated (settingsIn (c .before .before .before .before .before .before .before .before .before .args .set .now)) (getD (c .before .before .before .before .before .before .before .before .before .args .s .now) 6 0) (drop 7 (c .before .before .before .before .before .before .before .before .before .args .s .now))) (c .before .before .put-str .ensures))
+returns-5 c = let i = c .before .before .before .before .before .before .before .before .before .args in rw (sym (c .before .before .before .before .before .word-at .ensures .0) ∙ c .before .before .before .before .match .keys5) (lays-of (str-collated (settingsIn (i .set .now)) (getD (i .s .now) 6 0) (drop 7 (i .s .now))) (c .before .before .put-str .ensures))
 
 same-length-6 : tie.Need-same-length-6
 same-length-6 c = search needs
@@ -121,14 +140,14 @@ same-length-8 c = search needs
 
 returns-8 : tie.Need-returns-8
 unfolding leafText
-returns-8 c = rw (sym (c .before .before .before .before .before .word-at .ensures .0) ∙ c .before .before .before .before .match .keys8) (c .before .before .put-spatial .ensures)
+returns-8 c = let s = c .before .before .before .before .before .before .before .before .before .before .before .args .s .now in let e : spatialText (c .before .before .before .before .before .dword-at .result) (c .before .before .before .before .rest .result .now) ≡ spatialText (le32 s 6) (drop 10 s) = cc in rw (sym (c .before .before .before .before .before .before .before .word-at .ensures .0) ∙ c .before .before .before .before .before .before .match .keys8) (lays-of e (lays (c .before .before .put-spatial .ensures)))
 
 same-length-9 : tie.Need-same-length-9
 same-length-9 c = search needs
 
 returns-9 : tie.Need-returns-9
 unfolding leafText
-returns-9 c = let e = c .before .before .before .before .before .before .word-at .ensures .0 in simp (ne-eqb (le16 (c .before .before .before .before .before .before .before .before .before .before .args .s .now) 4) 0 (λ z. c .before .before .before .before .before .match .rest .0 .0 .0 .0 .0 .0 .0 .1 (e ∙ z)), ne-eqb (le16 (c .before .before .before .before .before .before .before .before .before .before .args .s .now) 4) 1 (λ z. c .before .before .before .before .before .match .rest .0 .0 .0 .0 .0 .0 .1 (e ∙ z)), ne-eqb (le16 (c .before .before .before .before .before .before .before .before .before .before .args .s .now) 4) 2 (λ z. c .before .before .before .before .before .match .rest .0 .0 .0 .0 .0 .1 (e ∙ z)), ne-eqb (le16 (c .before .before .before .before .before .before .before .before .before .before .args .s .now) 4) 3 (λ z. c .before .before .before .before .before .match .rest .0 .0 .0 .0 .1 (e ∙ z)), ne-eqb (le16 (c .before .before .before .before .before .before .before .before .before .before .args .s .now) 4) 4 (λ z. c .before .before .before .before .before .match .rest .0 .0 .0 .1 (e ∙ z)), ne-eqb (le16 (c .before .before .before .before .before .before .before .before .before .before .args .s .now) 4) 5 (λ z. c .before .before .before .before .before .match .rest .0 .0 .1 (e ∙ z)), ne-eqb (le16 (c .before .before .before .before .before .before .before .before .before .before .args .s .now) 4) 6 (λ z. c .before .before .before .before .before .match .rest .0 .1 (e ∙ z)), ne-eqb (le16 (c .before .before .before .before .before .before .before .before .before .before .args .s .now) 4) 7 (λ z. c .before .before .before .before .before .match .rest .1 (e ∙ z))) (lays-of (c .before .before .before .before .rest .ensures) (c .before .before .put2 .ensures))
+returns-9 c = let s = c .before .before .before .before .before .before .before .before .before .before .args .s .now in let e = c .before .before .before .before .before .before .word-at .ensures .0 in let r = c .before .before .before .before .before .match .rest in simp (ne-eqb (le16 s 4) 0 (λ z. r .0 .0 .0 .0 .0 .0 .0 .1 (e ∙ z)), ne-eqb (le16 s 4) 1 (λ z. r .0 .0 .0 .0 .0 .0 .1 (e ∙ z)), ne-eqb (le16 s 4) 2 (λ z. r .0 .0 .0 .0 .0 .1 (e ∙ z)), ne-eqb (le16 s 4) 3 (λ z. r .0 .0 .0 .0 .1 (e ∙ z)), ne-eqb (le16 s 4) 4 (λ z. r .0 .0 .0 .1 (e ∙ z)), ne-eqb (le16 s 4) 5 (λ z. r .0 .0 .1 (e ∙ z)), ne-eqb (le16 s 4) 6 (λ z. r .0 .1 (e ∙ z)), ne-eqb (le16 s 4) 7 (λ z. r .1 (e ∙ z))) (lays-of (c .before .before .before .before .rest2 .ensures) (lays (c .before .before .put2 .ensures)))
 
 pub put-leaf-spec : {M : Type 1} → statement M
 put-leaf-spec =
@@ -137,15 +156,20 @@ put-leaf-spec =
     word-at-requires
     slice-aggregate-put
     put-requires
-    put-open-end-requires
+    put-unbounded-requires
     byte-at-requires
     put-bool-requires
+    mantissa-at-requires
+    byte-at-requires-2
+    cast-put-num
     put-num-requires
     put-str-requires
     put-date-requires
     put-timestamp-requires
-    put-spatial-requires
+    dword-at-requires
     rest-requires
+    put-spatial-requires
+    rest-requires-2
     put-requires-2
     same-length
     returns

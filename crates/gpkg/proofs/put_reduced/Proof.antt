@@ -1,12 +1,12 @@
 -- What the calls ensure, by the case that was taken.
-use Rattle.gpkg.proofs.LaysLaws.{lays-none, lays-then}
 use borrow.Author.Needs.{needs}
+use Rattle.emit.specs.EmitLaws.{lays, lays-none, lays-then}
 use Rattle.gpkg.proofs.put_reduced.Statement.{statement}
 use Rattle.gpkg.proofs.put_reduced.Tie as tie
 use Rattle.gpkg.proofs.put_reduced.Reads as reads
 use Rattle.gpkg.proofs.put_reduced.Lts as lts
-use Rattle.gpkg.proofs.ended.Reads as ended-reads
-use Rattle.gpkg.proofs.put.Reads as put-reads
+use Rattle.emit.proofs.ended.Reads as ended-reads
+use Rattle.emit.proofs.put.Reads as put-reads
 use Rattle.gpkg.proofs.put_precision.Reads as put-precision-reads
 
 slice-aggregate-put : tie.Need-slice-aggregate-put
@@ -28,7 +28,7 @@ same-length : tie.Need-same-length
 same-length c = search needs
 
 returns : tie.Need-returns
-returns c = rw (c .before .before .before .before .before .before .before .before .before .before .before .before .before .before .if1 .taken) (lays-then (c .before .before .before .before .before .before .before .before .before .before .before .put .ensures) (lays-then (c .before .before .before .before .before .before .before .put-precision .ensures) (c .before .before .put2 .ensures)))
+returns c = rw (c .before .before .before .before .before .before .before .before .before .before .before .before .before .before .if1 .taken) (lays-then (lays (c .before .before .before .before .before .before .before .before .before .before .before .put .ensures)) (lays-then (c .before .before .before .before .before .before .before .put-precision .ensures) (lays (c .before .before .put2 .ensures))))
 
 ended-requires : tie.Need-ended-requires
 ended-requires c κs = search needs

@@ -1,18 +1,15 @@
--- The spelling is written where it has room; its length tells the place behind it.
-use native.Mathlib.Omega.{arith}
-use mathlib.Core.Path.{_≡_, ap, sym, _∙_}
-use lib.ListN.{length}
+-- The number names the operator whose spelling is written.
+use mathlib.Core.Path.{sym, ap, _∙_}
 use Rattle.op.specs.Spelling.{word}
-use Rattle.gpkg.proofs.Words.{same-op, not-none}
-use Rattle.gpkg.proofs.LaysLaws.{lays-placed, lays-kept, lays-of}
+use Rattle.emit.specs.EmitLaws.{lays, lays-of}
+use Rattle.gpkg.proofs.Words.{not-none, same-op}
 use borrow.Author.Needs.{needs}
 use Rattle.gpkg.proofs.put_word.Statement.{statement}
 use Rattle.gpkg.proofs.put_word.Tie as tie
 use Rattle.gpkg.proofs.put_word.Reads as reads
 use Rattle.gpkg.proofs.put_word.Lts as lts
-use Rattle.gpkg.proofs.ended.Reads as ended-reads
+use Rattle.emit.proofs.ended.Reads as ended-reads
 use Rattle.op.proofs.op_of.Reads as op-of-reads
-use Rattle.op.proofs.sql_len.Reads as sql-len-reads
 use Rattle.op.proofs.to_sql.Reads as to-sql-reads
 
 op-of-requires : tie.Need-op-of-requires
@@ -30,26 +27,14 @@ ended-requires c κs = search needs
 returns : tie.Need-returns
 returns c = λ o e. not-none (c .before .before .before .before .before .args .op) o e (sym (c .before .before .before .op-of .ensures) ∙ c .before .enum-told .given .1)
 
-sql-len-requires : tie.Need-sql-len-requires
-sql-len-requires c κs = search needs
-
-ended-requires-2 : tie.Need-ended-requires-2
-ended-requires-2 c κs = search needs
-
-returns-2 : tie.Need-returns-2
-returns-2 c = λ o e. lays-of (ap word (sym (same-op (c .before .before .before .before .before .before .before .before .args .op) o _ e (sym (c .before .before .before .before .before .before .op-of .ensures) ∙ c .before .before .before .before .o .given .1)))) (lays-kept {t = word (c .before .before .before .before .o .given .0 .0)} (c .before .before .sql-len .result) (λ h. let v : length (word (c .before .before .before .before .o .given .0 .0)) ≡ 0 = omega (arith, c .before .if1 .taken) in v) (c .ended2 .ensures) (c .before .before .sql-len .ensures .0))
-
 to-sql-requires : tie.Need-to-sql-requires
 to-sql-requires c κs = search needs
-
-ended-requires-3 : tie.Need-ended-requires-3
-ended-requires-3 c κs = search needs
 
 same-length : tie.Need-same-length
 same-length c = search needs
 
-returns-3 : tie.Need-returns-3
-returns-3 c = λ o e. lays-of (ap word (sym (same-op (c .before .before .before .before .before .before .before .before .before .before .before .before .args .op) o _ e (sym (c .before .before .before .before .before .before .before .before .before .before .op-of .ensures) ∙ c .before .before .before .before .before .before .before .before .o .given .1)))) (lays-placed (c .before .before .before .before .before .before .sql-len .result) (c .before .before .before .to-sql .ensures .0) (c .ended3 .ensures) (c .before .before .before .before .before .before .sql-len .ensures .0))
+returns-2 : tie.Need-returns-2
+returns-2 c = λ o e. lays-of (ap word (sym (same-op (c .before .before .before .before .before .before .before .before .before .args .op) o _ e (sym (c .before .before .before .before .before .before .before .op-of .ensures) ∙ c .before .before .before .before .before .o .given .1)))) (lays (c .before .before .to-sql .ensures))
 
 pub put-word-spec : {M : Type 1} → statement M
 put-word-spec =
@@ -60,10 +45,6 @@ put-word-spec =
     enum-told
     ended-requires
     returns
-    sql-len-requires
-    ended-requires-2
-    returns-2
     to-sql-requires
-    ended-requires-3
     same-length
-    returns-3)
+    returns-2)
