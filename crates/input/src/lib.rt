@@ -47,7 +47,7 @@ pub fn next_part(buffer: &mut [u8]) -> Part
     if had < 4 {
         return Part::Short;
     }
-    let n = tree::dword_at(&head, 0);
+    let n = record::dword_at(&head, 0);
     if !pass(buffer, n) {
         return Part::Short;
     }
