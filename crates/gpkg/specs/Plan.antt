@@ -29,10 +29,6 @@ use Rattle.gpkg.specs.declared.Flat.the-variants.{Words, Opened, Nothing
 use Rattle.gpkg.specs.declared.Piece as piece
 use Rattle.gpkg.specs.declared.Piece.the-variants as pieces
 
--- the settings that some bytes hold
-abbrev pub settingsIn : List ℕ → Settings
-settingsIn s = record { precision = getD s 6 0; ci = nameAt s (ciAt s); ai = nameAt s (aiAt s); cai = nameAt s (caiAt s) }
-
 -- Trees whose numbers fit their fields.
 unfoldable mutual
   pub sound : Tree → Bool

@@ -151,10 +151,10 @@ fn next_case(file: i32, input: &mut [u8], stored: &mut [u8]) -> Turn {
     if had == 0 {
         return Turn::End;
     }
-    let middle = tree::dword_at(&head, 0);
-    let end = middle + tree::dword_at(&head, 4);
-    let room = tree::dword_at(&head, 8);
-    let size = tree::dword_at(&head, 12);
+    let middle = record::dword_at(&head, 0);
+    let end = middle + record::dword_at(&head, 4);
+    let room = record::dword_at(&head, 8);
+    let size = record::dword_at(&head, 12);
     if !fill(file, input, end) {
         return Turn::Broken;
     }

@@ -17,10 +17,9 @@ use Rattle.row.specs.Row.{val, Column, Found, absent, has}
 use Rattle.row.specs.Row as row
 use Rattle.truth.specs.declared.Truth.{Truth}
 use Rattle.truth.specs.declared.Truth.the-variants.{True, False, Unknown, Missing}
-use Rattle.truth.specs.declared.Reading.{Reading}
 use Rattle.truth.specs.declared.Reading.the-variants.{True as SaysTrue, False as SaysFalse, Unknown as SaysUnknown}
 use Rattle.truth.specs.Reading.{answered}
-use Rattle.truth.specs.Lex.{LT, GT, EQ, NE}
+use Rattle.truth.specs.Lex.{EQ, NE}
 use Rattle.truth.specs.Grammar.{not3, or3, truthOf, compared, holds}
 use Rattle.time.specs.FilterTruth.{valueOn, condTruth, endValues, temporalTruth, nonNull, columnsNonNull}
 use Rattle.time.specs.Claims.{Opposite}

@@ -18,7 +18,7 @@ use Rattle.tree.specs.Tree.{Tree, Settings, null, unbounded, date, timestamp, i
 use Rattle.tree.specs.Placed.{operands}
 use Rattle.tree.specs.Tests as trees
 use Rattle.tree.specs.Placed as placed
-use Rattle.tree.specs.Good.{Good}
+use Rattle.tree.specs.GoodWords.{Good}
 use Rattle.literal.specs.Literal as literal
 use Rattle.sql.specs.Condition as sql
 use Rattle.sql.specs.Translators as translators

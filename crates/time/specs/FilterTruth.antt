@@ -16,10 +16,10 @@ use Rattle.tree.specs.Tests.{fieldsOf, everywhere, byOperator, isId, isInterval
 use Rattle.literal.specs.Literal as literal
 use Rattle.sql.specs.Condition as sql
 use Rattle.sql.specs.Translators.{translate}
-use Rattle.row.specs.Row.{Value, val, Column, Found, absent, has, look}
+use Rattle.row.specs.Row.{val, Column, Found, absent, has}
 use Rattle.row.specs.Row as row
 use Rattle.truth.specs.declared.Truth.{Truth}
-use Rattle.truth.specs.declared.Truth.the-variants.{True, False, Unknown, Missing}
+use Rattle.truth.specs.declared.Truth.the-variants.{Unknown}
 use Rattle.truth.specs.Lex.{LT, GT, LE, GE, EQ, NE}
 use Rattle.truth.specs.Grammar.{Atom, column, text, none, value, not3, and3, or3, truthOf, compared, nullity}
 use Rattle.time.specs.Operators.{entry}

@@ -1,12 +1,12 @@
 -- The theorems of demands 2 and 3 at work on bytes: a filter, a row, the answer, for each of them. So none of their hypotheses is empty:
 -- settings, trees and rows that meet them are computed here. (Examples.antt has the cases outside.)
-use Prim.Native.Nat.{ℕ, _<_}
+use Prim.Native.Nat.{ℕ}
 use mathlib.Core.Path.{_≡_, refl, _∙_}
 use mathlib.Core.List.{List, [], _∷_, _++_}
-use mathlib.Core.Bool.{Bool, true, false}
+use mathlib.Core.Bool.{true}
 use native.Mathlib.Omega.{arith}
 use lib.Dec.{ltb}
-use lib.ListN.{length, replicate}
+use lib.ListN.{replicate}
 use borrow.Author.Tests.{ltb-true}
 use Rattle.prelude.specs.Bytes.{bytes}
 use Rattle.prelude.specs.Choice.{all}
@@ -20,13 +20,12 @@ use Rattle.tree.specs.Accepted.{accepted}
 use Rattle.tree.specs.ByteLaws.{Bytes}
 use Rattle.gpkg.specs.Lowered.{lowering}
 use Rattle.row.specs.Row.{Column, val, rowOf, columns}
-use Rattle.truth.specs.declared.Reading.{Reading}
 use Rattle.truth.specs.declared.Reading.the-variants.{True as SaysTrue, False as SaysFalse, Unknown as SaysUnknown}
 use Rattle.truth.specs.Grammar.{truthOf}
 use Rattle.truth.specs.Reading.{answered, readingOf}
 use Rattle.time.specs.Accepted.{Lowers, IsRow}
-use Rattle.time.specs.Claims.{Opposite, ExactlyOne}
-use Rattle.time.specs.Converse.{Turned, turn, thirteen}
+use Rattle.time.specs.Claims.{Alike, Opposite, ExactlyOne}
+use Rattle.time.specs.Converse.{turn, thirteen}
 use Rattle.time.specs.Filter.{timeFilter, isOperand}
 use Rattle.time.specs.FilterTruth.{holds, truthOn, columnsNonNull, proper}
 use Rattle.time.specs.Ogc.{ten, instants, ogcOperand, ogcOn}
@@ -146,7 +145,7 @@ record Computed : Type 0 where
   unknown : answered (truthOn columnsN apart) ≡ SaysUnknown
   instant : isOperand a ≡ true
   operands : (isOperand (interval b c) ≡ true) × (isOperand (interval a c) ≡ true) × (isOperand (interval b d) ≡ true)
-  heldD : (holds columnsD a ≡ true) × (holds columnsD (interval b c) ≡ true) × (holds columnsD (interval a c) ≡ true) × (holds columnsD (interval b d) ≡ true)
+  heldD : (holds columnsD a ≡ true) × (holds columnsD (interval b c) ≡ true)
   no-null : (columnsNonNull columnsD a ≡ true) × (columnsNonNull columnsD (interval b c) ≡ true)
   below : (proper columnsD a c ≡ true) × (proper columnsD b d ≡ true)
   dates : (instants ten columnsD ≡ true) × (ogcOperand ten a ≡ true) × (ogcOperand ten (interval b c) ≡ true)
@@ -182,7 +181,7 @@ computed =
       unknown = refl;
       instant = refl;
       operands = (refl, refl, refl);
-      heldD = (refl, refl, refl, refl);
+      heldD = (refl, refl);
       no-null = (refl, refl);
       below = (refl, refl);
       dates = (refl, refl, refl);
@@ -200,7 +199,7 @@ pub reads-truth-instance : readingOf (sql apart) rowN ≡ SaysUnknown
 reads-truth-instance = reads-truth (computed .apart-lowers) (computed .apart-filter) is-rowN (computed .heldN) .0 ∙ computed .unknown
 
 -- converse-reads: the operands exchanged
-pub converse-instance : readingOf (sql apart) rowN ≡ readingOf (sql turned) rowN
+pub converse-instance : Alike SaysTrue SaysFalse SaysUnknown (readingOf (sql apart) rowN) (readingOf (sql turned) rowN)
 unfolding time-converse.converse prelude-choice.some
 converse-instance =
     converse-reads (turn TDisjoint a (interval b c) (computed .temporal)) (computed .apart-lowers) (computed .turned-lowers) (computed .apart-filter) is-rowN (computed .heldN)
@@ -208,7 +207,7 @@ converse-instance =
 -- complement-reads: on a row without NULL
 pub complement-instance : Opposite SaysTrue SaysFalse SaysUnknown (readingOf (sql apart) rowD) (readingOf (sql meeting) rowD)
 complement-instance =
-    complement-reads (computed .apart-lowers) (computed .meeting-lowers) (computed .instant) (computed .operands .0) is-rowD (computed .heldD .0) (computed .heldD .1)
+    complement-reads (computed .apart-lowers) (computed .meeting-lowers) (computed .instant) (computed .operands .0) is-rowD
     (computed .no-null .0) (computed .no-null .1)
 
 -- agrees-with-ogc: a lies before the interval from b to c, so they are disjoint
@@ -221,4 +220,4 @@ ogc-instance =
 pub exactly-one-instance : ExactlyOne SaysTrue SaysFalse (λ o. readingOf (sql (pair o)) rowD)
 exactly-one-instance =
     exactly-one-reads (λ o. sql (pair o)) (among (λ o. Lowers (pair o) (sql (pair o))) (computed .pairs-lower)) (computed .operands .1) (computed .operands .2) is-rowD
-    (computed .heldD .2) (computed .heldD .3) (computed .below .0) (computed .below .1)
+    (computed .below .0) (computed .below .1)

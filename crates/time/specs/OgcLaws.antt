@@ -18,7 +18,7 @@ use Rattle.tree.specs.Tree.{Tree, null, date, timestamp, kindOf}
 use Rattle.tree.specs.Placed.{operands}
 use Rattle.tree.specs.Tests.{children, first, second, everywhere, isId, isInterval, startOf, stopOf, endsOf, columnsOf}
 use Rattle.tree.specs.TestsLaws.{one-of-all, OfKind, of-interval, interval-is}
-use Rattle.tree.specs.Good.{Good}
+use Rattle.tree.specs.GoodWords.{Good}
 use Rattle.literal.specs.Literal as literal
 use Rattle.sql.specs.Condition.{Cond, test, lt, gt, eq, checkId, checkIds}
 use Rattle.sql.specs.Translators.{translate, tAfter, tBefore, tContains, tDisjoint, tDuring, tEquals, tFinishedBy, tFinishes, tIntersects, tMeets, tMetBy, tOverlappedBy, tOverlaps, tStartedBy, tStarts}

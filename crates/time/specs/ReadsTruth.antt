@@ -1,17 +1,15 @@
 -- Demand 2: the truth read from a time filter's text on a row holding its columns equals the three-valued definition over the tree.
--- The text reads back as the filter's condition (FilterReads.antt), within 34 of the 64 brackets, and no column of it is missing.
-use Prim.Native.Nat.{ℕ, zero, suc, _≤_, _<_}
-use mathlib.Core.Path.{_≡_, refl, sym, ap, _∙_, subst}
+-- The text reads back as the filter's condition (FilterReadsLaws.antt), within 34 of the 64 brackets, and no column of it is missing.
+use Prim.Native.Nat.{ℕ, zero, suc, _≤_}
+use mathlib.Core.Path.{_≡_, refl, sym, ap, _∙_}
 use mathlib.Core.List.{List, [], _∷_}
 use mathlib.Core.Bool.{Bool, true, false, false≢true}
-use mathlib.Core.Logic.{_⊎_, ⊎-elim}
 use native.Mathlib.Omega.{arith}
 use lib.Dec.{eqb, ltb}
 use lib.ListN.{length, getD}
 use borrow.Author.Tests.{le-ltb, ltb-false}
-use Rattle.prelude.specs.Choice.{pick, both, either}
+use Rattle.prelude.specs.Choice.{pick}
 use Rattle.prelude.specs.ChoiceLaws.{both-true}
-use Rattle.refusal.specs.declared.Refusal.{Refusal}
 use Rattle.refusal.specs.declared.Refusal.the-variants.{TreeTooLong, BadOperand, TextTooLong, BufferTooShort}
 use Rattle.op.specs.Op.{opNumber, oneOf}
 use Rattle.op.specs.declared.Op.the-variants.{IsNull}
@@ -19,9 +17,9 @@ use Rattle.tree.specs.Kinds.{BOOL}
 use Rattle.tree.specs.Tree.{Tree, Settings, null, kindOf}
 use Rattle.order.specs.Order.{order}
 use Rattle.tree.specs.Limits.{depthLimit, treeLimit}
-use Rattle.tree.specs.Parse.{Read, refused, got, also, parse}
-use Rattle.tree.specs.ParseLaws.{split, also-got, not-got, parse-good}
-use Rattle.tree.specs.Good.{Good}
+use Rattle.tree.specs.Parse.{refused, got, also, parse}
+use Rattle.tree.specs.ParseLaws.{also-got, not-got, parse-good}
+use Rattle.tree.specs.GoodWords.{Good}
 use Rattle.tree.specs.Placed.{placed}
 use Rattle.tree.specs.Tests.{fieldsOf, everywhere, isInterval, startOf, stopOf, endsOf, columnsOf}
 use Rattle.tree.specs.TestsLaws.{everywhere-here, everywhere-start, everywhere-stop, by-operator}
@@ -30,22 +28,20 @@ use Rattle.sql.specs.Condition as sql
 use Rattle.sql.specs.Translators.{translate}
 use Rattle.gpkg.specs.Text as gpkg
 use Rattle.gpkg.specs.Lowered.{lengthLimit, fitted, lowering}
-use Rattle.row.specs.Row.{Column, Found, absent, has, val, look, rowOf, columns}
+use Rattle.row.specs.Row.{Column, Found, absent, has, val}
 use Rattle.row.specs.Row as row
 use Rattle.truth.specs.declared.Truth.{Truth}
 use Rattle.truth.specs.declared.Truth.the-variants.{True, False, Unknown, Missing}
-use Rattle.truth.specs.declared.Reading.{Reading}
-use Rattle.truth.specs.declared.Reading.the-variants.{Refused}
-use Rattle.truth.specs.Grammar.{value, not3, and3, or3, truthOf, compared, nullity, eval}
+use Rattle.truth.specs.Grammar.{value, not3, and3, or3, truthOf, compared, nullity}
 use Rattle.truth.specs.Grammar as grammar
 use Rattle.truth.specs.Lex.{kind}
-use Rattle.truth.specs.Reading.{textLimit, rowLimit, bracketLimit, answered, readingOf}
+use Rattle.truth.specs.Reading.{textLimit, rowLimit, answered, readingOf}
 use Rattle.truth.specs.Reading as reading
 use Rattle.time.specs.Filter.{isNeg, isAnd, isOr, compares, timeFilter}
 use Rattle.time.specs.FilterTruth.{treeAtom, valueOn, found, holds, signOf, condTruth, endValues, temporalTruth, comparison, constant, monadicTruth, dyadicTruth, truthOn}
 use Rattle.time.specs.Accepted.{Lowers, IsRow}
-use Rattle.time.specs.ReadBack.{Prints, parses-back, lift}
-use Rattle.time.specs.FilterReads.{filterAst, filter-eval, filter-shown, room, deeper}
+use Rattle.time.specs.ReadBackLaws.{Prints, parses-back}
+use Rattle.time.specs.FilterReadsLaws.{filterAst, filter-eval, filter-shown, deeper}
 
 -- What an accepted filter is.
 pub record Parts (t : Tree) (x : List ℕ) : Type 0 where
@@ -215,10 +211,15 @@ up : {l : ℕ} {s : List ℕ} {x : grammar.Ast} (n : ℕ) {d : ℕ} → Prints d
 up zero p = p
 up (suc n) p = deeper (up n p)
 
-pub reads-truth : {t : Tree} {x row : List ℕ} {cs : List Column} → Lowers t x → timeFilter t ≡ true → IsRow row cs → holds cs t ≡ true
-    → (readingOf x row ≡ answered (truthOn cs t)) × (known (truthOn cs t) ≡ true)
+-- on any row
+pub reads-as : {t : Tree} {x row : List ℕ} {cs : List Column} → Lowers t x → timeFilter t ≡ true → IsRow row cs → readingOf x row ≡ answered (truthOn cs t)
 unfolding readingOf kind
-reads-truth {t} {x} {row} {cs} L f R h =
+reads-as {t} {x} {row} {cs} L f R =
     let p = parts L in
     let q : reading.parse x ≡ grammar.got (filterAst t) [] = parses-back 3 x (filterAst t) (omega arith) (rw (p .text-is) (up 30 (filter-shown (p .with) depthLimit t f (p .good)))) in
-    (rw (le-ltb textLimit (length x) (p .short), le-ltb rowLimit (length row) (R .short), R .reads, q) (ap answered (filter-eval cs t)), truth-known cs t h)
+    rw (le-ltb textLimit (length x) (p .short), le-ltb rowLimit (length row) (R .short), R .reads, q) (ap answered (filter-eval cs t))
+
+-- on a row that holds its columns no name is missing, so that the answer is true, false or unknown
+pub reads-truth : {t : Tree} {x row : List ℕ} {cs : List Column} → Lowers t x → timeFilter t ≡ true → IsRow row cs → holds cs t ≡ true
+    → (readingOf x row ≡ answered (truthOn cs t)) × (known (truthOn cs t) ≡ true)
+reads-truth {cs = cs} L f R h = (reads-as L f R, truth-known cs _ h)

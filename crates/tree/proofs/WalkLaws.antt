@@ -1,4 +1,4 @@
--- Laws of the walk's answers (specs/Walk.antt) that the proof of the cycle cites: what the record at the front, one record, two records and records
+-- Laws of the walk's answers (specs/WalkWords.antt) that the proof of the cycle cites: what the record at the front, one record, two records and records
 -- to the end answer for the whole, and what each kind makes of the answers below it. Each is over plain lists and numbers.
 use mathlib.Core.Path.{_≡_, refl, ap, sym, _∙_}
 use mathlib.Core.List.{List, [], _∷_}
@@ -8,7 +8,7 @@ use native.Mathlib.Omega.{arith}
 use lib.ListN.{length, getD, take, drop, length-drop}
 use lib.Seq.{drop-drop}
 use lib.Dec.{ltb, leb, eqb}
-use borrow.Author.Tests.{ltb-true, ltb-false, le-ltb, lt-ltb, eq-eqb, ne-eqb, leb-true}
+use borrow.Author.Tests.{ltb-false, le-ltb, lt-ltb, ne-eqb, leb-true}
 use Rattle.prelude.specs.Choice.{pick, both, either, negated}
 use Rattle.refusal.specs.declared.Refusal.{Refusal}
 use Rattle.refusal.specs.declared.Refusal.the-variants.{BadSettings, TreeTooLong, BadFrame, TooDeep, BadKindOrOperator, BadField, BadOperand}
@@ -26,21 +26,18 @@ use Rattle.tree.specs.declared.Shape.{Shape}
 use Rattle.tree.specs.declared.Shape.the-variants.{Interval, Pair, Other, Misplaced}
 use Rattle.tree.specs.declared.One.{One}
 use Rattle.tree.specs.declared.One.the-variants.{OneBad, OneIs}
-use Rattle.tree.specs.declared.Two.{Two}
 use Rattle.tree.specs.declared.Two.the-variants.{TwoBad, TwoAre}
 use Rattle.tree.specs.declared.Items.{Items}
 use Rattle.tree.specs.declared.Items.the-variants.{ItemsBad, ItemsAre}
-use Rattle.tree.specs.declared.First.{First}
 use Rattle.tree.specs.declared.First.the-variants.{Stop, Next}
-use Rattle.tree.specs.declared.Taken.{Taken}
 use Rattle.tree.specs.declared.Taken.the-variants.{Takes, Refuses}
-use Rattle.tree.specs.Tree.{Tree, Trees, Settings, null, unbounded, bool, num, str, date, timestamp, spatial, id, monadic, dyadic, function, array, interval, none, _then_}
-use Rattle.tree.specs.Parse.{Read, refused, got, also, Body, cons, end, exactly, many, items, nameAt, past, namedAt, emptyBody, boolBody, numBody, strBody, dateBody, timestampBody, spatialBody, leaf, mantissa, takesOne, takesTwo, allowed, operated, readMonadic, readDyadic, readFunction, readArray, readInterval, choose, kinds, readKind, node, parse}
+use Rattle.tree.specs.Tree.{Tree, Trees, null, unbounded, bool, num, str, date, timestamp, spatial, id, monadic, dyadic, function, array, interval, none, _then_}
+use Rattle.tree.specs.Parse.{Read, refused, got, also, Body, cons, end, exactly, many, items, nameAt, past, namedAt, emptyBody, boolBody, numBody, strBody, dateBody, timestampBody, spatialBody, leaf, mantissa, takesOne, takesTwo, allowed, operated, readMonadic, readDyadic, readFunction, choose, kinds, readKind, node, parse}
 use Rattle.tree.specs.Placed.{isBetween, operands, noInterval, inPlace, inner, inners, placed}
 use Rattle.tree.specs.Tests.{first, second, count, everywhere, everywhereIn, byOperator, isInterval, isItems, isPair}
-use Rattle.tree.specs.Accepted.{settings, isSettings, accepted}
+use Rattle.tree.specs.Accepted.{settings, isSettings, accepted, verdict}
 use Rattle.tree.specs.Limits.{depthLimit, treeLimit}
-use Rattle.tree.specs.Walk.{verdict, shapeOf, seen, seenOne, seenTwo, seenAll, ended, framed, firstOf, takenBy, taken, plainShape, pairShape, intervalShape, soundShape, fits, orMisplaced, leafOne, monadicOne, dyadicOne, functionOne, arrayOne, intervalOne}
+use Rattle.tree.specs.WalkWords.{shapeOf, seen, seenOne, seenTwo, seenAll, ended, framed, firstOf, takenBy, taken, plainShape, pairShape, intervalShape, soundShape, fits, orMisplaced, leafOne, monadicOne, dyadicOne, functionOne, arrayOne, intervalOne}
 use Rattle.tree.specs.ParseLaws.{frame-whole, both-true}
 use Rattle.tree.proofs.Laws.{tail, tail-is}
 

@@ -1,7 +1,7 @@
 -- What bytes mean as a tree, with refusals 3 to 6 in reading order: document 01, "Records" and "What a caller hears".
-use Prim.Native.Nat.{ℕ, zero, suc, _+_, _-_, _*_}
+use Prim.Native.Nat.{ℕ, zero, suc, _+_, _-_}
 use mathlib.Core.List.{List, [], _∷_}
-use mathlib.Core.Bool.{Bool, true, false}
+use mathlib.Core.Bool.{Bool}
 use lib.IntN.{ℤ, pos, negsuc, natAbs}
 use lib.ListN.{length, getD, take, drop}
 use lib.Dec.{ltb, leb, eqb}
@@ -10,7 +10,7 @@ use Rattle.refusal.specs.declared.Refusal.{Refusal}
 use Rattle.refusal.specs.declared.Refusal.the-variants.{BadFrame, TooDeep, BadKindOrOperator, BadField}
 use Rattle.record.specs.declared.Frame.{Frame}
 use Rattle.record.specs.declared.Frame.the-variants.{Broken, Whole}
-use Rattle.record.specs.Record.{le16, le32, frame}
+use Rattle.record.specs.Record.{le16, le32, le64, frame}
 use Rattle.charset.specs.Charset.{name, strByte, spatialByte}
 use Rattle.civil.specs.Civil.{validDate, validTime}
 use Rattle.op.specs.declared.Op.{Op}
@@ -66,10 +66,6 @@ abbrev pub items : Body → List ℕ → Read Trees
 items body s = many body (length s) s
 
 -- Fields.
-
--- eight bytes at i, the low one first
-abbrev pub le64 : List ℕ → ℕ → ℕ
-le64 s i = le32 s i + le32 s (i + 4) * 4294967296
 
 -- two's complement of 64 bits: below 2^63 the number itself, else the number less 2^64
 unfoldable pub signed : ℕ → ℤ

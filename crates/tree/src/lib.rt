@@ -1,20 +1,48 @@
 ghost use mathlib.Core.Path.{_≡_};
 ghost use mathlib.Core.Bool.{true};
-ghost use Prim.Native.Nat.{_+_, _-_, _*_, _≤_, _<_};
+ghost use Prim.Native.Nat.{_+_, _-_, _≤_, _<_};
 ghost use lib.IntN.{natAbs};
 ghost use lib.Dec.{leb};
-ghost use lib.ListN.{length, getD, take, drop};
+ghost use lib.ListN.{length};
 ghost use Rattle.prelude.specs.Choice.{pick, both};
-ghost use Rattle.record.specs.Record.{le16, le32};
 ghost use Rattle.tree.specs.Limits.{mantissaLimit};
-ghost use Rattle.tree.specs.Parse.{le64, signed, mantissa, namedAt, emptyBody, boolBody, numBody, strBody, dateBody, timestampBody, spatialBody, takesOne, takesTwo, readMonadic, readDyadic, readFunction, node, exactly, items};
+ghost use Rattle.tree.specs.Parse.{signed, mantissa, namedAt, boolBody, numBody, strBody, dateBody, timestampBody, spatialBody, takesOne, takesTwo, readMonadic, readDyadic, readFunction, node, exactly, items};
 ghost use Rattle.tree.specs.Placed.{isBetween};
-ghost use Rattle.tree.specs.Accepted.{settingsBody, isSettings, accepted};
-ghost use Rattle.tree.specs.Walk.{verdict, seen, seenOne, seenTwo, seenAll, firstOf, taken, plainShape, pairShape, intervalShape, soundShape, fits, orMisplaced, leafOne, monadicOne, dyadicOne, functionOne, arrayOne, intervalOne};
+ghost use Rattle.tree.specs.Accepted.{settingsBody, isSettings, accepted, verdict};
+ghost use Rattle.tree.specs.WalkWords.{seen, seenOne, seenTwo, seenAll, firstOf, taken, plainShape, pairShape, intervalShape, soundShape, fits, orMisplaced, leafOne, monadicOne, dyadicOne, functionOne, arrayOne, intervalOne};
 use op::Named;
 use op::Op;
 use record::Frame;
 use refusal::Refusal;
+
+// The kinds of a record.
+pub const NULL: usize = 0;
+
+pub const UNBOUNDED: usize = 1;
+
+pub const BOOL: usize = 2;
+
+pub const NUM: usize = 3;
+
+pub const STR: usize = 4;
+
+pub const DATE: usize = 5;
+
+pub const TIMESTAMP: usize = 6;
+
+pub const SPATIAL: usize = 7;
+
+pub const ID: usize = 8;
+
+pub const MONADIC: usize = 9;
+
+pub const DYADIC: usize = 10;
+
+pub const FUNCTION: usize = 11;
+
+pub const ARRAY: usize = 12;
+
+pub const INTERVAL: usize = 13;
 
 // Document 01's limits.
 const TREE_LIMIT: usize = 32768;
@@ -82,110 +110,6 @@ fn wide(x: u8) -> usize
     x as usize
 }
 
-fn word_in(s: &[u8], at: usize) -> usize
-    requires { ⌜ at + 2 ≤ length (now s) ⌝ }
-    ensures { λ r. ⌜ (r ≡ le16 (now (s .entry)) at) × (r < 65536) ⌝ }
-{
-    wide(s[at]) + wide(s[at + 1]) * 256
-}
-
-fn dword_in(s: &[u8], at: usize) -> usize
-    requires { ⌜ at + 4 ≤ length (now s) ⌝ }
-    ensures { λ r. ⌜ (r ≡ le32 (now (s .entry)) at) × (r < 4294967296) ⌝ }
-{
-    word_in(s, at) + word_in(s, at + 2) * 65536
-}
-
-fn qword_in(s: &[u8], at: usize) -> usize
-    requires { ⌜ at + 8 ≤ length (now s) ⌝ }
-    ensures { λ r. ⌜ (r ≡ le64 (now (s .entry)) at) × (r < 18446744073709551616) ⌝ }
-{
-    dword_in(s, at) + dword_in(s, at + 4) * 4294967296
-}
-
-// The reads below take any place: a byte past the end counts as 0.
-
-pub fn byte_at(s: &[u8], at: usize) -> usize
-    ensures { λ r. ⌜ (r ≡ getD (now (s .entry)) at 0) × (r < 256) ⌝ }
-{
-    if at < s.len() { wide(s[at]) } else { 0 }
-}
-
-// n bytes from `at` lie in `len` bytes. No sum is made, so `at` may be any number.
-fn lies(len: usize, at: usize, n: usize) -> bool
-    ensures { λ r. ⌜ (r ≡ true → at + n ≤ len) ⌝ }
-{
-    if len < n {
-        return false;
-    }
-    if len - n < at {
-        return false;
-    }
-    true
-}
-
-// A word of which a part may lie past the end.
-fn word_past(s: &[u8], at: usize) -> usize
-    ensures { λ r. ⌜ (r ≡ le16 (now (s .entry)) at) × (r < 65536) ⌝ }
-{
-    if at < s.len() {
-        byte_at(s, at) + byte_at(s, at + 1) * 256
-    } else {
-        0
-    }
-}
-
-pub fn word_at(s: &[u8], at: usize) -> usize
-    ensures { λ r. ⌜ (r ≡ le16 (now (s .entry)) at) × (r < 65536) ⌝ }
-{
-    if lies(s.len(), at, 2) {
-        return word_in(s, at);
-    }
-    word_past(s, at)
-}
-
-fn dword_past(s: &[u8], at: usize) -> usize
-    ensures { λ r. ⌜ (r ≡ le32 (now (s .entry)) at) × (r < 4294967296) ⌝ }
-{
-    if s.len() < 2 {
-        return word_past(s, at);
-    }
-    if s.len() - 2 < at {
-        return word_past(s, at);
-    }
-    word_past(s, at) + word_past(s, at + 2) * 65536
-}
-
-pub fn dword_at(s: &[u8], at: usize) -> usize
-    ensures { λ r. ⌜ (r ≡ le32 (now (s .entry)) at) × (r < 4294967296) ⌝ }
-{
-    if lies(s.len(), at, 4) {
-        return dword_in(s, at);
-    }
-    dword_past(s, at)
-}
-
-fn qword_past(s: &[u8], at: usize) -> usize
-    ensures { λ r. ⌜ (r ≡ le64 (now (s .entry)) at) × (r < 18446744073709551616) ⌝ }
-{
-    if s.len() < 4 {
-        return dword_past(s, at);
-    }
-    if s.len() - 4 < at {
-        return dword_past(s, at);
-    }
-    dword_past(s, at) + dword_past(s, at + 4) * 4294967296
-}
-
-fn qword_at(s: &[u8], at: usize) -> usize
-    ensures { λ r. ⌜ (r ≡ le64 (now (s .entry)) at) × (r < 18446744073709551616) ⌝ }
-{
-    if lies(s.len(), at, 8) {
-        return qword_in(s, at);
-    }
-    qword_past(s, at)
-}
-
 // Two's complement without a wrapping step: n less 2^64 is −1 less what n lacks of 2^64 − 1, and that fits.
 fn signed_of(n: usize) -> i64
     ensures { λ r. ⌜ r ≡ signed n ⌝ }
@@ -201,7 +125,7 @@ fn signed_of(n: usize) -> i64
 pub fn mantissa_at(s: &[u8], at: usize) -> i64
     ensures { λ r. ⌜ r ≡ mantissa (now (s .entry)) at ⌝ }
 {
-    signed_of(qword_at(s, at))
+    signed_of(record::qword_at(s, at))
 }
 
 // A length byte at i and as many bytes after it that are a name.
@@ -239,7 +163,7 @@ fn num_body(s: &[u8]) -> bool
     ensures { λ r. ⌜ r ≡ numBody (now (s .entry)) ⌝ }
 {
     if s.len() == 9 {
-        if within_limit(qword_in(s, 0)) {
+        if within_limit(record::qword_at(s, 0)) {
             return wide(s[8]) <= SCALE_LIMIT;
         }
     }
@@ -263,7 +187,7 @@ fn date_body(s: &[u8]) -> bool
     ensures { λ r. ⌜ r ≡ dateBody (now (s .entry)) ⌝ }
 {
     if s.len() == 4 {
-        civil::valid_date(word_in(s, 0), wide(s[2]), wide(s[3]))
+        civil::valid_date(record::word_at(s, 0), wide(s[2]), wide(s[3]))
     } else {
         false
     }
@@ -273,7 +197,7 @@ fn timestamp_body(s: &[u8]) -> bool
     ensures { λ r. ⌜ r ≡ timestampBody (now (s .entry)) ⌝ }
 {
     if s.len() == 7 {
-        if civil::valid_date(word_in(s, 0), wide(s[2]), wide(s[3])) {
+        if civil::valid_date(record::word_at(s, 0), wide(s[2]), wide(s[3])) {
             return civil::valid_time(wide(s[4]), wide(s[5]), wide(s[6]));
         }
     }
@@ -353,7 +277,7 @@ fn operator_in(two: bool, s: &[u8]) -> Taken
     if s.len() < 2 {
         return Taken::Refuses(Refusal::BadField);
     }
-    match op::op_of(word_in(s, 0)) {
+    match op::op_of(record::word_at(s, 0)) {
         Named::NoOp => Taken::Refuses(Refusal::BadKindOrOperator),
         Named::Is(o) => {
             if takes(two, o) {
@@ -543,20 +467,20 @@ fn check_node(kind: usize, s: &[u8], levels: usize) -> One
         return One::OneBad(Refusal::TooDeep);
     }
     match kind {
-        0 => leaf_one(s.len() == 0),
-        1 => leaf_one(s.len() == 0),
-        2 => leaf_one(bool_body(s)),
-        3 => leaf_one(num_body(s)),
-        4 => leaf_one(str_body(s)),
-        5 => leaf_one(date_body(s)),
-        6 => leaf_one(timestamp_body(s)),
-        7 => leaf_one(spatial_body(s)),
-        8 => leaf_one(charset::is_name(s)),
-        9 => check_monadic(s, levels - 1),
-        10 => check_dyadic(s, levels - 1),
-        11 => check_function(s, levels - 1),
-        12 => array_one(check_many(s, levels - 1)),
-        13 => interval_one(check_two(s, levels - 1)),
+        NULL => leaf_one(s.len() == 0),
+        UNBOUNDED => leaf_one(s.len() == 0),
+        BOOL => leaf_one(bool_body(s)),
+        NUM => leaf_one(num_body(s)),
+        STR => leaf_one(str_body(s)),
+        DATE => leaf_one(date_body(s)),
+        TIMESTAMP => leaf_one(timestamp_body(s)),
+        SPATIAL => leaf_one(spatial_body(s)),
+        ID => leaf_one(charset::is_name(s)),
+        MONADIC => check_monadic(s, levels - 1),
+        DYADIC => check_dyadic(s, levels - 1),
+        FUNCTION => check_function(s, levels - 1),
+        ARRAY => array_one(check_many(s, levels - 1)),
+        INTERVAL => interval_one(check_two(s, levels - 1)),
         _ => One::OneBad(Refusal::BadKindOrOperator),
     }
 }
@@ -566,7 +490,7 @@ fn check_first(s: &[u8], levels: usize) -> First
 {
     match record::frame_at(s) {
         Frame::Broken => First::Stop(Refusal::BadFrame),
-        Frame::Whole { kind, end } => match check_node(kind, &s[6..end], levels) {
+        Frame::Whole { kind, end } => match check_node(kind, &s[record::BODY..end], levels) {
             One::OneBad(e) => First::Stop(e),
             One::OneIs(a) => First::Next(end, a),
         },
@@ -627,15 +551,15 @@ fn settings_body(s: &[u8]) -> bool
     requires { ⌜ 6 ≤ length (now s) ⌝ }
     ensures { λ r. ⌜ r ≡ settingsBody (now (s .entry)) ⌝ }
 {
-    if PRECISION_LIMIT < byte_at(s, 6) {
+    if PRECISION_LIMIT < record::byte_at(s, 6) {
         return false;
     }
     if named_at(s, 7) {
-        let ai = 8 + byte_at(s, 7);
+        let ai = 8 + record::byte_at(s, 7);
         if named_at(s, ai) {
-            let cai = ai + 1 + byte_at(s, ai);
+            let cai = ai + 1 + record::byte_at(s, ai);
             if named_at(s, cai) {
-                return cai + 1 + byte_at(s, cai) == s.len();
+                return cai + 1 + record::byte_at(s, cai) == s.len();
             }
         }
     }

@@ -47,12 +47,12 @@ fn usual(tree: &[u8]) -> usize {
 }
 
 fn show(case: &[u8]) -> Shown {
-    let middle = 8 + tree::word_at(case, 2);
+    let middle = 8 + record::word_at(case, 2);
     if case.len() < middle {
         return Shown::Cut;
     }
-    let expected = tree::byte_at(case, 0);
-    if tree::byte_at(case, 1) == 1 {
+    let expected = record::byte_at(case, 0);
+    if record::byte_at(case, 1) == 1 {
         let found = usual(&case[middle..]);
         return Shown::Case { expected, found };
     }
@@ -117,7 +117,7 @@ fn read_case(file: i32, buf: &mut [u8]) -> usize
     if io::read_full(file, &mut buf[..8]) < 8 {
         return 0;
     }
-    let size = tree::word_at(buf, 2) + tree::dword_at(buf, 4);
+    let size = record::word_at(buf, 2) + record::dword_at(buf, 4);
     let end = 8 + size;
     if buf.len() < end {
         return 0;

@@ -3,7 +3,7 @@ use Rattle.emit.specs.EmitLaws.{lays, lays-of, lays-then}
 use Rattle.literal.specs.Literal.{collate}
 use mathlib.Core.Path.{sym, _∙_}
 use Rattle.op.specs.Spelling.{word}
-use Rattle.gpkg.specs.Plan.{settingsIn}
+use Rattle.tree.specs.Accepted.{settingsIn}
 use Rattle.gpkg.proofs.Nodes.{behind-nullable, behind-sign, behind-collate}
 use borrow.Author.Needs.{needs}
 use Rattle.gpkg.proofs.put_behind.Statement.{statement}

@@ -6,7 +6,8 @@ use lib.ListN.{getD, drop}
 use borrow.Author.Tests.{eq-eqb, ne-eqb}
 use Rattle.literal.specs.Literal.{quoted, collate}
 use Rattle.emit.specs.EmitLaws.{lays, lays-of, lays-then}
-use Rattle.gpkg.specs.Plan.{collation, settingsIn}
+use Rattle.gpkg.specs.Plan.{collation}
+use Rattle.tree.specs.Accepted.{settingsIn}
 use borrow.Author.Needs.{needs}
 use Rattle.gpkg.proofs.put_str.Statement.{statement}
 use Rattle.gpkg.proofs.put_str.Tie as tie
@@ -16,7 +17,7 @@ use Rattle.gpkg.proofs.name_of.Reads as name-of-reads
 use Rattle.gpkg.proofs.rest.Reads as rest-reads
 use Rattle.literal.proofs.put_collate.Reads as put-collate-reads
 use Rattle.literal.proofs.put_quoted.Reads as put-quoted-reads
-use Rattle.tree.proofs.byte_at.Reads as byte-at-reads
+use Rattle.record.proofs.byte_at.Reads as byte-at-reads
 
 rest-requires : tie.Need-rest-requires
 rest-requires c κs = search needs

@@ -1,17 +1,16 @@
 -- What is printed as a condition reads back as that condition. `Prints d l s x` says that the text s is made as the grammar wants it at the
 -- level l (0 test, 1 NOT, 2 AND, 3 OR), with at most d brackets inside one another; by induction on it the grammar reads s as x.
-use Prim.Native.Nat.{ℕ, zero, suc, _+_, _-_, _*_, _≤_, _<_}
-use mathlib.Core.Path.{_≡_, refl, sym, ap, _∙_, subst}
+use Prim.Native.Nat.{ℕ, zero, suc, _+_, _-_, _*_, _≤_}
+use mathlib.Core.Path.{_≡_, refl, sym, ap, _∙_}
 use mathlib.Core.List.{List, [], _∷_, _++_, append-assoc, append-nil}
-use mathlib.Core.Bool.{Bool, true, false}
+use mathlib.Core.Bool.{false}
 use native.Mathlib.Omega.{arith}
-use lib.Dec.{eqb}
-use lib.ListN.{length, getD, take, drop, length-append}
+use lib.ListN.{length, length-append}
 use borrow.Author.Tests.{eq-eqb, ne-eqb}
 use Rattle.prelude.specs.Bytes.{bytes}
 use Rattle.truth.specs.Lex.{AND, OR, NOT, OPEN, CLOSE, LT, NE, Token, tokens, tokensIn, kind, rest, lexeme, run, wordKind, signKind, signMore}
 use Rattle.truth.specs.LexLaws.{tokens-space, tokens-one}
-use Rattle.truth.specs.Grammar.{Ast, neg, conj, disj, Parsed, got, bad, then, simple, close, orE, orMore, andE, andMore, notE, test}
+use Rattle.truth.specs.Grammar.{Ast, neg, conj, disj, got, simple, orE, orMore, andE, andMore, notE, test}
 use Rattle.truth.specs.Reading.{parse, bracketLimit}
 use Rattle.prelude.specs.Choice.{same, between}
 use Rattle.charset.specs.Charset.{letter, digit, nameStart, nameByte, upper}

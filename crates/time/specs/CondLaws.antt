@@ -1,7 +1,7 @@
 -- A temporal predicate's condition reads back as the same condition over atoms, and that has the condition's truth.
 -- Each translator is put together from `Prints`; the ends are four atoms, and a guarded end is a column.
-use Prim.Native.Nat.{ℕ, zero, suc, _+_, _≤_, _<_}
-use mathlib.Core.Path.{_≡_, refl, sym, ap, _∙_, subst}
+use Prim.Native.Nat.{ℕ, suc, _+_, _<_}
+use mathlib.Core.Path.{_≡_, refl, sym, ap, subst}
 use mathlib.Core.List.{List, [], _∷_, _++_, append-assoc}
 use mathlib.Core.Bool.{Bool, true, false}
 use native.Mathlib.Omega.{arith}
@@ -13,11 +13,10 @@ use Rattle.sql.specs.Condition as sql
 use Rattle.sql.specs.Condition.{Cond, print, checkId, checkIds}
 use Rattle.sql.specs.Translators.{tAfter, tBefore, tContains, tDisjoint, tDuring, tEquals, tFinishedBy, tFinishes, tIntersects, tMeets, tMetBy, tOverlappedBy, tOverlaps, tStartedBy, tStarts, translate}
 use Rattle.row.specs.Row.{Column, Found}
-use Rattle.truth.specs.Lex.{LT, GT, EQ, NE}
-use Rattle.truth.specs.Grammar.{Atom, column, text, none, Ast, cmp, isNull, neg, conj, disj, value, eval, not3, and3, or3}
+use Rattle.truth.specs.Grammar.{Atom, column, Ast, cmp, isNull, neg, conj, disj, value, eval}
 use Rattle.time.specs.FilterTruth.{signOf, condTruth}
-use Rattle.time.specs.ReadBack.{Item, Prints, item, lift, bracket, not-bracket, and-join, or-join}
-use Rattle.time.specs.Atoms.{AtomText, compare-item, sign-lt, sign-gt, sign-eq, sign-bang, quoted-name, is-not-null-item, not-null-item}
+use Rattle.time.specs.ReadBackLaws.{Item, Prints, item, lift, bracket, not-bracket, and-join, or-join}
+use Rattle.time.specs.AtomLaws.{AtomText, compare-item, sign-lt, sign-gt, sign-eq, sign-bang, quoted-name, is-not-null-item, not-null-item}
 
 -- a condition over atoms
 unfoldable pub condAst : (ℕ → Atom) → Cond → Ast

@@ -1,46 +1,43 @@
 -- A time filter's text reads back as the filter: its atoms are names, quoted texts and NULL, its operands stand in brackets unless they are
--- literals, and a temporal predicate is the condition of CondReads.antt. What is read has the truth that FilterTruth.antt gives the tree.
-use Prim.Native.Nat.{ℕ, zero, suc, _+_, _-_, _/_, _%_, _≤_, _<_}
+-- literals, and a temporal predicate is the condition of CondLaws.antt. What is read has the truth that FilterTruth.antt gives the tree.
+use Prim.Native.Nat.{ℕ, zero, suc, _+_, _-_, _/_, _%_, _<_}
 use mathlib.Core.Path.{_≡_, refl, sym, ap, _∙_, subst}
-use mathlib.Core.List.{List, [], _∷_, _++_, append-assoc, append-nil}
+use mathlib.Core.List.{List, [], _∷_, _++_, append-nil}
 use mathlib.Core.Bool.{Bool, true, false, false≢true}
 use native.Mathlib.Omega.{arith}
-use lib.Dec.{T, eqb, leb, ltb}
+use lib.Dec.{T}
 use lib.ListN.{getD}
-use borrow.Author.Tests.{eqb-true, le-leb, ne-eqb}
-use Rattle.prelude.specs.Choice.{pick, both, either, negated, between, all, some}
+use borrow.Author.Tests.{le-leb, ne-eqb}
+use Rattle.prelude.specs.Choice.{pick, both, either, negated, all, some}
 use Rattle.prelude.specs.ChoiceLaws.{both-true}
 use Rattle.charset.specs.Charset.{name, strByte}
 use Rattle.op.specs.declared.Op.{Op}
 use Rattle.op.specs.declared.Op.the-variants.{Neg, And, Or, IsNull, IsNotNull, Eq, Neq, Lt, Gt, Lte, Gte}
 use Rattle.op.specs.Op.{opNumber, operators, oneOf, isTemporal, isNullable, isSpatial, isArray}
 use Rattle.op.specs.OpLaws.{each, every-op}
-use Rattle.op.specs.Spelling.{spelling, spelled, spelledAs}
+use Rattle.op.specs.Spelling.{spelledAs}
 use Rattle.tree.specs.Kinds.{ID, INTERVAL}
 use Rattle.tree.specs.Tree.{Tree, Settings, null, bool, id, monadic, dyadic}
 use Rattle.tree.specs.Placed.{isBetween}
 use Rattle.tree.specs.Tests as trees
 use Rattle.tree.specs.Tests.{first, second, everywhere, byOperator, isInterval, isId, isLiteral, isLiteralOrId, startOf, stopOf, endsOf, columnsOf}
 use Rattle.tree.specs.TestsLaws.{OfKind, of-id, of-interval, id-is, interval-is, by-operators}
-use Rattle.tree.specs.Good.{Good}
+use Rattle.tree.specs.GoodWords.{Good}
 use Rattle.literal.specs.Literal as literal
 use Rattle.literal.specs.Literal.{low}
-use Rattle.sql.specs.Condition.{print}
 use Rattle.sql.specs.Translators.{translate}
 use Rattle.gpkg.specs.Text as gpkg
 use Rattle.gpkg.specs.Text.{children, bare, monadicText, dyadicText, startText, stopText}
-use Rattle.row.specs.Row.{Column, Found, has}
+use Rattle.row.specs.Row.{Column}
 use Rattle.truth.specs.declared.Truth.{Truth}
-use Rattle.truth.specs.declared.Truth.the-variants.{True, False, Unknown}
-use Rattle.truth.specs.Lex.{LT, GT, LE, GE, EQ, NE}
-use Rattle.truth.specs.Grammar.{Atom, column, text, none, Ast, cmp, isNull, const, neg, conj, disj, value, eval, not3, and3, or3, truthOf, compared, nullity}
+use Rattle.truth.specs.Grammar.{column, text, Ast, cmp, isNull, const, neg, conj, disj, value, eval, not3, nullity}
 use Rattle.time.specs.Filter.{comparable, isEnd, isOperand, isNeg, isAnd, isOr, compares, timeFilter}
 use Rattle.time.specs.FilterLaws.{EndIs, null-end, open-end, date-end, timestamp-end, column-end, end-is, ComparableIs, comparable-str, comparable-date, comparable-timestamp, comparable-id, comparable-is, FilterIs, null-filter, bool-filter, monadic-filter, dyadic-filter, filter-is}
 use Rattle.time.specs.FilterTruth.{treeAtom, valueOn, endValues, temporalTruth, comparison, constant, monadicTruth, dyadicTruth, truthOn}
-use Rattle.time.specs.OperatorLaws.{AllOf, done, _also_, among, same-op, fifteen, of-temporal}
-use Rattle.time.specs.ReadBack.{Item, Prints, item, lift, bracket, not-bracket, not-word, and-join, or-join}
-use Rattle.time.specs.Atoms.{AtomText, bare-atom, text-atom, null-atom, SignText, sign-lt, sign-gt, sign-le, sign-ge, sign-eq, sign-ne, compare-item, null-item, true-item, false-item, bare-name, is-null-item, is-not-null-item}
-use Rattle.time.specs.CondReads.{condAst, cond-eval, Ends, translated}
+use Rattle.time.specs.OperatorLaws.{AllOf, done, _also_, among, fifteen, of-temporal}
+use Rattle.time.specs.ReadBackLaws.{Prints, item, lift, bracket, not-bracket, not-word, and-join, or-join}
+use Rattle.time.specs.AtomLaws.{AtomText, bare-atom, text-atom, null-atom, SignText, sign-lt, sign-gt, sign-le, sign-ge, sign-eq, sign-ne, compare-item, null-item, true-item, false-item, bare-name, is-null-item, is-not-null-item}
+use Rattle.time.specs.CondLaws.{condAst, cond-eval, Ends, translated}
 
 -- Atoms.
 

@@ -1,24 +1,23 @@
--- How names, quoted texts, NULL, comparisons and tests for NULL read: each printed test is an `Item` of ReadBack.antt.
+-- How names, quoted texts, NULL, comparisons and tests for NULL read: each printed test is an `Item` of ReadBackLaws.antt.
 -- A word ends where its run of name bytes ends, a quoted text at its closing mark; what follows is a break.
-use Prim.Native.Nat.{ℕ, zero, suc, _+_, _-_, _*_, _≤_, _<_}
-use mathlib.Core.Path.{_≡_, refl, sym, ap, _∙_, subst}
-use mathlib.Core.List.{List, [], _∷_, _++_, append-assoc, append-nil}
+use Prim.Native.Nat.{ℕ, suc, _+_, _-_, _<_}
+use mathlib.Core.Path.{_≡_, refl, sym, ap, _∙_}
+use mathlib.Core.List.{List, [], _∷_, _++_, append-assoc}
 use mathlib.Core.Bool.{Bool, true, false}
 use native.Mathlib.Omega.{arith}
-use native.Mathlib.Numerals.{add-one}
 use lib.Dec.{eqb}
-use lib.ListN.{length, getD, take, drop, length-append}
+use lib.ListN.{length, take, length-append}
 use lib.Seq.{take-append-seam, drop-append-seam, getD-append-seam, take-append-add, drop-append-add}
-use borrow.Author.Tests.{eq-eqb, ne-eqb, eqb-true}
+use borrow.Author.Tests.{ne-eqb, eqb-true}
 use Rattle.prelude.specs.Bytes.{bytes}
-use Rattle.prelude.specs.Choice.{pick, both, either, negated, between, all, some, same}
+use Rattle.prelude.specs.Choice.{pick, both, negated, between, all, some, same}
 use Rattle.prelude.specs.ChoiceLaws.{both-true}
 use Rattle.charset.specs.Charset.{letter, digit, nameStart, nameByte, upper, uppers, name, reserved, reservedWords, strByte}
-use Rattle.truth.specs.Lex.{NAME, QUOTED, TEXT, OPEN, CLOSE, LT, GT, LE, GE, EQ, NE, NOT, AND, OR, NULL, TRUE, FALSE, IS, END, Token, tokens, kind, body, rest, lexeme, quoted, quoteKind, run, spells, wordKind, signKind, signMore}
+use Rattle.truth.specs.Lex.{NAME, QUOTED, TEXT, OPEN, LT, GT, LE, GE, EQ, NE, NOT, NULL, TRUE, FALSE, IS, Token, tokens, kind, body, rest, lexeme, quoteKind, run, wordKind, signKind, signMore}
 use Rattle.truth.specs.LexLaws.{tokens-space, tokens-one}
 use Rattle.truth.specs.declared.Truth.the-variants.{True, False, Unknown}
-use Rattle.truth.specs.Grammar.{Atom, column, text, none, Ast, cmp, isNull, const, neg, Parsed, got, bad, isName, isAtom, inner, atomOf, notNull, nullTest, fromAtom, simple}
-use Rattle.time.specs.ReadBack.{Break, at-end, at-space, at-close, Boundary, tok, Item}
+use Rattle.truth.specs.Grammar.{Atom, column, text, none, Ast, cmp, isNull, const, neg, got, isName, isAtom, inner, atomOf, notNull, nullTest, fromAtom, simple}
+use Rattle.time.specs.ReadBackLaws.{Break, at-end, at-space, at-close, Boundary, tok, Item}
 
 -- a run ends where the first byte of what follows fails the test
 run-all : (p : ℕ → Bool) (w k : List ℕ) → all p w ≡ true → run p k ≡ 0 → run p (w ++ k) ≡ length w
