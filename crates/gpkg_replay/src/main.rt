@@ -1,11 +1,12 @@
-// Replays the stored cases of data/cases (made by tools/lowering/lowering.py, whose texts are the Rust's) against gpkg::to_sql.
-// A case: four numbers of four bytes (the lengths of the settings and of the tree, the buffer's length, the answer's length), the settings,
-// the tree, the answer. The answer: a byte 0 and the text, or the refusal's number.
+// Replays stored trees, with texts that the Rust wrote, against gpkg::to_sql. A case: the settings, the tree, the buffer's length in four bytes,
+// the answer, which is a byte 0 and the text, or the refusal's number.
 ghost use mathlib.Core.Path.{_≡_};
 ghost use Prim.Native.Nat.{_<_};
 ghost use lib.ListN.{length};
 use gpkg::Lowered;
-use libc::STDOUT_FILENO;
+use input::Part;
+use replay::Turn;
+use replay::say;
 
 // A byte that no text has: the buffer is full of it before the call.
 const BLANK: u8 = 7;
@@ -16,12 +17,6 @@ const OTHER_TEXT: u8 = 100;
 const BYTE_CHANGED: u8 = 101;
 
 const NO_ROOM: u8 = 102;
-
-enum Turn {
-    End,
-    Broken,
-    Case { want: u8, found: u8 },
-}
 
 fn wide(x: u8) -> usize
     ensures { λ r. ⌜ (r ≡ x) × (r < 256) ⌝ }
@@ -102,124 +97,106 @@ fn answer(settings: &[u8], tree: &[u8], text: &[u8], room: usize) -> u8 {
     lowered(settings, tree, text, &mut out, room)
 }
 
-// The case whose settings are input[..middle], whose tree is input[middle..end] and whose answer is stored[..size].
-fn turn_of<'a>(
-    input: &'a [u8],
-    middle: usize,
-    end: usize,
-    room: usize,
-    stored: &'a [u8],
-    size: usize,
-) -> Turn {
-    if end < middle {
-        return Turn::Broken;
-    }
-    if input.len() < end {
-        return Turn::Broken;
-    }
+// A number of four bytes, little-endian.
+fn number_in(room: &[u8; 4]) -> usize {
+    wide(room[0]) + wide(room[1]) * 256 + (wide(room[2]) + wide(room[3]) * 256) * 65536
+}
+
+// The case whose answer is stored[..size].
+fn judged(settings: &[u8], tree: &[u8], room: usize, stored: &[u8], size: usize) -> Turn {
     if stored.len() < size {
-        return Turn::Broken;
+        return replay::broken();
     }
     if size == 0 {
-        return Turn::Broken;
+        return replay::broken();
     }
-    let found = answer(
-        &input[..middle],
-        &input[middle..end],
-        &stored[1..size],
-        room,
-    );
     Turn::Case {
         want: stored[0],
-        found,
+        found: answer(settings, tree, &stored[1..size], room),
     }
 }
 
-// Fills the first n bytes; false if there is no room or the file ends.
-fn fill(file: i32, buffer: &mut [u8], n: usize) -> bool {
-    if buffer.len() < n {
-        return false;
+// The case whose settings are settings[..n] and whose tree is tree[..m].
+fn end_of_case(
+    file: i32,
+    settings: &[u8],
+    n: usize,
+    tree: &[u8],
+    m: usize,
+    stored: &mut [u8],
+) -> Turn {
+    let mut head = [0u8; 4];
+    let mut room = [0u8; 4];
+    let read = input::read_part(file, &mut head, &mut room);
+    let Part::Whole(four) = input::part_of(&head, read, 4) else {
+        return replay::broken();
+    };
+    if four < 4 {
+        return replay::broken();
     }
-    let got = io::read_full(file, &mut buffer[..n]);
-    got == n
+    let read = input::read_part(file, &mut head, stored);
+    let Part::Whole(size) = input::part_of(&head, read, stored.len()) else {
+        return replay::broken();
+    };
+    judged(
+        input::first(settings, n),
+        input::first(tree, m),
+        number_in(&room),
+        stored,
+        size,
+    )
 }
 
-// The case that comes next, its bytes kept in the two buffers.
-fn next_case(file: i32, input: &mut [u8], stored: &mut [u8]) -> Turn {
-    let mut head = [0u8; 16];
-    let had = io::read_full(file, &mut head);
-    if had == 0 {
-        return Turn::End;
-    }
-    let middle = record::dword_at(&head, 0);
-    let end = middle + record::dword_at(&head, 4);
-    let room = record::dword_at(&head, 8);
-    let size = record::dword_at(&head, 12);
-    if !fill(file, input, end) {
-        return Turn::Broken;
-    }
-    if !fill(file, stored, size) {
-        return Turn::Broken;
-    }
-    turn_of(input, middle, end, room, stored, size)
+// The case whose settings are settings[..n].
+fn rest_of_case(file: i32, settings: &[u8], n: usize, tree: &mut [u8], stored: &mut [u8]) -> Turn {
+    let mut head = [0u8; 4];
+    let read = input::read_part(file, &mut head, tree);
+    let Part::Whole(m) = input::part_of(&head, read, tree.len()) else {
+        return replay::broken();
+    };
+    end_of_case(file, settings, n, tree, m, stored)
 }
 
-fn say(text: &[u8], n: u64) {
-    io::write_all(STDOUT_FILENO, text);
-    io::print_decimal(STDOUT_FILENO, n);
-}
-
-fn wrong(place: u64, want: u8, found: u8) {
-    say(b"case ", place);
-    say(b": stored ", want as u64);
-    say(b", found ", found as u64);
-    io::write_all(STDOUT_FILENO, b"\n");
-}
-
-fn broken() {
-    io::write_all(STDOUT_FILENO, b"the file of cases is broken\n");
+// The case that comes next, its bytes kept in the three buffers.
+fn next_case(file: i32, settings: &mut [u8], tree: &mut [u8], stored: &mut [u8]) -> Turn {
+    let mut head = [0u8; 4];
+    let read = input::read_part(file, &mut head, settings);
+    match input::part_of(&head, read, settings.len()) {
+        Part::End => Turn::End,
+        Part::Short => replay::broken(),
+        Part::Whole(n) => rest_of_case(file, settings, n, tree, stored),
+    }
 }
 
 // How many cases there are; those that are as stored are counted at the answer's number.
-fn replay(file: i32, input: &mut [u8], stored: &mut [u8], counts: &mut [u64; 16]) -> u64 {
+fn replay_all(
+    file: i32,
+    settings: &mut [u8],
+    tree: &mut [u8],
+    stored: &mut [u8],
+    counts: &mut [u64; 16],
+) -> u64 {
     let mut done: u64 = 0;
-    while done < 100000 {
-        match next_case(file, input, stored) {
-            Turn::End => {
-                return done;
-            }
-            Turn::Broken => {
-                broken();
-                return done;
-            }
-            Turn::Case { want, found } => {
-                if want != found {
-                    wrong(done, want, found);
-                }
-                if want == found {
-                    if found < 16 {
-                        let i = wide(found);
-                        counts[i] = std::num::wrapping_add_u64(counts[i], 1);
-                    }
-                }
-            }
-        }
+    while done < replay::MOST {
+        let Turn::Case { want, found } = next_case(file, settings, tree, stored) else {
+            return done;
+        };
+        replay::count(counts, done, want, found);
         done += 1;
     }
     done
 }
 
 fn main() {
-    let path = b"cases";
-    let file = os::open_read(path);
+    let file = replay::open();
     if file < 0 {
-        os::fail(path);
         return;
     }
-    let mut input = [0u8; 65536];
-    let mut stored = [0u8; 65536];
+    let mut settings = io::large_buffer();
+    let mut tree = io::large_buffer();
+    let mut stored = io::large_buffer();
     let mut counts = [0u64; 16];
-    let done = replay(file, &mut input, &mut stored, &mut counts);
+    let done = replay_all(file, &mut settings, &mut tree, &mut stored, &mut counts);
     libc::close(file);
     say(b"cases ", done);
     say(b", as stored: texts ", counts[0]);
@@ -229,5 +206,5 @@ fn main() {
     say(b", 7 ", counts[7]);
     say(b", 8 ", counts[8]);
     say(b", 9 ", counts[9]);
-    io::write_all(STDOUT_FILENO, b"\n");
+    replay::end_line();
 }

@@ -1,9 +1,13 @@
-// Replays leaves.bin: records of the leaf kinds, each with the text that the Rust itself wrote (tools/literals/make.py).
+// Replays records of the leaf kinds, each with the text that the Rust itself wrote. A case: the record, the text.
 // A case is right if the crate `literal` writes that text into a buffer that just holds it, changes no byte beside it,
 // and changes nothing where the buffer is one byte short.
 ghost use Prim.Native.Nat.{_+_, _≤_, _<_, _^_};
 ghost use lib.ListN.{length};
-use libc::STDOUT_FILENO;
+use input::Part;
+use replay::Turn;
+
+// What is counted of a case that is right.
+const RIGHT: u8 = 1;
 
 // What every byte of a buffer is before a text is written.
 const BLANK: u8 = 238;
@@ -151,10 +155,8 @@ fn counted(kind: usize, body: &[u8], text: &[u8]) -> bool {
     }
 }
 
-// 1 for a leaf that is right, else 0 and a line that says which.
-fn score(record: &[u8], text: &[u8], number: usize) -> usize
-    ensures { λ r. ⌜ r ≤ 1 ⌝ }
-{
+// RIGHT for a leaf that is written as it should be, else 0.
+fn score(record: &[u8], text: &[u8]) -> u8 {
     let kind = word_at(record, 4);
     let body = from(record, 6);
     let mut room = [BLANK; 1024];
@@ -162,68 +164,61 @@ fn score(record: &[u8], text: &[u8], number: usize) -> usize
     if fits(kind, body, text, &mut room) {
         if falls_short(kind, body, text, &mut short) {
             if counted(kind, body, text) {
-                return 1;
+                return RIGHT;
             }
         }
     }
-    io::write_all(STDOUT_FILENO, b"wrong: case ");
-    io::print_decimal(STDOUT_FILENO, number as u64);
-    io::write_all(STDOUT_FILENO, b", the Rust writes ");
-    io::write_all(STDOUT_FILENO, text);
-    io::write_all(STDOUT_FILENO, b"\n");
     0
 }
 
-struct Tally {
-    cases: usize,
-    right: usize,
+// The case whose record is record[..n].
+fn rest_of_case(file: i32, record: &[u8], n: usize, text: &mut [u8]) -> Turn {
+    let mut head = [0u8; 4];
+    let read = input::read_part(file, &mut head, text);
+    let Part::Whole(m) = input::part_of(&head, read, text.len()) else {
+        return replay::broken();
+    };
+    Turn::Case {
+        want: RIGHT,
+        found: score(input::first(record, n), input::first(text, m)),
+    }
 }
 
-// A case is a record, the length of its text in two bytes, and the text.
-fn replay(list: &[u8]) -> Tally {
-    let mut cases: usize = 0;
-    let mut right: usize = 0;
-    let mut at = 0;
-    while at < list.len() {
-        let rest = &list[at..];
-        let record = dword_at(rest, 0) + 4;
-        if rest.len() < record {
-            return Tally {
-                cases: cases + 1,
-                right: right,
-            };
-        }
-        let text = record + 2;
-        let end = text + word_at(rest, record);
-        if rest.len() < end {
-            return Tally {
-                cases: cases + 1,
-                right: right,
-            };
-        }
-        right += score(&rest[0..record], &rest[text..end], cases);
-        cases += 1;
-        at += end;
+// The case that comes next, its record and text kept in the two buffers.
+fn next_case(file: i32, record: &mut [u8], text: &mut [u8]) -> Turn {
+    let mut head = [0u8; 4];
+    let read = input::read_part(file, &mut head, record);
+    match input::part_of(&head, read, record.len()) {
+        Part::End => Turn::End,
+        Part::Short => replay::broken(),
+        Part::Whole(n) => rest_of_case(file, record, n, text),
     }
-    Tally {
-        cases: cases,
-        right: right,
+}
+
+// How many cases there are; those that are right are counted at RIGHT.
+fn replay_all(file: i32, record: &mut [u8], text: &mut [u8], counts: &mut [u64; 16]) -> u64 {
+    let mut done: u64 = 0;
+    while done < replay::MOST {
+        let Turn::Case { want, found } = next_case(file, record, text) else {
+            return done;
+        };
+        replay::count(counts, done, want, found);
+        done += 1;
     }
+    done
 }
 
 fn main() {
-    let path = b"leaves.bin";
-    let file = os::open_read(path);
+    let file = replay::open();
     if file < 0 {
-        os::fail(path);
         return;
     }
-    let mut buffer = io::large_buffer();
-    let n = io::read_full(file, &mut buffer);
+    let mut record = io::buffer();
+    let mut text = io::buffer();
+    let mut counts = [0u64; 16];
+    let done = replay_all(file, &mut record, &mut text, &mut counts);
     libc::close(file);
-    let tally = replay(&buffer[..n]);
-    io::print_decimal(STDOUT_FILENO, tally.right as u64);
-    io::write_all(STDOUT_FILENO, b" leaves right of ");
-    io::print_decimal(STDOUT_FILENO, tally.cases as u64);
-    io::write_all(STDOUT_FILENO, b"\n");
+    replay::say(b"", counts[1]);
+    replay::say(b" leaves right of ", done);
+    replay::end_line();
 }

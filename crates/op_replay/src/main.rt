@@ -1,13 +1,16 @@
-// Replays the list that the Rust itself printed of its operators (`stdin`): number, name, spelling, class bits.
+// Replays the list that the Rust itself printed of its operators. A case is a line of it: number, name, spelling, class bits.
 // A line is right if the crate `op` says the same of that number. The name is for the reader alone.
 ghost use Prim.Native.Nat.{_≤_};
 ghost use lib.ListN.{length};
+use input::Part;
 use op::Named;
 use op::Op;
+use replay::Turn;
 
 const TAB: u8 = 9;
 
-const LINE_END: u8 = 10;
+// What is counted of a line that is right.
+const RIGHT: u8 = 1;
 
 // Where b first stands, or the length.
 fn find(s: &[u8], b: u8) -> usize
@@ -130,46 +133,53 @@ fn number_right(line: &[u8], number: usize) -> bool {
     false
 }
 
-// 1 for a line that is right, else 0.
-fn score(line: &[u8], number: usize) -> usize
-    ensures { λ r. ⌜ r ≤ 1 ⌝ }
-{
+// RIGHT for a line that is right, else 0.
+fn score(line: &[u8], number: usize) -> u8 {
     if number_right(line, number) {
         if line_right(line, number) {
-            return 1;
+            return RIGHT;
         }
     }
     0
 }
 
-struct Tally {
-    lines: u64,
-    right: u64,
+// The case that comes next, its line kept in the buffer.
+fn next_case(file: i32, line: &mut [u8], number: usize) -> Turn {
+    let mut head = [0u8; 4];
+    let read = input::read_part(file, &mut head, line);
+    match input::part_of(&head, read, line.len()) {
+        Part::End => Turn::End,
+        Part::Short => replay::broken(),
+        Part::Whole(n) => Turn::Case {
+            want: RIGHT,
+            found: score(input::first(line, n), number),
+        },
+    }
 }
 
-fn replay(list: &[u8]) -> Tally {
-    let mut lines: usize = 0;
-    let mut right: usize = 0;
-    let mut at = 0;
-    while at < list.len() {
-        let rest = &list[at..];
-        let line = upto(rest, LINE_END);
-        right += score(line, lines);
-        lines += 1;
-        at += find(rest, LINE_END) + 1;
+// How many lines there are; those that are right are counted at RIGHT.
+fn replay_all(file: i32, line: &mut [u8], counts: &mut [u64; 16]) -> u64 {
+    let mut done: u64 = 0;
+    while done < replay::MOST {
+        let Turn::Case { want, found } = next_case(file, line, done as usize) else {
+            return done;
+        };
+        replay::count(counts, done, want, found);
+        done += 1;
     }
-    Tally {
-        lines: lines as u64,
-        right: right as u64,
-    }
+    done
 }
 
 fn main() {
-    let mut buffer = io::buffer();
-    let n = io::read_full(libc::STDIN_FILENO, &mut buffer);
-    let tally = replay(&buffer[..n]);
-    io::print_decimal(libc::STDOUT_FILENO, tally.right);
-    io::write_all(libc::STDOUT_FILENO, b" lines right of ");
-    io::print_decimal(libc::STDOUT_FILENO, tally.lines);
-    io::write_all(libc::STDOUT_FILENO, b"\n");
+    let file = replay::open();
+    if file < 0 {
+        return;
+    }
+    let mut line = io::buffer();
+    let mut counts = [0u64; 16];
+    let done = replay_all(file, &mut line, &mut counts);
+    libc::close(file);
+    replay::say(b"", counts[1]);
+    replay::say(b" lines right of ", done);
+    replay::end_line();
 }

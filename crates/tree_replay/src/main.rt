@@ -1,159 +1,94 @@
-// Replays the stored cases of data/cases (made by tools/trees/make.py): settings, a tree and the answer that document 01 gives.
-// Each case: the answer, one byte (0 for accepted, else the refusal's number); a byte that is 1 for the usual settings; the length of other
-// settings in two bytes; the length of the tree in four; the settings; the tree.
-ghost use Prim.Native.Nat.{_+_, _≤_};
-ghost use lib.ListN.{length};
-use libc::STDOUT_FILENO;
+// Replays the stored trees and compares the checker's answers with those that document 01 gives. A case: the settings, the tree, the answer,
+// which is a byte: 0 for accepted, else the refusal's number.
+use input::Part;
+use replay::Turn;
+use replay::say;
 use tree::Checked;
 
-// More cases than the file has.
-const MOST: usize = 1000000;
-
-// What a case shows.
-enum Shown {
-    Cut,
-    Case { expected: usize, found: usize },
-}
-
-fn number_of(c: Checked) -> usize {
+fn number_of(c: Checked) -> u8 {
     match c {
         Checked::Valid => 0,
-        Checked::Refused(r) => refusal::number(r) as usize,
+        Checked::Refused(r) => refusal::number(r),
     }
 }
 
-// Precision 7, collations NC, NA, NCA.
-fn usual(tree: &[u8]) -> usize {
-    let settings = [
-        13u8,
-        0,
-        0,
-        0,
-        100,
-        0,
-        7,
-        2,
-        78,
-        67,
-        2,
-        78,
-        65,
-        3,
-        78,
-        67,
-        65,
-    ];
-    number_of(tree::check(&settings, tree))
-}
-
-fn show(case: &[u8]) -> Shown {
-    let middle = 8 + record::word_at(case, 2);
-    if case.len() < middle {
-        return Shown::Cut;
+// The case whose settings are settings[..n].
+fn rest_of_case(file: i32, settings: &[u8], n: usize, tree: &mut [u8]) -> Turn {
+    let mut head = [0u8; 4];
+    let read = input::read_part(file, &mut head, tree);
+    let Part::Whole(m) = input::part_of(&head, read, tree.len()) else {
+        return replay::broken();
+    };
+    let mut want = [0u8; 1];
+    let read = input::read_part(file, &mut head, &mut want);
+    let Part::Whole(size) = input::part_of(&head, read, 1) else {
+        return replay::broken();
+    };
+    if size == 0 {
+        return replay::broken();
     }
-    let expected = record::byte_at(case, 0);
-    if record::byte_at(case, 1) == 1 {
-        let found = usual(&case[middle..]);
-        return Shown::Case { expected, found };
+    Turn::Case {
+        want: want[0],
+        found: number_of(tree::check(input::first(settings, n), input::first(tree, m))),
     }
-    let found = number_of(tree::check(&case[8..middle], &case[middle..]));
-    Shown::Case { expected, found }
 }
 
-fn text(s: &[u8]) {
-    io::write_all(STDOUT_FILENO, s);
-}
-
-fn decimal(n: usize) {
-    io::print_decimal(STDOUT_FILENO, n as u64);
-}
-
-// 1 for an answer as expected; else 0, and a line that says so.
-fn judged(case: usize, expected: usize, found: usize) -> usize
-    ensures { λ r. ⌜ r ≤ 1 ⌝ }
-{
-    if expected == found {
-        return 1;
+// The case that comes next, its settings and tree kept in the two buffers.
+fn next_case(file: i32, settings: &mut [u8], tree: &mut [u8]) -> Turn {
+    let mut head = [0u8; 4];
+    let read = input::read_part(file, &mut head, settings);
+    match input::part_of(&head, read, settings.len()) {
+        Part::End => Turn::End,
+        Part::Short => replay::broken(),
+        Part::Whole(n) => rest_of_case(file, settings, n, tree),
     }
-    text(b"case ");
-    decimal(case);
-    text(b": expected ");
-    decimal(expected);
-    text(b", found ");
-    decimal(found);
-    text(b"\n");
-    0
 }
 
-fn spaced(n: u64) {
-    text(b" ");
-    io::print_decimal(STDOUT_FILENO, n);
-}
-
-fn summary(cases: usize, right: usize, tally: [u64; 8]) {
-    decimal(cases);
-    text(b" cases, ");
-    decimal(right);
-    text(b" as expected; accepted ");
-    io::print_decimal(STDOUT_FILENO, tally[0]);
-    text(b", refusals 1 to 7:");
-    spaced(tally[1]);
-    spaced(tally[2]);
-    spaced(tally[3]);
-    spaced(tally[4]);
-    spaced(tally[5]);
-    spaced(tally[6]);
-    spaced(tally[7]);
-    text(b"\n");
-}
-
-// The next case of the file, at the front of buf: its length, or 0 where there is none.
-fn read_case(file: i32, buf: &mut [u8]) -> usize
-    ensures { λ r. ⌜ r ≤ length (now (buf .exit)) ⌝ }
-{
-    if buf.len() < 8 {
-        return 0;
-    }
-    if io::read_full(file, &mut buf[..8]) < 8 {
-        return 0;
-    }
-    let size = record::word_at(buf, 2) + record::dword_at(buf, 4);
-    let end = 8 + size;
-    if buf.len() < end {
-        return 0;
-    }
-    if io::read_full(file, &mut buf[8..end]) < size {
-        return 0;
-    }
-    end
-}
-
-fn replay(file: i32) {
-    let mut space = io::large_buffer();
-    let mut count = 0;
-    let mut right = 0;
-    let mut tally = [0u64; 8];
-    while count < MOST {
-        let n = read_case(file, &mut space);
-        let Shown::Case { expected, found } = show(&space[..n]) else {
-            break;
+// How many cases there are, and how many of each answer are as stored, at the answer's number.
+fn replay_all(file: i32, settings: &mut [u8], tree: &mut [u8], counts: &mut [u64; 16]) -> u64 {
+    let mut done: u64 = 0;
+    while done < replay::MOST {
+        let Turn::Case { want, found } = next_case(file, settings, tree) else {
+            return done;
         };
-        if found < 8 {
-            tally[found] = std::num::wrapping_add_u64(tally[found], 1);
-        }
-        right += judged(count, expected, found);
-        count += 1;
+        replay::count(counts, done, want, found);
+        done += 1;
     }
-    summary(count, right, tally);
+    done
+}
+
+fn add(a: u64, b: u64) -> u64 {
+    std::num::wrapping_add_u64(a, b)
+}
+
+// The cases of all answers from 0 to 7.
+fn sum(counts: [u64; 16]) -> u64 {
+    let low = add(add(counts[0], counts[1]), add(counts[2], counts[3]));
+    add(
+        low,
+        add(add(counts[4], counts[5]), add(counts[6], counts[7])),
+    )
 }
 
 fn main() {
-    let path = b"cases";
-    let file = os::open_read(path);
+    let file = replay::open();
     if file < 0 {
-        os::fail(path);
         return;
     }
-    replay(file);
+    let mut settings = io::large_buffer();
+    let mut tree = io::large_buffer();
+    let mut counts = [0u64; 16];
+    let done = replay_all(file, &mut settings, &mut tree, &mut counts);
     libc::close(file);
+    say(b"", done);
+    say(b" cases, ", sum(counts));
+    say(b" as expected; accepted ", counts[0]);
+    say(b", refusals 1 to 7: ", counts[1]);
+    say(b" ", counts[2]);
+    say(b" ", counts[3]);
+    say(b" ", counts[4]);
+    say(b" ", counts[5]);
+    say(b" ", counts[6]);
+    say(b" ", counts[7]);
+    replay::end_line();
 }
