@@ -57,13 +57,14 @@ fn from(s: &[u8], i: usize) -> &[u8] {
     if i <= s.len() { &s[i..] } else { &s[0..0] }
 }
 
+// A Str is its text in quotes, and then the collation that its flags ask for.
 fn write_str(body: &[u8], out: &mut [u8]) -> usize {
-    let text = from(body, 1);
+    let end = literal::put_quoted(from(body, 1), out, START);
     match byte_at(body, 0) {
-        0 => literal::put_quoted(text, out, START),
-        1 => literal::put_collated(text, b"NC", out, START),
-        2 => literal::put_collated(text, b"NA", out, START),
-        _ => literal::put_collated(text, b"NCA", out, START),
+        0 => end,
+        1 => literal::put_collate(b"NC", out, end),
+        2 => literal::put_collate(b"NA", out, end),
+        _ => literal::put_collate(b"NCA", out, end),
     }
 }
 
@@ -92,7 +93,7 @@ fn write_timestamp(body: &[u8], out: &mut [u8]) -> usize {
 
 fn write_leaf(kind: usize, body: &[u8], out: &mut [u8]) -> usize {
     match kind {
-        0 => literal::put(b"NULL", out, START),
+        0 => emit::put(b"NULL", out, START),
         1 => literal::put_unbounded(out, START),
         2 => literal::put_bool(byte_at(body, 0) != 0, out, START),
         3 => literal::put_num(signed_at(body, 0), byte_at(body, 8) as u8, out, START),
@@ -135,24 +136,21 @@ fn fits(kind: usize, body: &[u8], text: &[u8], out: &mut [u8]) -> bool {
     false
 }
 
-// Into a part of the buffer that is one byte short.
+// Into a part of the buffer that is one byte short: the text is counted, and nothing is written (of a Str with a collation its quoted text may be).
 fn falls_short(kind: usize, body: &[u8], text: &[u8], out: &mut [u8]) -> bool {
     let short = 2 + text.len();
     if out.len() < short {
         return false;
     }
-    if write_leaf(kind, body, &mut out[0..short]) != START {
+    if write_leaf(kind, body, &mut out[0..short]) != START + text.len() {
         return false;
     }
-    blank(out)
-}
-
-// The length that is known before a number is written.
-fn counted(kind: usize, body: &[u8], text: &[u8]) -> bool {
-    match kind {
-        3 => literal::num_len(signed_at(body, 0), byte_at(body, 8) as u8) == text.len(),
-        _ => true,
+    if kind == 4 {
+        if byte_at(body, 0) != 0 {
+            return true;
+        }
     }
+    blank(out)
 }
 
 // RIGHT for a leaf that is written as it should be, else 0.
@@ -163,9 +161,7 @@ fn score(record: &[u8], text: &[u8]) -> u8 {
     let mut short = [BLANK; 1024];
     if fits(kind, body, text, &mut room) {
         if falls_short(kind, body, text, &mut short) {
-            if counted(kind, body, text) {
-                return RIGHT;
-            }
+            return RIGHT;
         }
     }
     0

@@ -70,64 +70,171 @@ pub enum Named {
     NoOp,
 }
 
+// The numbers of the operators, their places in the enum.
+pub const PLUS: usize = 0;
+
+pub const MINUS: usize = 1;
+
+pub const MULT: usize = 2;
+
+pub const DIV: usize = 3;
+
+pub const INT_DIV: usize = 4;
+
+pub const MOD: usize = 5;
+
+pub const EXP: usize = 6;
+
+pub const NEG: usize = 7;
+
+pub const EQ: usize = 8;
+
+pub const NEQ: usize = 9;
+
+pub const LT: usize = 10;
+
+pub const GT: usize = 11;
+
+pub const LTE: usize = 12;
+
+pub const GTE: usize = 13;
+
+pub const AND: usize = 14;
+
+pub const OR: usize = 15;
+
+pub const CASE_I: usize = 16;
+
+pub const ACCENT_I: usize = 17;
+
+pub const S_INTERSECTS: usize = 18;
+
+pub const S_EQUALS: usize = 19;
+
+pub const S_DISJOINT: usize = 20;
+
+pub const S_TOUCHES: usize = 21;
+
+pub const S_WITHIN: usize = 22;
+
+pub const S_OVERLAPS: usize = 23;
+
+pub const S_CROSSES: usize = 24;
+
+pub const S_CONTAINS: usize = 25;
+
+pub const T_AFTER: usize = 26;
+
+pub const T_BEFORE: usize = 27;
+
+pub const T_CONTAINS: usize = 28;
+
+pub const T_DISJOINT: usize = 29;
+
+pub const T_DURING: usize = 30;
+
+pub const T_EQUALS: usize = 31;
+
+pub const T_FINISHED_BY: usize = 32;
+
+pub const T_FINISHES: usize = 33;
+
+pub const T_INTERSECTS: usize = 34;
+
+pub const T_MEETS: usize = 35;
+
+pub const T_MET_BY: usize = 36;
+
+pub const T_OVERLAPPED_BY: usize = 37;
+
+pub const T_OVERLAPS: usize = 38;
+
+pub const T_STARTED_BY: usize = 39;
+
+pub const T_STARTS: usize = 40;
+
+pub const A_EQUALS: usize = 41;
+
+pub const A_CONTAINS: usize = 42;
+
+pub const A_CONTAINED_BY: usize = 43;
+
+pub const A_OVERLAPS: usize = 44;
+
+pub const IS_LIKE: usize = 45;
+
+pub const IS_NOT_LIKE: usize = 46;
+
+pub const IS_BETWEEN: usize = 47;
+
+pub const IS_NOT_BETWEEN: usize = 48;
+
+pub const IS_IN_LIST: usize = 49;
+
+pub const IS_NOT_IN_LIST: usize = 50;
+
+pub const IS_NULL: usize = 51;
+
+pub const IS_NOT_NULL: usize = 52;
+
 // The operator's place in the enum, 0 (Plus) to 52 (IsNotNull).
 pub fn op_number(op: Op) -> usize
     ensures { λ r. ⌜ r ≡ opNumber op ⌝ }
 {
     match op {
-        Op::Plus => 0,
-        Op::Minus => 1,
-        Op::Mult => 2,
-        Op::Div => 3,
-        Op::IntDiv => 4,
-        Op::Mod => 5,
-        Op::Exp => 6,
-        Op::Neg => 7,
-        Op::Eq => 8,
-        Op::Neq => 9,
-        Op::Lt => 10,
-        Op::Gt => 11,
-        Op::Lte => 12,
-        Op::Gte => 13,
-        Op::And => 14,
-        Op::Or => 15,
-        Op::CaseI => 16,
-        Op::AccentI => 17,
-        Op::SIntersects => 18,
-        Op::SEquals => 19,
-        Op::SDisjoint => 20,
-        Op::STouches => 21,
-        Op::SWithin => 22,
-        Op::SOverlaps => 23,
-        Op::SCrosses => 24,
-        Op::SContains => 25,
-        Op::TAfter => 26,
-        Op::TBefore => 27,
-        Op::TContains => 28,
-        Op::TDisjoint => 29,
-        Op::TDuring => 30,
-        Op::TEquals => 31,
-        Op::TFinishedBy => 32,
-        Op::TFinishes => 33,
-        Op::TIntersects => 34,
-        Op::TMeets => 35,
-        Op::TMetBy => 36,
-        Op::TOverlappedBy => 37,
-        Op::TOverlaps => 38,
-        Op::TStartedBy => 39,
-        Op::TStarts => 40,
-        Op::AEquals => 41,
-        Op::AContains => 42,
-        Op::AContainedBy => 43,
-        Op::AOverlaps => 44,
-        Op::IsLike => 45,
-        Op::IsNotLike => 46,
-        Op::IsBetween => 47,
-        Op::IsNotBetween => 48,
-        Op::IsInList => 49,
-        Op::IsNotInList => 50,
-        Op::IsNull => 51,
-        Op::IsNotNull => 52,
+        Op::Plus => PLUS,
+        Op::Minus => MINUS,
+        Op::Mult => MULT,
+        Op::Div => DIV,
+        Op::IntDiv => INT_DIV,
+        Op::Mod => MOD,
+        Op::Exp => EXP,
+        Op::Neg => NEG,
+        Op::Eq => EQ,
+        Op::Neq => NEQ,
+        Op::Lt => LT,
+        Op::Gt => GT,
+        Op::Lte => LTE,
+        Op::Gte => GTE,
+        Op::And => AND,
+        Op::Or => OR,
+        Op::CaseI => CASE_I,
+        Op::AccentI => ACCENT_I,
+        Op::SIntersects => S_INTERSECTS,
+        Op::SEquals => S_EQUALS,
+        Op::SDisjoint => S_DISJOINT,
+        Op::STouches => S_TOUCHES,
+        Op::SWithin => S_WITHIN,
+        Op::SOverlaps => S_OVERLAPS,
+        Op::SCrosses => S_CROSSES,
+        Op::SContains => S_CONTAINS,
+        Op::TAfter => T_AFTER,
+        Op::TBefore => T_BEFORE,
+        Op::TContains => T_CONTAINS,
+        Op::TDisjoint => T_DISJOINT,
+        Op::TDuring => T_DURING,
+        Op::TEquals => T_EQUALS,
+        Op::TFinishedBy => T_FINISHED_BY,
+        Op::TFinishes => T_FINISHES,
+        Op::TIntersects => T_INTERSECTS,
+        Op::TMeets => T_MEETS,
+        Op::TMetBy => T_MET_BY,
+        Op::TOverlappedBy => T_OVERLAPPED_BY,
+        Op::TOverlaps => T_OVERLAPS,
+        Op::TStartedBy => T_STARTED_BY,
+        Op::TStarts => T_STARTS,
+        Op::AEquals => A_EQUALS,
+        Op::AContains => A_CONTAINS,
+        Op::AContainedBy => A_CONTAINED_BY,
+        Op::AOverlaps => A_OVERLAPS,
+        Op::IsLike => IS_LIKE,
+        Op::IsNotLike => IS_NOT_LIKE,
+        Op::IsBetween => IS_BETWEEN,
+        Op::IsNotBetween => IS_NOT_BETWEEN,
+        Op::IsInList => IS_IN_LIST,
+        Op::IsNotInList => IS_NOT_IN_LIST,
+        Op::IsNull => IS_NULL,
+        Op::IsNotNull => IS_NOT_NULL,
     }
 }
 
@@ -136,59 +243,59 @@ pub fn op_of(n: usize) -> Named
     ensures { λ r. ⌜ r ≡ opOf n ⌝ }
 {
     match n {
-        0 => Named::Is(Op::Plus),
-        1 => Named::Is(Op::Minus),
-        2 => Named::Is(Op::Mult),
-        3 => Named::Is(Op::Div),
-        4 => Named::Is(Op::IntDiv),
-        5 => Named::Is(Op::Mod),
-        6 => Named::Is(Op::Exp),
-        7 => Named::Is(Op::Neg),
-        8 => Named::Is(Op::Eq),
-        9 => Named::Is(Op::Neq),
-        10 => Named::Is(Op::Lt),
-        11 => Named::Is(Op::Gt),
-        12 => Named::Is(Op::Lte),
-        13 => Named::Is(Op::Gte),
-        14 => Named::Is(Op::And),
-        15 => Named::Is(Op::Or),
-        16 => Named::Is(Op::CaseI),
-        17 => Named::Is(Op::AccentI),
-        18 => Named::Is(Op::SIntersects),
-        19 => Named::Is(Op::SEquals),
-        20 => Named::Is(Op::SDisjoint),
-        21 => Named::Is(Op::STouches),
-        22 => Named::Is(Op::SWithin),
-        23 => Named::Is(Op::SOverlaps),
-        24 => Named::Is(Op::SCrosses),
-        25 => Named::Is(Op::SContains),
-        26 => Named::Is(Op::TAfter),
-        27 => Named::Is(Op::TBefore),
-        28 => Named::Is(Op::TContains),
-        29 => Named::Is(Op::TDisjoint),
-        30 => Named::Is(Op::TDuring),
-        31 => Named::Is(Op::TEquals),
-        32 => Named::Is(Op::TFinishedBy),
-        33 => Named::Is(Op::TFinishes),
-        34 => Named::Is(Op::TIntersects),
-        35 => Named::Is(Op::TMeets),
-        36 => Named::Is(Op::TMetBy),
-        37 => Named::Is(Op::TOverlappedBy),
-        38 => Named::Is(Op::TOverlaps),
-        39 => Named::Is(Op::TStartedBy),
-        40 => Named::Is(Op::TStarts),
-        41 => Named::Is(Op::AEquals),
-        42 => Named::Is(Op::AContains),
-        43 => Named::Is(Op::AContainedBy),
-        44 => Named::Is(Op::AOverlaps),
-        45 => Named::Is(Op::IsLike),
-        46 => Named::Is(Op::IsNotLike),
-        47 => Named::Is(Op::IsBetween),
-        48 => Named::Is(Op::IsNotBetween),
-        49 => Named::Is(Op::IsInList),
-        50 => Named::Is(Op::IsNotInList),
-        51 => Named::Is(Op::IsNull),
-        52 => Named::Is(Op::IsNotNull),
+        PLUS => Named::Is(Op::Plus),
+        MINUS => Named::Is(Op::Minus),
+        MULT => Named::Is(Op::Mult),
+        DIV => Named::Is(Op::Div),
+        INT_DIV => Named::Is(Op::IntDiv),
+        MOD => Named::Is(Op::Mod),
+        EXP => Named::Is(Op::Exp),
+        NEG => Named::Is(Op::Neg),
+        EQ => Named::Is(Op::Eq),
+        NEQ => Named::Is(Op::Neq),
+        LT => Named::Is(Op::Lt),
+        GT => Named::Is(Op::Gt),
+        LTE => Named::Is(Op::Lte),
+        GTE => Named::Is(Op::Gte),
+        AND => Named::Is(Op::And),
+        OR => Named::Is(Op::Or),
+        CASE_I => Named::Is(Op::CaseI),
+        ACCENT_I => Named::Is(Op::AccentI),
+        S_INTERSECTS => Named::Is(Op::SIntersects),
+        S_EQUALS => Named::Is(Op::SEquals),
+        S_DISJOINT => Named::Is(Op::SDisjoint),
+        S_TOUCHES => Named::Is(Op::STouches),
+        S_WITHIN => Named::Is(Op::SWithin),
+        S_OVERLAPS => Named::Is(Op::SOverlaps),
+        S_CROSSES => Named::Is(Op::SCrosses),
+        S_CONTAINS => Named::Is(Op::SContains),
+        T_AFTER => Named::Is(Op::TAfter),
+        T_BEFORE => Named::Is(Op::TBefore),
+        T_CONTAINS => Named::Is(Op::TContains),
+        T_DISJOINT => Named::Is(Op::TDisjoint),
+        T_DURING => Named::Is(Op::TDuring),
+        T_EQUALS => Named::Is(Op::TEquals),
+        T_FINISHED_BY => Named::Is(Op::TFinishedBy),
+        T_FINISHES => Named::Is(Op::TFinishes),
+        T_INTERSECTS => Named::Is(Op::TIntersects),
+        T_MEETS => Named::Is(Op::TMeets),
+        T_MET_BY => Named::Is(Op::TMetBy),
+        T_OVERLAPPED_BY => Named::Is(Op::TOverlappedBy),
+        T_OVERLAPS => Named::Is(Op::TOverlaps),
+        T_STARTED_BY => Named::Is(Op::TStartedBy),
+        T_STARTS => Named::Is(Op::TStarts),
+        A_EQUALS => Named::Is(Op::AEquals),
+        A_CONTAINS => Named::Is(Op::AContains),
+        A_CONTAINED_BY => Named::Is(Op::AContainedBy),
+        A_OVERLAPS => Named::Is(Op::AOverlaps),
+        IS_LIKE => Named::Is(Op::IsLike),
+        IS_NOT_LIKE => Named::Is(Op::IsNotLike),
+        IS_BETWEEN => Named::Is(Op::IsBetween),
+        IS_NOT_BETWEEN => Named::Is(Op::IsNotBetween),
+        IS_IN_LIST => Named::Is(Op::IsInList),
+        IS_NOT_IN_LIST => Named::Is(Op::IsNotInList),
+        IS_NULL => Named::Is(Op::IsNull),
+        IS_NOT_NULL => Named::Is(Op::IsNotNull),
         _ => Named::NoOp,
     }
 }
@@ -203,63 +310,63 @@ fn within(lo: usize, n: usize, hi: usize) -> bool
 pub fn arithmetic(op: Op) -> bool
     ensures { λ r. ⌜ r ≡ isArithmetic op ⌝ }
 {
-    within(0, op_number(op), 6)
+    within(PLUS, op_number(op), EXP)
 }
 
 pub fn array(op: Op) -> bool
     ensures { λ r. ⌜ r ≡ isArray op ⌝ }
 {
-    within(41, op_number(op), 44)
+    within(A_EQUALS, op_number(op), A_OVERLAPS)
 }
 
 pub fn comparison(op: Op) -> bool
     ensures { λ r. ⌜ r ≡ isComparison op ⌝ }
 {
     let n = op_number(op);
-    if within(8, n, 13) {
+    if within(EQ, n, GTE) {
         return true;
     }
-    within(51, n, 52)
+    within(IS_NULL, n, IS_NOT_NULL)
 }
 
 pub fn xtd_comparison(op: Op) -> bool
     ensures { λ r. ⌜ r ≡ isXtdComparison op ⌝ }
 {
-    within(45, op_number(op), 50)
+    within(IS_LIKE, op_number(op), IS_NOT_IN_LIST)
 }
 
 pub fn spatial(op: Op) -> bool
     ensures { λ r. ⌜ r ≡ isSpatial op ⌝ }
 {
-    within(18, op_number(op), 25)
+    within(S_INTERSECTS, op_number(op), S_CONTAINS)
 }
 
 pub fn temporal(op: Op) -> bool
     ensures { λ r. ⌜ r ≡ isTemporal op ⌝ }
 {
-    within(26, op_number(op), 40)
+    within(T_AFTER, op_number(op), T_STARTS)
 }
 
 pub fn instant_or_interval(op: Op) -> bool
     ensures { λ r. ⌜ r ≡ isInstantOrInterval op ⌝ }
 {
     let n = op_number(op);
-    if within(26, n, 27) {
+    if within(T_AFTER, n, T_BEFORE) {
         return true;
     }
-    if n == 29 {
+    if n == T_DISJOINT {
         return true;
     }
-    if n == 31 {
+    if n == T_EQUALS {
         return true;
     }
-    n == 34
+    n == T_INTERSECTS
 }
 
 pub fn nullable(op: Op) -> bool
     ensures { λ r. ⌜ r ≡ isNullable op ⌝ }
 {
-    within(51, op_number(op), 52)
+    within(IS_NULL, op_number(op), IS_NOT_NULL)
 }
 
 // The spellings of the operators up to Or: arithmetic, comparison, logic.
@@ -328,11 +435,11 @@ fn put_rest(op: Op, out: &mut [u8], at: usize) -> usize
     }
 }
 
-// Writes an operator's spelling (`Op::to_sql`) from `at`, if it fits there; answers the place behind it.
+// Writes an operator's spelling (`Op::to_sql`) from `at`, whole or not at all; answers the place after it.
 pub fn to_sql(op: Op, out: &mut [u8], at: usize) -> usize
     ensures { λ r. ⌜ Puts countLimit at (word op) (now (out .entry)) (now (out .exit)) r ⌝ }
 {
-    if op_number(op) <= 15 {
+    if op_number(op) <= OR {
         return put_basic(op, out, at);
     }
     if spatial(op) {

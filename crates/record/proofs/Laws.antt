@@ -16,5 +16,6 @@ word-past s at h = omega (arith, List·getD-eq-default s 0 h, past-end s at 1 h)
 pub dword-past : (s : List ℕ) (at : ℕ) → length s ≤ at + 2 → le32 s at ≡ le16 s at
 dword-past s at h = omega (arith, word-past s (at + 2) h)
 
-pub qword-past : (s : List ℕ) (at : ℕ) → length s ≤ at + 4 → le64 s at ≡ le32 s at
-qword-past s at h = omega (arith, word-past s (at + 4) h, word-past s (at + 4 + 2) (omega arith))
+pub qword-past : (s : List ℕ) (at : ℕ) → length s ≤ at → le64 s at ≡ 0
+qword-past s at h =
+    omega (arith, word-past s at h, word-past s (at + 2) (omega arith), word-past s (at + 4) (omega arith), word-past s (at + 4 + 2) (omega arith))

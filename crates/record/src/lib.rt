@@ -126,23 +126,14 @@ pub fn dword_at(s: &[u8], at: usize) -> usize
     dword_past(s, at)
 }
 
-fn qword_past(s: &[u8], at: usize) -> usize
-    ensures { λ r. ⌜ (r ≡ le64 (now (s .entry)) at) × (r < 18446744073709551616) ⌝ }
-{
-    if s.len() < 4 {
-        return dword_past(s, at);
-    }
-    if s.len() - 4 < at {
-        return dword_past(s, at);
-    }
-    dword_past(s, at) + dword_past(s, at + 4) * 4294967296
-}
-
 pub fn qword_at(s: &[u8], at: usize) -> usize
     ensures { λ r. ⌜ (r ≡ le64 (now (s .entry)) at) × (r < 18446744073709551616) ⌝ }
 {
     if lies(s.len(), at, 8) {
         return qword_in(s, at);
     }
-    qword_past(s, at)
+    if s.len() <= at {
+        return 0;
+    }
+    dword_past(s, at) + dword_past(s, at + 4) * 4294967296
 }

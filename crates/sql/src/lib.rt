@@ -8,6 +8,20 @@ ghost use Rattle.emit.specs.Emit.{countLimit, Puts};
 ghost use Rattle.sql.specs.Ends.{isColumn, columns, startOf, stopOf, unfoldExpressions};
 ghost use Rattle.sql.specs.Template.{held, spelt, wordsOf, templateOf, guardedText, guardedBothText, checkIdText, checkIdsText, eitherText};
 ghost use Rattle.sql.specs.Translators.{tAfter, tBefore, tContains, tDisjoint, tDuring, tEquals, tFinishedBy, tFinishes, tIntersects, tMeets, tMetBy, tOverlappedBy, tOverlaps, tStartedBy, tStarts, translate};
+use op::T_AFTER;
+use op::T_BEFORE;
+use op::T_CONTAINS;
+use op::T_DISJOINT;
+use op::T_DURING;
+use op::T_EQUALS;
+use op::T_FINISHED_BY;
+use op::T_FINISHES;
+use op::T_INTERSECTS;
+use op::T_MEETS;
+use op::T_MET_BY;
+use op::T_OVERLAPPED_BY;
+use op::T_OVERLAPS;
+use op::T_STARTED_BY;
 
 // An end of an operand: the record that holds it lies from the first offset to the second, counted from the start of the operator's own record
 // in the tree, which has at most 32,768 bytes.
@@ -371,20 +385,20 @@ pub fn temporal_sql(op: usize, a: bool, b: bool, e: [End; 4]) -> Template
     ensures { λ r. ⌜ (held r ≡ templateOf (translate op a b (columns e))) × (r .len ≤ 24) ⌝ }
 {
     match op {
-        26 => t_after_sql(a, b, e),
-        27 => t_before_sql(a, b, e),
-        28 => t_contains_sql(a, b, e),
-        29 => t_disjoint_sql(a, b, e),
-        30 => t_during_sql(a, b, e),
-        31 => t_equals_sql(a, b, e),
-        32 => t_finished_by_sql(a, b, e),
-        33 => t_finishes_sql(a, b, e),
-        34 => t_intersects_sql(a, b, e),
-        35 => t_meets_sql(a, b, e),
-        36 => t_met_by_sql(a, b, e),
-        37 => t_overlapped_by_sql(a, b, e),
-        38 => t_overlaps_sql(a, b, e),
-        39 => t_started_by_sql(a, b, e),
+        T_AFTER => t_after_sql(a, b, e),
+        T_BEFORE => t_before_sql(a, b, e),
+        T_CONTAINS => t_contains_sql(a, b, e),
+        T_DISJOINT => t_disjoint_sql(a, b, e),
+        T_DURING => t_during_sql(a, b, e),
+        T_EQUALS => t_equals_sql(a, b, e),
+        T_FINISHED_BY => t_finished_by_sql(a, b, e),
+        T_FINISHES => t_finishes_sql(a, b, e),
+        T_INTERSECTS => t_intersects_sql(a, b, e),
+        T_MEETS => t_meets_sql(a, b, e),
+        T_MET_BY => t_met_by_sql(a, b, e),
+        T_OVERLAPPED_BY => t_overlapped_by_sql(a, b, e),
+        T_OVERLAPS => t_overlaps_sql(a, b, e),
+        T_STARTED_BY => t_started_by_sql(a, b, e),
         _ => t_starts_sql(a, b, e),
     }
 }
