@@ -24,10 +24,10 @@ use Rattle.sql.specs.Template.{wordsOf}
 use Rattle.sql.specs.declared.End as end
 use Rattle.sql.specs.declared.End.the-variants.{Column, Instant, Other, Open, Null}
 use Rattle.gpkg.specs.Text.{text}
-use Rattle.gpkg.specs.declared.Flat as flat
-use Rattle.gpkg.specs.declared.Flat.the-variants.{Words, Opened, Nothing}
-use Rattle.gpkg.specs.declared.Piece as piece
-use Rattle.gpkg.specs.declared.Piece.the-variants as pieces
+use Rattle.gpkg.specs.declared.ends.Flat as flat
+use Rattle.gpkg.specs.declared.ends.Flat.the-variants.{Words, Opened, Nothing}
+use Rattle.gpkg.specs.declared.ends.Piece as piece
+use Rattle.gpkg.specs.declared.ends.Piece.the-variants as pieces
 
 -- Trees whose numbers fit their fields.
 unfoldable mutual

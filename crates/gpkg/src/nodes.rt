@@ -34,6 +34,8 @@ use crate::forms::reduce_precision;
 use crate::leaves::put_leaf;
 use crate::records::NAME;
 use crate::records::OPERAND;
+use crate::records::OPERAND_BODY;
+use crate::records::OPERAND_KIND;
 use crate::records::end_of;
 use crate::records::inside;
 use crate::records::is_kind;
@@ -91,8 +93,8 @@ fn write_monadic(s: &[u8], op: usize, set: &[u8], out: &mut [u8], at: usize) -> 
     let bare = is_literal_or_id(&s[OPERAND..]);
     let twin = is_twin(
         op,
-        record::word_at(s, OPERAND + KIND),
-        record::word_at(s, OPERAND + BODY),
+        record::word_at(s, OPERAND_KIND),
+        record::word_at(s, OPERAND_BODY),
     );
     let from = operand_from(twin, s.len());
     let before = put_before(op, bare, out, at);
@@ -234,7 +236,7 @@ pub(crate) fn to_sql_impl(s: &[u8], set: &[u8], out: &mut [u8], at: usize) -> us
         return emit::ended(at, 0);
     }
     if kind < FUNCTION {
-        if s.len() < OPERAND + BODY {
+        if s.len() < OPERAND_BODY {
             return emit::ended(at, 0);
         }
         return write_operands(s, set, out, at);

@@ -19,11 +19,16 @@ use tree::SPATIAL;
 // Where the first operand of a node starts, past its operator.
 pub(crate) const OPERAND: usize = 8;
 
+// Where that operand's kind and body stand.
+pub(crate) const OPERAND_KIND: usize = OPERAND + KIND;
+
+pub(crate) const OPERAND_BODY: usize = OPERAND + BODY;
+
 // Where a Function's name starts, past its length byte.
 pub(crate) const NAME: usize = 7;
 
-// Where the operand of a node's own operand starts: a record's head and an operator further on.
-pub(crate) const TWIN_OPERAND: usize = 16;
+// Where that operand's own operand starts, if it is a node of one.
+pub(crate) const TWIN_OPERAND: usize = OPERAND + OPERAND;
 
 pub(crate) fn least(a: usize, b: usize) -> usize
     ensures { λ r. ⌜ r ≡ min a b ⌝ }

@@ -8,7 +8,7 @@ use denote.Ref.{now}
 use Rattle.tree.specs.ByteLaws.{bytes-of}
 use Rattle.gpkg.specs.Lowered.{answer, heard, leaves}
 use Rattle.gpkg.specs.declared.Lowered.{Lowered}
-use Rattle.gpkg.proofs.Accept.{taken, refused-says, taken-lowers}
+use Rattle.gpkg.proofs.AcceptLaws.{taken, refused-says, taken-lowers}
 use Rattle.gpkg.proofs.to_sql.Statement.{statement}
 use Rattle.gpkg.proofs.to_sql.Tie as tie
 use Rattle.gpkg.proofs.to_sql.Reads as reads

@@ -1,0 +1,315 @@
+-- A node's text by its parts: around its operand, around its operator, as a call, or its template filled.
+use Prim.Native.Nat.{_≤_, ℕ, zero, suc, _+_, _<_}
+use Rattle.prelude.specs.ChoiceLaws.{between-true}
+use mathlib.Core.Path.{_≡_, refl, ap, sym, _∙_}
+use mathlib.Core.List.{List, [], _∷_, _++_, append-assoc, append-nil}
+use mathlib.Core.Bool.{Bool, true, false}
+use native.Mathlib.Omega.{arith}
+use lib.ListN.{getD}
+use lib.Dec.{eqb}
+use Rattle.prelude.specs.Choice.{pick, both, either, negated, between, some}
+use Rattle.record.specs.Record.{le16, recordOf}
+use Rattle.op.specs.declared.Op.{Op}
+use Rattle.op.specs.declared.Op.the-variants.{Minus, Neg, CaseI, AccentI, STouches, SWithin, SOverlaps, IsLike, IsNotLike}
+use Rattle.op.specs.Op.{opNumber, oneOf, isArray, isSpatial, isTemporal, isNullable}
+use Rattle.op.specs.OpLaws.{agree, number-below}
+use Rattle.tree.specs.Tree.{Tree, Settings, encode, null, unbounded, bool, num, str, date, timestamp, spatial, id, monadic, dyadic, function, array, interval, none, _then_}
+use Rattle.tree.specs.Tests.{first, second, isInterval, isId, isLiteralOrId, isMonadic, isItems, startOf, stopOf, endsOf, columnsOf, byOperator}
+use Rattle.tree.specs.Placed.{isBetween}
+use Rattle.literal.specs.Literal.{collate}
+use Rattle.sql.specs.Translators.{translate}
+use Rattle.sql.specs.Template.{fill, templateOf}
+use Rattle.sql.specs.TemplateLaws.{translate-fills, translate-same}
+use Rattle.gpkg.specs.Text.{bare, reducePrecision, monadicText, reduces, startText, stopText, boundText, dyadicText, text, children, texts}
+use Rattle.op.specs.Spelling.{word}
+use Rattle.gpkg.specs.Plan.{twin, twinOf, underOf, operandOf, itemsOf, nameOf, beforeText, behindText, collationFlags, slot, reducedText, infixText, leftBare, rightBare}
+use Rattle.gpkg.proofs.RecordLaws.{kindOf}
+
+-- Classes of operators, by number.
+
+pub is-between : (o : Op) → isBetween o ≡ between 47 (opNumber o) 48
+unfolding isBetween some
+is-between o = agree (λ p. isBetween p) (λ p. between 47 (opNumber p) 48) tt o
+
+pub is-spatial : (o : Op) → isSpatial o ≡ between 18 (opNumber o) 25
+unfolding isSpatial some
+is-spatial o = agree (λ p. isSpatial p) (λ p. between 18 (opNumber p) 25) tt o
+
+pub is-temporal : (o : Op) → isTemporal o ≡ between 26 (opNumber o) 40
+unfolding isTemporal some
+is-temporal o = agree (λ p. isTemporal p) (λ p. between 26 (opNumber p) 40) tt o
+
+is-array : (o : Op) → isArray o ≡ between 41 (opNumber o) 44
+unfolding isArray some
+is-array o = agree (λ p. isArray p) (λ p. between 41 (opNumber p) 44) tt o
+
+is-like : (o : Op) → oneOf o (IsLike ∷ IsNotLike ∷ []) ≡ between 45 (opNumber o) 46
+unfolding some
+is-like o = agree (λ p. oneOf p (IsLike ∷ IsNotLike ∷ [])) (λ p. between 45 (opNumber p) 46) tt o
+
+is-nullable : (o : Op) → isNullable o ≡ between 51 (opNumber o) 52
+unfolding isNullable some
+is-nullable o = agree (λ p. isNullable p) (λ p. between 51 (opNumber p) 52) tt o
+
+pub reduce-precision : (o : Op) → oneOf o (SWithin ∷ SOverlaps ∷ STouches ∷ []) ≡ between 21 (opNumber o) 23
+unfolding some
+reduce-precision o = agree (λ p. oneOf p (SWithin ∷ SOverlaps ∷ STouches ∷ [])) (λ p. between 21 (opNumber p) 23) tt o
+
+is-negation : (o : Op) → oneOf o (Neg ∷ Minus ∷ []) ≡ either (eqb (opNumber o) 7) (eqb (opNumber o) 1)
+unfolding some
+is-negation o = agree (λ p. oneOf p (Neg ∷ Minus ∷ [])) (λ p. either (eqb (opNumber p) 7) (eqb (opNumber p) 1)) tt o
+
+is-casei : (o : Op) → oneOf o (CaseI ∷ []) ≡ eqb (opNumber o) 16
+unfolding some
+is-casei o = agree (λ p. oneOf p (CaseI ∷ [])) (λ p. eqb (opNumber p) 16) tt o
+
+-- Monadic nodes.
+
+op-at : (p : Op) (t : Tree) → le16 (encode (monadic p t)) 6 ≡ opNumber p
+unfolding encode recordOf
+op-at p t = let h = number-below p in omega arith
+
+inner-of : (t : Tree) (k : ℕ) (o : Op) → k ≡ opNumber o → isMonadic o t ≡ pick (eqb (kindOf t) 9) (eqb (le16 (encode t) 6) k) false
+unfolding isMonadic encode recordOf byOperator
+inner-of null k o e = refl
+inner-of unbounded k o e = refl
+inner-of (bool b) k o e = refl
+inner-of (num m s) k o e = refl
+inner-of (str f s) k o e = refl
+inner-of (date y m d) k o e = refl
+inner-of (timestamp y m d h i s) k o e = refl
+inner-of (spatial n s) k o e = refl
+inner-of (id s) k o e = refl
+inner-of (monadic p t) k o e =
+    let a : le16 (encode (monadic p t)) 6 ≡ opNumber p = op-at p t in
+    rw (a, e) refl
+inner-of (dyadic p t u) k o e = refl
+inner-of (function n ts) k o e = refl
+inner-of (array ts) k o e = refl
+inner-of (interval t u) k o e = refl
+
+pub is-twin : (o : Op) (t : Tree) → twin o t ≡ twinOf (opNumber o) (kindOf t) (le16 (encode t) 6)
+unfolding twin
+is-twin o t =
+    rw (is-nullable o, is-negation o, is-casei o, inner-of t 17 AccentI refl, inner-of t 16 CaseI refl)
+    (go (between 51 (opNumber o) 52) (eqb (opNumber o) 7) (eqb (opNumber o) 1) (eqb (opNumber o) 16) (eqb (kindOf t) 9) (eqb (le16 (encode t) 6) 17) (eqb (le16 (encode t) 6) 16))
+  where
+    go : (a b c d e f h : Bool) → pick a false (pick (either b c) false (pick d (pick e f false) (pick e h false))) ≡ pick a false (pick b false (pick c false (pick e (pick d f h) false)))
+    go true b c d e f h = refl
+    go false true c d e f h = refl
+    go false false true d e f h = refl
+    go false false false true true f h = refl
+    go false false false true false f h = refl
+    go false false false false true f h = refl
+    go false false false false false f h = refl
+
+-- the operand's text under a twin
+under-text : (g : Settings) (o : Op) (t : Tree) → isMonadic o t ≡ true → getD (children g t) 0 [] ≡ text g (underOf t)
+unfolding isMonadic children underOf byOperator first
+under-text g o null e = absurd (let z : _≡_ {A = ℕ} 0 1 = cc in let v : ⊥ = omega arith in v)
+under-text g o unbounded e = absurd (let z : _≡_ {A = ℕ} 0 1 = cc in let v : ⊥ = omega arith in v)
+under-text g o (bool b) e = absurd (let z : _≡_ {A = ℕ} 0 1 = cc in let v : ⊥ = omega arith in v)
+under-text g o (num m s) e = absurd (let z : _≡_ {A = ℕ} 0 1 = cc in let v : ⊥ = omega arith in v)
+under-text g o (str f s) e = absurd (let z : _≡_ {A = ℕ} 0 1 = cc in let v : ⊥ = omega arith in v)
+under-text g o (date y m d) e = absurd (let z : _≡_ {A = ℕ} 0 1 = cc in let v : ⊥ = omega arith in v)
+under-text g o (timestamp y m d h i s) e = absurd (let z : _≡_ {A = ℕ} 0 1 = cc in let v : ⊥ = omega arith in v)
+under-text g o (spatial n s) e = absurd (let z : _≡_ {A = ℕ} 0 1 = cc in let v : ⊥ = omega arith in v)
+under-text g o (id s) e = absurd (let z : _≡_ {A = ℕ} 0 1 = cc in let v : ⊥ = omega arith in v)
+under-text g o (monadic p t) e = refl
+under-text g o (dyadic p t u) e = absurd (let z : _≡_ {A = ℕ} 0 1 = cc in let v : ⊥ = omega arith in v)
+under-text g o (function n ts) e = absurd (let z : _≡_ {A = ℕ} 0 1 = cc in let v : ⊥ = omega arith in v)
+under-text g o (array ts) e = absurd (let z : _≡_ {A = ℕ} 0 1 = cc in let v : ⊥ = omega arith in v)
+under-text g o (interval t u) e = absurd (let z : _≡_ {A = ℕ} 0 1 = cc in let v : ⊥ = omega arith in v)
+
+-- what stands before the operand, the operand, and what stands behind it
+pub monadic-parts : (g : Settings) (o : Op) (t : Tree) → text g (monadic o t)
+    ≡ beforeText (opNumber o) (word o) (isLiteralOrId t) ++ (text g (operandOf o t) ++ behindText g (opNumber o) (word o) (isLiteralOrId t) (twin o t))
+unfolding text monadicText operandOf twin beforeText behindText
+monadic-parts g o t =
+    rw (is-nullable o, is-negation o, is-casei o)
+    (go (between 51 (opNumber o) 52) (either (eqb (opNumber o) 7) (eqb (opNumber o) 1)) (eqb (opNumber o) 16) (isMonadic AccentI t) (isMonadic CaseI t) (isLiteralOrId t) (under-text g AccentI t) (under-text g CaseI t))
+  where
+    go : (a b c m n l : Bool) → (m ≡ true → getD (children g t) 0 [] ≡ text g (underOf t)) → (n ≡ true → getD (children g t) 0 [] ≡ text g (underOf t))
+        → pick a (bare l (text g t) ++ (32 ∷ word o)) (pick b (word o ++ (32 ∷ bare l (text g t)))
+        (pick c (pick m (getD (children g t) 0 [] ++ collate (g .cai)) (text g t ++ collate (g .ci))) (pick n (getD (children g t) 0 [] ++ collate (g .cai)) (text g t ++ collate (g .ai)))))
+        ≡ pick a (pick l [] (40 ∷ [])) (pick b (word o ++ pick l (32 ∷ []) (32 ∷ 40 ∷ [])) [])
+        ++ (text g (pick (pick a false (pick b false (pick c m n))) (underOf t) t)
+        ++ pick a (pick l (32 ∷ []) (41 ∷ 32 ∷ []) ++ word o) (pick b (pick l [] (41 ∷ [])) (collate (nameOf g (pick (pick a false (pick b false (pick c m n))) 3 (pick c 1 2))))))
+    go true b c m n true h k = refl
+    go true b c m n false h k = simp append-assoc
+    go false true c m n true h k = simp (append-assoc, append-nil)
+    go false true c m n false h k = simp append-assoc
+    go false false true true n l h k = ap (λ (x : List ℕ). x ++ collate (g .cai)) (h refl)
+    go false false true false n l h k = refl
+    go false false false m true l h k = ap (λ (x : List ℕ). x ++ collate (g .cai)) (k refl)
+    go false false false m false l h k = refl
+
+-- the same, by the tests of the code
+module _ (op : ℕ) (w : List ℕ) (b : Bool) where
+  pub before-nullable : between 51 op 52 ≡ true → pick b [] (40 ∷ []) ≡ beforeText op w b
+  unfolding beforeText
+  before-nullable p = simp p
+
+  pub before-sign : between 51 op 52 ≡ false → either (eqb op 7) (eqb op 1) ≡ true → w ++ pick b (32 ∷ []) (32 ∷ 40 ∷ []) ≡ beforeText op w b
+  unfolding beforeText
+  before-sign p q = simp (p, q)
+
+  pub before-none : between 51 op 52 ≡ false → either (eqb op 7) (eqb op 1) ≡ false → [] ≡ beforeText op w b
+  unfolding beforeText
+  before-none p q = simp (p, q)
+
+  module _ (g : Settings) (d : Bool) where
+    pub behind-nullable : between 51 op 52 ≡ true → pick b (32 ∷ []) (41 ∷ 32 ∷ []) ++ w ≡ behindText g op w b d
+    unfolding behindText
+    behind-nullable p = simp p
+
+    pub behind-sign : between 51 op 52 ≡ false → either (eqb op 7) (eqb op 1) ≡ true → pick b [] (41 ∷ []) ≡ behindText g op w b d
+    unfolding behindText
+    behind-sign p q = simp (p, q)
+
+    pub behind-collate : between 51 op 52 ≡ false → either (eqb op 7) (eqb op 1) ≡ false → (c : ℕ) → c ≡ collationFlags op d → collate (nameOf g c) ≡ behindText g op w b d
+    unfolding behindText
+    behind-collate p q c e = ap (λ (x : ℕ). collate (nameOf g x)) e ∙ simp (p, q)
+
+-- Dyadic nodes.
+
+never : {A : Type 0} → _≡_ {A = Bool} true false → A
+never e = absurd (let z : _≡_ {A = ℕ} 0 1 = cc in let v : ⊥ = omega arith in v)
+
+-- what lies in a range lies outside of each range that does not meet it
+pub apart : (a n b c d : ℕ) → between a n b ≡ true → (c ≤ b → a ≤ d → ⊥) → between c n d ≡ false
+apart a n b c d e h = go (between c n d) refl
+  where
+    go : (z : Bool) → between c n d ≡ z → z ≡ false
+    go true w =
+        let r = between-true a n b e in
+        let q = between-true c n d w in
+        absurd (h (let v : c ≤ b = omega (arith, r .1, q .0) in v) (let v : a ≤ d = omega (arith, r .0, q .1) in v))
+    go false w = refl
+
+bound-0 : (g : Settings) (u : Tree) → boundText u (children g u) 0 ≡ text g (first (itemsOf u))
+unfolding children texts itemsOf isItems first second text
+bound-0 g null = refl
+bound-0 g unbounded = refl
+bound-0 g (bool b) = refl
+bound-0 g (num m s) = refl
+bound-0 g (str f s) = refl
+bound-0 g (date y m d) = refl
+bound-0 g (timestamp y m d h i s) = refl
+bound-0 g (spatial n s) = refl
+bound-0 g (id s) = refl
+bound-0 g (monadic p t) = refl
+bound-0 g (dyadic p t u) = refl
+bound-0 g (function n ts) = refl
+bound-0 g (array none) = refl
+bound-0 g (array (t then ts)) = refl
+bound-0 g (interval t u) = refl
+
+bound-1 : (g : Settings) (u : Tree) → boundText u (children g u) 1 ≡ text g (second (itemsOf u))
+unfolding children texts itemsOf isItems first second text
+bound-1 g null = refl
+bound-1 g unbounded = refl
+bound-1 g (bool b) = refl
+bound-1 g (num m s) = refl
+bound-1 g (str f s) = refl
+bound-1 g (date y m d) = refl
+bound-1 g (timestamp y m d h i s) = refl
+bound-1 g (spatial n s) = refl
+bound-1 g (id s) = refl
+bound-1 g (monadic p t) = refl
+bound-1 g (dyadic p t u) = refl
+bound-1 g (function n ts) = refl
+bound-1 g (array none) = refl
+bound-1 g (array (t then none)) = refl
+bound-1 g (array (t then (u then ts))) = refl
+bound-1 g (interval t u) = refl
+
+start-text : (g : Settings) (t : Tree) → startText t (text g t) (children g t) ≡ text g (startOf t)
+unfolding isInterval children startOf stopOf text first second
+start-text g null = refl
+start-text g unbounded = refl
+start-text g (bool b) = refl
+start-text g (num m s) = refl
+start-text g (str f s) = refl
+start-text g (date y m d) = refl
+start-text g (timestamp y m d h i s) = refl
+start-text g (spatial n s) = refl
+start-text g (id s) = refl
+start-text g (monadic p t) = refl
+start-text g (dyadic p t u) = refl
+start-text g (function n ts) = refl
+start-text g (array ts) = refl
+start-text g (interval t u) = refl
+
+stop-text : (g : Settings) (t : Tree) → stopText t (children g t) ≡ text g (stopOf t)
+unfolding isInterval children startOf stopOf text first second
+stop-text g null = refl
+stop-text g unbounded = refl
+stop-text g (bool b) = refl
+stop-text g (num m s) = refl
+stop-text g (str f s) = refl
+stop-text g (date y m d) = refl
+stop-text g (timestamp y m d h i s) = refl
+stop-text g (spatial n s) = refl
+stop-text g (id s) = refl
+stop-text g (monadic p t) = refl
+stop-text g (dyadic p t u) = refl
+stop-text g (function n ts) = refl
+stop-text g (array ts) = refl
+stop-text g (interval t u) = refl
+
+module _ (g : Settings) (o : Op) (t u : Tree) where
+  pub between-parts : isBetween o ≡ true → text g (dyadic o t u) ≡ text g t ++ (infixText true (word o) true ++ (text g (first (itemsOf u)) ++ ((32 ∷ 65 ∷ 78 ∷ 68 ∷ 32 ∷ []) ++ text g (second (itemsOf u)))))
+  unfolding text dyadicText infixText
+  between-parts p = simp (p, append-assoc, bound-0 g u, bound-1 g u)
+
+  module _ (p : isBetween o ≡ false) where
+    pub spatial-parts : isSpatial o ≡ true → (a b : Bool) → a ≡ both (between 21 (opNumber o) 23) (both (isId t) (negated (isId u))) → b ≡ both (between 21 (opNumber o) 23) (both (isId u) (negated (isId t)))
+        → text g (dyadic o t u)
+        ≡ word o ++ (pick a (40 ∷ 83 ∷ 84 ∷ 95 ∷ 82 ∷ 101 ∷ 100 ∷ 117 ∷ 99 ∷ 101 ∷ 80 ∷ 114 ∷ 101 ∷ 99 ∷ 105 ∷ 115 ∷ 105 ∷ 111 ∷ 110 ∷ 40 ∷ []) (40 ∷ [])
+        ++ (text g t ++ (pick a (reducedText (g .precision)) []
+        ++ (pick b (44 ∷ 32 ∷ 83 ∷ 84 ∷ 95 ∷ 82 ∷ 101 ∷ 100 ∷ 117 ∷ 99 ∷ 101 ∷ 80 ∷ 114 ∷ 101 ∷ 99 ∷ 105 ∷ 115 ∷ 105 ∷ 111 ∷ 110 ∷ 40 ∷ []) (44 ∷ 32 ∷ [])
+        ++ (text g u ++ (pick b (reducedText (g .precision)) [] ++ (41 ∷ [])))))))
+    unfolding text dyadicText reduces reducePrecision
+    spatial-parts q a b x y = rw (p, q, reduce-precision o, ← x, ← y) (go a b)
+      where
+        go : (a b : Bool) → word o ++ (40 ∷ (pick a (reducePrecision (g .precision) (text g t)) (text g t) ++ (44 ∷ 32 ∷ (pick b (reducePrecision (g .precision) (text g u)) (text g u) ++ (41 ∷ [])))))
+            ≡ word o ++ (pick a (40 ∷ 83 ∷ 84 ∷ 95 ∷ 82 ∷ 101 ∷ 100 ∷ 117 ∷ 99 ∷ 101 ∷ 80 ∷ 114 ∷ 101 ∷ 99 ∷ 105 ∷ 115 ∷ 105 ∷ 111 ∷ 110 ∷ 40 ∷ []) (40 ∷ [])
+            ++ (text g t ++ (pick a (reducedText (g .precision)) []
+            ++ (pick b (44 ∷ 32 ∷ 83 ∷ 84 ∷ 95 ∷ 82 ∷ 101 ∷ 100 ∷ 117 ∷ 99 ∷ 101 ∷ 80 ∷ 114 ∷ 101 ∷ 99 ∷ 105 ∷ 115 ∷ 105 ∷ 111 ∷ 110 ∷ 40 ∷ []) (44 ∷ 32 ∷ [])
+            ++ (text g u ++ (pick b (reducedText (g .precision)) [] ++ (41 ∷ [])))))))
+        go true true = simp append-assoc
+        go true false = simp append-assoc
+        go false true = simp append-assoc
+        go false false = refl
+
+    module _ (q : isSpatial o ≡ false) where
+      pub temporal-fills : isTemporal o ≡ true → text g (dyadic o t u) ≡ fill (slot g (endsOf t u)) (templateOf (translate (opNumber o) (isInterval t) (isInterval u) (columnsOf t u)))
+      unfolding text dyadicText endsOf
+      temporal-fills r =
+          rw (p, q, r)
+          (translate-same _ _ ends-same (opNumber o) (isInterval t) (isInterval u) (columnsOf t u)
+          ∙ sym (translate-fills (slot g (endsOf t u)) (opNumber o) (isInterval t) (isInterval u) (columnsOf t u)))
+        where
+          ends-same : (j : ℕ) → j < 4 → getD (startText t (text g t) (children g t) ∷ stopText t (children g t) ∷ startText u (text g u) (children g u) ∷ stopText u (children g u) ∷ []) j [] ≡ slot g (endsOf t u) j
+          ends-same zero h = start-text g t
+          ends-same (suc zero) h = stop-text g t
+          ends-same (suc (suc zero)) h = start-text g u
+          ends-same (suc (suc (suc zero))) h = stop-text g u
+          ends-same (suc (suc (suc (suc j)))) h = absurd (let v : ⊥ = omega arith in v)
+
+      pub infix-parts : isTemporal o ≡ false → text g (dyadic o t u)
+          ≡ pick (leftBare (opNumber o) t) [] (40 ∷ []) ++ (text g t ++ (infixText (leftBare (opNumber o) t) (word o) (rightBare (opNumber o) u) ++ (text g u ++ pick (rightBare (opNumber o) u) [] (41 ∷ []))))
+      unfolding text dyadicText leftBare rightBare infixText
+      infix-parts r = rw (p, q, r, is-array o, is-like o) (go (between 41 (opNumber o) 44) (between 45 (opNumber o) 46) (isLiteralOrId t) (isLiteralOrId u))
+        where
+          go : (x y c d : Bool)
+              → pick x (text g t ++ (32 ∷ (word o ++ (32 ∷ text g u)))) (pick y (bare c (text g t) ++ (32 ∷ (word o ++ (32 ∷ bare false (text g u))))) (bare c (text g t) ++ (32 ∷ (word o ++ (32 ∷ bare d (text g u))))))
+              ≡ pick (pick x true c) [] (40 ∷ []) ++ (text g t ++ ((pick (pick x true c) (32 ∷ []) (41 ∷ 32 ∷ []) ++ (word o ++ pick (pick x true (pick y false d)) (32 ∷ []) (32 ∷ 40 ∷ []))) ++ (text g u ++ pick (pick x true (pick y false d)) [] (41 ∷ []))))
+          go true y c d = simp (append-assoc, append-nil)
+          go false true true d = simp append-assoc
+          go false true false d = simp append-assoc
+          go false false true true = simp (append-assoc, append-nil)
+          go false false true false = simp append-assoc
+          go false false false true = simp (append-assoc, append-nil)
+          go false false false false = simp append-assoc

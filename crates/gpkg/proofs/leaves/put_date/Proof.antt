@@ -1,0 +1,43 @@
+-- The fields that were read are those of the record.
+use mathlib.Core.Path.{_≡_}
+use lib.ListN.{getD}
+use Rattle.record.specs.Record.{le16}
+use Rattle.literal.specs.Literal.{dateText}
+use Rattle.emit.specs.EmitLaws.{lays, lays-of}
+use borrow.Author.Needs.{needs}
+use Rattle.gpkg.proofs.leaves.put_date.Statement.{statement}
+use Rattle.gpkg.proofs.leaves.put_date.Tie as tie
+use Rattle.gpkg.proofs.leaves.put_date.Reads as reads
+use Rattle.gpkg.proofs.leaves.put_date.Lts as lts
+use Rattle.literal.proofs.put_date.Reads as put-date-reads
+use Rattle.record.proofs.byte_at.Reads as byte-at-reads
+use Rattle.record.proofs.word_at.Reads as word-at-reads
+
+word-at-requires : tie.Need-word-at-requires
+word-at-requires c κs = search needs
+
+byte-at-requires : tie.Need-byte-at-requires
+byte-at-requires c κs = search needs
+
+byte-at-requires-2 : tie.Need-byte-at-requires-2
+byte-at-requires-2 c κs = search needs
+
+put-date-requires : tie.Need-put-date-requires
+put-date-requires c κs = search needs
+
+same-length : tie.Need-same-length
+same-length c = search needs
+
+returns : tie.Need-returns
+returns c = let s = c .before .before .before .before .before .before .before .before .before .args .s .now in let e : dateText (c .before .before .before .before .before .before .word-at .result) (c .before .before .before .before .before .byte-at .result) (c .before .before .before .before .byte-at2 .result) ≡ dateText (le16 s 6) (getD s 8 0) (getD s 9 0) = cc in lays-of e (lays (c .before .before .put-date .ensures))
+
+pub put-date-spec : {M : Type 1} → statement M
+put-date-spec =
+    tie.close
+    (tie.spec
+    word-at-requires
+    byte-at-requires
+    byte-at-requires-2
+    put-date-requires
+    same-length
+    returns)
