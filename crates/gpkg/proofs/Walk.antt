@@ -18,7 +18,7 @@ use Rattle.record.specs.Record.{le16, recordOf}
 use Rattle.op.specs.declared.Op.{Op}
 use Rattle.op.specs.Op.{opNumber}
 use Rattle.op.specs.OpLaws.{number-below}
-use Rattle.tree.specs.Tree.{Tree, Trees, Settings, encode, encodes, counted, null, unbounded, bool, num, str, date, timestamp, spatial, id, monadic, dyadic, function, array, interval, none, _then_}
+use Rattle.tree.specs.Tree.{Tree, Trees, Settings, encode, encodes, counted, null, unbounded, bool, num, str, date, timestamp, spatial, id, monadic, dyadic, function, array, interval, none, _then_, kindOf}
 use Rattle.literal.specs.Literal.{nullText}
 use Rattle.sql.specs.Template.{fill, spelt, parts, partOf}
 use Rattle.sql.specs.declared.End as end
@@ -30,7 +30,7 @@ use Rattle.gpkg.specs.Lays.{Lays, capped}
 use Rattle.gpkg.specs.Text.{text, texts, joined}
 use Rattle.op.specs.Spelling.{word}
 use Rattle.gpkg.specs.Plan.{Inside, part, Is, Are, Stands, EndOf, Node, one, two, nodeEnds, Bound, gone, item, sound, sounds, slot, endPiece, pieceOf, partText, flatText, leafText, itemsOf, temporalOf, infixText, reducedText, leftBare, rightBare, twin, twinOf, operandOf, beforeText, behindText}
-use Rattle.gpkg.proofs.Records.{kindOf, beyond, size-of, long, part-at}
+use Rattle.gpkg.proofs.Records.{beyond, size-of, long, part-at}
 use Rattle.gpkg.proofs.Literals.{kind-whole}
 use Rattle.gpkg.proofs.Ends.{both-first, both-second, stands-part}
 use Rattle.gpkg.proofs.Leaves.{leaf-text}

@@ -63,7 +63,7 @@ twos (negsuc n) = 18446744073709551615 - n
 unfoldable pub dateBytes : ℕ → ℕ → ℕ → List ℕ
 dateBytes y m d = le 2 y ++ (m ∷ (d ∷ []))
 
--- a name behind its length byte
+-- a name after its length byte
 unfoldable pub counted : List ℕ → List ℕ
 counted n = length n ∷ n
 
