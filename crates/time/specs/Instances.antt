@@ -14,10 +14,9 @@ use Rattle.prelude.specs.ChoiceLaws.{both-true}
 use Rattle.op.specs.declared.Op.{Op}
 use Rattle.op.specs.declared.Op.the-variants.{TAfter, TBefore, TContains, TDisjoint, TDuring, TEquals, TFinishedBy, TFinishes, TIntersects, TMeets, TMetBy, TOverlappedBy, TOverlaps, TStartedBy, TStarts}
 use Rattle.op.specs.Op.{isTemporal}
-use Rattle.tree.specs.Tree.{Tree, Settings, id, dyadic, interval, encode, encodeSettings}
+use Rattle.tree.specs.Tree.{Tree, Settings, id, dyadic, interval, encode, encodeSettings, Bytes}
 use Rattle.tree.specs.Parse.{got}
 use Rattle.tree.specs.Accepted.{accepted}
-use Rattle.tree.specs.ByteLaws.{Bytes}
 use Rattle.gpkg.specs.Lowered.{lowering}
 use Rattle.row.specs.Row.{Column, val, rowOf, columns}
 use Rattle.truth.specs.declared.Reading.the-variants.{True as SaysTrue, False as SaysFalse, Unknown as SaysUnknown}
