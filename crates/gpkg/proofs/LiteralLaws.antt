@@ -8,10 +8,14 @@ use lib.ListN.{length, drop, length-append, length-drop, drop-of-length-le}
 use lib.Seq.{drop-drop}
 use Rattle.prelude.specs.Choice.{both, either, between}
 use Rattle.record.specs.Record.{le16, recordOf}
-use Rattle.tree.specs.Tree.{Tree, Trees, encode, encodes, null, unbounded, bool, num, str, date, timestamp, spatial, id, monadic, dyadic, function, array, interval, none, _then_}
+use Rattle.tree.specs.Tree.{Tree, Trees, encode, encodes, null, unbounded, bool, num, str, date, timestamp, spatial, id, monadic, dyadic, function, array, interval, none, _then_, kindOf}
 use Rattle.tree.specs.Tests.{isLiteral, allLiteral, isId, isLiteralOrId, everywhereIn, everywhere}
 use Rattle.gpkg.specs.Plan.{EndOf}
-use Rattle.gpkg.proofs.RecordLaws.{kindOf, bodyOf, shape, kind-at, beyond, long, long-at}
+use Rattle.gpkg.proofs.RecordLaws.{bodyOf, shape, kind-at, beyond, long, long-at}
+use Rattle.tree.specs.TestsLaws.{OfKind, of-array, kind-is}
+use borrow.Author.Tests.{eq-eqb, ne-eqb}
+use Rattle.prelude.specs.ChoiceLaws.{between-true}
+use Rattle.tree.specs.EncodeLaws.{between-is}
 
 never : {A : Type 0} → ⊥ → A
 never v = absurd v
@@ -40,89 +44,46 @@ literal-join (t then ts) us = ap (λ (b : Bool). both (isLiteral t) b) (literal-
 
 -- what the kind decides
 
-lit-yes : (u : Tree) → 2 ≤ kindOf u → kindOf u ≤ 7 → isLiteral u ≡ true
+literal-kind : (u : Tree) → (kindOf u ≡ 12 → ⊥) → isLiteral u ≡ between 2 (kindOf u) 7
 unfolding isLiteral everywhere
-lit-yes null h g = absurd (let v : ⊥ = omega arith in v)
-lit-yes unbounded h g = absurd (let v : ⊥ = omega arith in v)
-lit-yes (bool b) h g = refl
-lit-yes (num m s) h g = refl
-lit-yes (str f s) h g = refl
-lit-yes (date y m d) h g = refl
-lit-yes (timestamp y m d k i s) h g = refl
-lit-yes (spatial n s) h g = refl
-lit-yes (id s) h g = absurd (let v : ⊥ = omega arith in v)
-lit-yes (monadic o t) h g = absurd (let v : ⊥ = omega arith in v)
-lit-yes (dyadic o t v) h g = absurd (let z : ⊥ = omega arith in z)
-lit-yes (function n ts) h g = absurd (let v : ⊥ = omega arith in v)
-lit-yes (array ts) h g = absurd (let v : ⊥ = omega arith in v)
-lit-yes (interval t v) h g = absurd (let z : ⊥ = omega arith in z)
+literal-kind null g = refl
+literal-kind unbounded g = refl
+literal-kind (bool b) g = refl
+literal-kind (num m s) g = refl
+literal-kind (str f s) g = refl
+literal-kind (date y m d) g = refl
+literal-kind (timestamp y m d k i s) g = refl
+literal-kind (spatial n s) g = refl
+literal-kind (id s) g = refl
+literal-kind (monadic o t) g = refl
+literal-kind (dyadic o t v) g = refl
+literal-kind (function n ts) g = refl
+literal-kind (array ts) g = never (g refl)
+literal-kind (interval t v) g = refl
+
+lit-yes : (u : Tree) → 2 ≤ kindOf u → kindOf u ≤ 7 → isLiteral u ≡ true
+lit-yes u h g = literal-kind u (λ e. omega arith) ∙ between-is 2 (kindOf u) 7 h g
 
 lit-no : (u : Tree) → (2 ≤ kindOf u → kindOf u ≤ 7 → ⊥) → (kindOf u ≡ 12 → ⊥) → isLiteral u ≡ false
-unfolding isLiteral everywhere
-lit-no null h g = refl
-lit-no unbounded h g = refl
-lit-no (bool b) h g = never (h (omega arith) (omega arith))
-lit-no (num m s) h g = never (h (omega arith) (omega arith))
-lit-no (str f s) h g = never (h (omega arith) (omega arith))
-lit-no (date y m d) h g = never (h (omega arith) (omega arith))
-lit-no (timestamp y m d k i s) h g = never (h (omega arith) (omega arith))
-lit-no (spatial n s) h g = never (h (omega arith) (omega arith))
-lit-no (id s) h g = refl
-lit-no (monadic o t) h g = refl
-lit-no (dyadic o t v) h g = refl
-lit-no (function n ts) h g = refl
-lit-no (array ts) h g = never (g refl)
-lit-no (interval t v) h g = refl
+lit-no u h g = literal-kind u g ∙ go (between 2 (kindOf u) 7) refl
+  where
+    go : (b : Bool) → between 2 (kindOf u) 7 ≡ b → b ≡ false
+    go true e = let r = between-true 2 (kindOf u) 7 e in never (h (r .0) (r .1))
+    go false e = refl
 
 id-yes : (u : Tree) → kindOf u ≡ 8 → isId u ≡ true
 unfolding isId
-id-yes null h = absurd (let v : ⊥ = omega arith in v)
-id-yes unbounded h = absurd (let v : ⊥ = omega arith in v)
-id-yes (bool b) h = absurd (let v : ⊥ = omega arith in v)
-id-yes (num m s) h = absurd (let v : ⊥ = omega arith in v)
-id-yes (str f s) h = absurd (let v : ⊥ = omega arith in v)
-id-yes (date y m d) h = absurd (let v : ⊥ = omega arith in v)
-id-yes (timestamp y m d k i s) h = absurd (let v : ⊥ = omega arith in v)
-id-yes (spatial n s) h = absurd (let v : ⊥ = omega arith in v)
-id-yes (id s) h = refl
-id-yes (monadic o t) h = absurd (let v : ⊥ = omega arith in v)
-id-yes (dyadic o t v) h = absurd (let z : ⊥ = omega arith in z)
-id-yes (function n ts) h = absurd (let v : ⊥ = omega arith in v)
-id-yes (array ts) h = absurd (let v : ⊥ = omega arith in v)
-id-yes (interval t v) h = absurd (let z : ⊥ = omega arith in z)
+id-yes u h = eq-eqb (kindOf u) 8 h
 
 pub id-no : (u : Tree) → (kindOf u ≡ 8 → ⊥) → isId u ≡ false
 unfolding isId
-id-no null h = refl
-id-no unbounded h = refl
-id-no (bool b) h = refl
-id-no (num m s) h = refl
-id-no (str f s) h = refl
-id-no (date y m d) h = refl
-id-no (timestamp y m d k i s) h = refl
-id-no (spatial n s) h = refl
-id-no (id s) h = never (h refl)
-id-no (monadic o t) h = refl
-id-no (dyadic o t v) h = refl
-id-no (function n ts) h = refl
-id-no (array ts) h = refl
-id-no (interval t v) h = refl
+id-no u h = ne-eqb (kindOf u) 8 h
 
 array-of : (u : Tree) → kindOf u ≡ 12 → (ts : Trees) × (u ≡ array ts)
-array-of null h = absurd (let v : ⊥ = omega arith in v)
-array-of unbounded h = absurd (let v : ⊥ = omega arith in v)
-array-of (bool b) h = absurd (let v : ⊥ = omega arith in v)
-array-of (num m s) h = absurd (let v : ⊥ = omega arith in v)
-array-of (str f s) h = absurd (let v : ⊥ = omega arith in v)
-array-of (date y m d) h = absurd (let v : ⊥ = omega arith in v)
-array-of (timestamp y m d k i s) h = absurd (let v : ⊥ = omega arith in v)
-array-of (spatial n s) h = absurd (let v : ⊥ = omega arith in v)
-array-of (id s) h = absurd (let v : ⊥ = omega arith in v)
-array-of (monadic o t) h = absurd (let v : ⊥ = omega arith in v)
-array-of (dyadic o t v) h = absurd (let z : ⊥ = omega arith in z)
-array-of (function n ts) h = absurd (let v : ⊥ = omega arith in v)
-array-of (array ts) h = (ts, refl)
-array-of (interval t v) h = absurd (let z : ⊥ = omega arith in z)
+array-of u h = go u (kind-is 12 u h)
+  where
+    go : (t : Tree) → OfKind 12 t → (ts : Trees) × (t ≡ array ts)
+    go t (of-array ts) = (ts, refl)
 
 -- the body of the record at p
 pub body-at : (s : List ℕ) (p : ℕ) (x : Tree) (rest : List ℕ) → drop p s ≡ encode x ++ rest → drop (p + 6) s ≡ bodyOf x ++ rest

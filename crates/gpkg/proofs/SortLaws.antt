@@ -11,7 +11,7 @@ use lib.Dec.{eqb}
 use Rattle.record.specs.Record.{le16}
 use Rattle.op.specs.declared.Op.{Op}
 use Rattle.op.specs.Op.{opNumber, isSpatial}
-use Rattle.tree.specs.Tree.{Tree, Settings, encode, null, unbounded, bool, num, str, date, timestamp, spatial, id, monadic, dyadic, function, array, interval}
+use Rattle.tree.specs.Tree.{Tree, Settings, encode, kindOf}
 use Rattle.tree.specs.Placed.{isBetween}
 use Rattle.tree.specs.Tests.{isInterval, isId, columnsOf, endsOf, byOperator}
 use Rattle.sql.specs.declared.End as end
@@ -20,44 +20,17 @@ use Rattle.sql.specs.Template.{fill, templateOf}
 use Rattle.sql.specs.Translators.{translate}
 use Rattle.gpkg.specs.Text.{text}
 use Rattle.gpkg.specs.Plan.{Are, Node, one, two, nodeEnds, part, slot}
-use Rattle.gpkg.proofs.RecordLaws.{kindOf}
 use Rattle.gpkg.proofs.LiteralLaws.{kind-whole}
 use Rattle.gpkg.proofs.EndLaws.{stands-part}
 use Rattle.gpkg.proofs.NodeLaws.{is-between, is-spatial, is-temporal, apart, temporal-fills}
 
 id-kind : (t : Tree) → eqb (kindOf t) 8 ≡ isId t
 unfolding isId
-id-kind null = refl
-id-kind unbounded = refl
-id-kind (bool b) = refl
-id-kind (num m s) = refl
-id-kind (str f s) = refl
-id-kind (date y m d) = refl
-id-kind (timestamp y m d h i s) = refl
-id-kind (spatial n s) = refl
-id-kind (id s) = refl
-id-kind (monadic o t) = refl
-id-kind (dyadic o t u) = refl
-id-kind (function n ts) = refl
-id-kind (array ts) = refl
-id-kind (interval t u) = refl
+id-kind t = refl
 
 interval-kind : (t : Tree) → eqb (kindOf t) 13 ≡ isInterval t
 unfolding isInterval
-interval-kind null = refl
-interval-kind unbounded = refl
-interval-kind (bool b) = refl
-interval-kind (num m s) = refl
-interval-kind (str f s) = refl
-interval-kind (date y m d) = refl
-interval-kind (timestamp y m d h i s) = refl
-interval-kind (spatial n s) = refl
-interval-kind (id s) = refl
-interval-kind (monadic o t) = refl
-interval-kind (dyadic o t u) = refl
-interval-kind (function n ts) = refl
-interval-kind (array ts) = refl
-interval-kind (interval t u) = refl
+interval-kind t = refl
 
 pub kind-id : (s : List ℕ) (t : Tree) → s ≡ encode t → eqb (le16 s 4) 8 ≡ isId t
 kind-id s t e = ap (λ (k : ℕ). eqb k 8) (kind-whole s t e) ∙ id-kind t

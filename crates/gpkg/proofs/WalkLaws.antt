@@ -19,7 +19,7 @@ use Rattle.record.specs.Record.{le16, recordOf}
 use Rattle.op.specs.declared.Op.{Op}
 use Rattle.op.specs.Op.{opNumber}
 use Rattle.op.specs.OpLaws.{number-below}
-use Rattle.tree.specs.Tree.{Tree, Trees, Settings, encode, encodes, counted, null, unbounded, bool, num, str, date, timestamp, spatial, id, monadic, dyadic, function, array, interval, none, _then_}
+use Rattle.tree.specs.Tree.{Tree, Trees, Settings, encode, encodes, counted, null, unbounded, bool, num, str, date, timestamp, spatial, id, monadic, dyadic, function, array, interval, none, _then_, kindOf}
 use Rattle.literal.specs.Literal.{nullText}
 use Rattle.sql.specs.Template.{fill, spelt, parts, partOf, wordsOf}
 use Rattle.sql.specs.declared.End as end
@@ -32,7 +32,7 @@ use Rattle.emit.specs.Lays.{Lays}
 use Rattle.gpkg.specs.Text.{text, texts, joined}
 use Rattle.op.specs.Spelling.{word}
 use Rattle.gpkg.specs.Plan.{Inside, part, Is, Are, Stands, EndOf, Node, one, two, nodeEnds, Bound, gone, item, sound, sounds, slot, endPiece, pieceOf, flatText, leafText, itemsOf, temporalOf, infixText, reducedText, leftBare, rightBare, twin, twinOf, operandOf, beforeText, behindText}
-use Rattle.gpkg.proofs.RecordLaws.{kindOf, beyond, size-of, long, part-at}
+use Rattle.gpkg.proofs.RecordLaws.{beyond, size-of, long, part-at}
 use Rattle.gpkg.proofs.LiteralLaws.{kind-whole}
 use Rattle.gpkg.proofs.EndLaws.{both-first, both-second, stands-part}
 use Rattle.gpkg.proofs.LeafLaws.{leaf-text}

@@ -134,7 +134,7 @@ false-token at-end = tokens-one 70 (bytes "ALSE") FALSE 4 refl refl
 false-token (at-space k) = tokens-one 70 (bytes "ALSE " ++ k) FALSE 4 refl refl
 false-token (at-close k) = tokens-one 70 (bytes "ALSE)" ++ k) FALSE 4 refl refl
 
--- NULL, NOT NULL and IS NOT NULL, IS NULL behind a name
+-- NULL, NOT NULL and IS NOT NULL, IS NULL after a name
 not-null-tokens : {k : List ℕ} → Break k → tokens (bytes " NOT NULL" ++ k) ≡ tok NOT (bytes "NOT") ∷ (tok NULL (bytes "NULL") ∷ tokens k)
 unfolding lexeme nameStart nameByte letter digit run wordKind upper same
 not-null-tokens {k} c =
@@ -282,7 +282,7 @@ false-item =
       reads = λ k b. ap simple (false-token (b .breaks));
     }
 
--- A name in either writing, and the tests for NULL behind it.
+-- A name in either writing, and the tests for NULL after it.
 pub record NameText (s n : List ℕ) : Type 0 where
   pub atom : AtomText s (column n)
   pub named : isName (atom .token .kind) ≡ true
@@ -307,7 +307,7 @@ notToken = tok NOT (bytes "NOT")
 abbrev isToken : Token
 isToken = tok IS (bytes "IS")
 
--- a name's token, and what a test for NULL makes of the tokens behind it
+-- a name's token, and what a test for NULL makes of the tokens after it
 name-test : (t u : Token) (ts : List Token) (n : List ℕ) → isAtom (t .kind) ≡ true → isName (t .kind) ≡ true
     → ((r : List Token) → atomOf (t ∷ r) ≡ column n) → between LT (u .kind) NE ≡ false
     → simple (t ∷ (u ∷ ts)) ≡ nullTest (column n) (u ∷ ts)

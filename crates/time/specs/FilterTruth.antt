@@ -84,7 +84,7 @@ temporalTruth cs o t u =
 unfoldable pub comparison : Op → ℕ
 comparison = entry ((Eq, EQ) ∷ (Neq, NE) ∷ (Lt, LT) ∷ (Gt, GT) ∷ (Lte, LE) ∷ (Gte, GE) ∷ []) EQ
 
--- Bool is what it says; any other filter without an operator is Null
+-- a filter without an operator: Bool is what it says, Null is unknown
 abbrev pub constant : Tree → Truth
 constant t = pick (eqb (kindOf t) BOOL) (truthOf (eqb (getD (fieldsOf t) 0 0) 1)) Unknown
 

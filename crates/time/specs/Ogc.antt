@@ -5,6 +5,7 @@ use mathlib.Core.List.{List, [], _∷_}
 use mathlib.Core.Bool.{Bool, true, false}
 use lib.ListN.{length, getD}
 use lib.Dec.{eqb}
+use Rattle.prelude.specs.Bytes.{byte, minus, colon, zeroDigit}
 use Rattle.prelude.specs.Choice.{pick, both, either, negated}
 use Rattle.charset.specs.Charset.{digit}
 use Rattle.civil.specs.Civil.{validDate, validTime}
@@ -66,7 +67,7 @@ ogc =
 
 -- the digit at i
 abbrev pub digitAt : List ℕ → ℕ → ℕ
-digitAt s i = getD s i 0 - 48
+digitAt s i = getD s i 0 - zeroDigit
 
 -- two digits at i
 abbrev pub twoAt : List ℕ → ℕ → ℕ
@@ -81,13 +82,13 @@ yearOf s = twoAt s 0 * 100 + twoAt s 2
 -- YYYY-MM-DD at the front, a date of the calendar
 unfoldable pub beginsDate : List ℕ → Bool
 beginsDate s =
-    both (areTwo s 0) (both (areTwo s 2) (both (eqb (getD s 4 0) 45) (both (areTwo s 5) (both (eqb (getD s 7 0) 45) (both (areTwo s 8)
+    both (areTwo s 0) (both (areTwo s 2) (both (eqb (getD s 4 0) minus) (both (areTwo s 5) (both (eqb (getD s 7 0) minus) (both (areTwo s 8)
     (validDate (yearOf s) (twoAt s 5) (twoAt s 8)))))))
 
--- THH:MM:SS behind it, a time of day
+-- THH:MM:SS after it, a time of day
 unfoldable pub goesOnTime : List ℕ → Bool
 goesOnTime s =
-    both (eqb (getD s 10 0) 84) (both (areTwo s 11) (both (eqb (getD s 13 0) 58) (both (areTwo s 14) (both (eqb (getD s 16 0) 58) (both (areTwo s 17)
+    both (eqb (getD s 10 0) (byte "T")) (both (areTwo s 11) (both (eqb (getD s 13 0) colon) (both (areTwo s 14) (both (eqb (getD s 16 0) colon) (both (areTwo s 17)
     (validTime (twoAt s 11) (twoAt s 14) (twoAt s 17)))))))
 
 -- all values are of one width: valid ten-byte dates, or valid 19-byte timestamps

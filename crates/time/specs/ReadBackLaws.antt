@@ -15,13 +15,13 @@ use Rattle.truth.specs.Reading.{parse, bracketLimit}
 use Rattle.prelude.specs.Choice.{same, between}
 use Rattle.charset.specs.Charset.{letter, digit, nameStart, nameByte, upper}
 
--- what may stand behind a word: nothing, a space or a closing bracket
+-- what may stand after a word: nothing, a space or a closing bracket
 pub data Break : List ℕ → Type 0 where
   at-end : Break []
   at-space : (k : List ℕ) → Break (32 ∷ k)
   at-close : (k : List ℕ) → Break (41 ∷ k)
 
--- and behind a test: no sign of comparison either
+-- and after a test: no sign of comparison either
 pub record Boundary (k : List ℕ) : Type 0 where
   pub breaks : Break k
   pub calm : between LT (kind (tokens k)) NE ≡ false
@@ -54,7 +54,7 @@ not-token : (k : List ℕ) → tokens (bytes "NOT " ++ k) ≡ tok NOT (bytes "NO
 unfolding lexeme nameStart nameByte letter digit run wordKind upper same
 not-token k = tokens-one 78 (bytes "OT " ++ k) NOT 2 refl refl ∙ ap (λ l. tok NOT (bytes "NOT") ∷ l) (tokens-space k)
 
--- a test without brackets, whatever stands behind it
+-- a test without brackets, whatever stands after it
 pub record Item (s : List ℕ) (x : Ast) : Type 0 where
   pub no-not : (k : List ℕ) → Boundary k → kind (tokens (s ++ k)) ≡ NOT → ⊥
   pub no-open : (k : List ℕ) → Boundary k → kind (tokens (s ++ k)) ≡ OPEN → ⊥
@@ -119,7 +119,7 @@ test-pass : (n d : ℕ) (ts : List Token) → (kind ts ≡ OPEN → ⊥) → tes
 unfolding orE
 test-pass n d ts e = rw (ne-eqb (kind ts) OPEN e, test)
 
--- a bracket: what orE reads inside, and the closing bracket behind it
+-- a bracket: what orE reads inside, and the closing bracket after it
 test-open : (n d : ℕ) (x : Ast) (t c : Token) (ts r : List Token) → t .kind ≡ OPEN → c .kind ≡ CLOSE → orE n d ts ≡ got x (c ∷ r) → test (suc n) (suc d) (t ∷ ts) ≡ got x r
 unfolding orE kind rest
 test-open n d x t c ts r e f q =
@@ -198,7 +198,7 @@ inside d l s x b h k n q =
     let r = b .ors h (41 ∷ k) (close-boundary k) (λ e. omega arith) n q in
     r .2 ∙ (or-stop (r .0) d x (tokens (41 ∷ k)) (let w = r .1 in omega arith) (λ e. omega arith) ∙ ap (λ l. got x l) (close-token k))
 
--- the text of a bracket, with what stands behind it
+-- the text of a bracket, with what stands after it
 bracket-text : (s k : List ℕ) → (40 ∷ (s ++ (41 ∷ []))) ++ k ≡ 40 ∷ (s ++ (41 ∷ k))
 bracket-text s k = ap (λ l. 40 ∷ l) (append-assoc s (41 ∷ []) k)
 

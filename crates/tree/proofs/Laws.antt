@@ -13,7 +13,7 @@ use lib.Seq.{take-all}
 use lib.Dec.{ltb, leb, eqb}
 use borrow.Author.Tests.{ltb-true, ltb-false, le-ltb, lt-ltb, le-leb, lt-leb, eq-eqb}
 use Rattle.prelude.specs.Choice.{pick, some}
-use Rattle.tree.specs.Accepted.{settingsBody}
+use Rattle.tree.specs.Accepted.{precisionAt, ciAt, aiAt, caiAt, settingsBody}
 use Rattle.tree.specs.Limits.{mantissaLimit, precisionLimit}
 use Rattle.record.specs.Record.{le16}
 use Rattle.charset.specs.Charset.{name}
@@ -119,17 +119,34 @@ pub between-number : (o : Op) → isBetween o ≡ betweenNumber (opNumber o)
 unfolding isBetween some
 between-number o = refl
 
--- The settings, name by name: a, b, d are the length bytes that the code has read.
+-- The settings, name by name: p is the precision byte that the code has read, ai and cai are where it has found the second and the third name.
 
-module _ (s : List ℕ) (p a b d : ℕ) (ep : p ≡ getD s 6 0) (low : p ≤ precisionLimit) (ci : namedAt s 7 ≡ true) (ea : a ≡ getD s 7 0) where
-  pub settings-ai : namedAt s (8 + a) ≡ false → settingsBody s ≡ false
-  unfolding settingsBody
-  settings-ai h = simp (← ep, le-leb p precisionLimit low, ci, ← ea, h)
+pub cai-is : (s : List ℕ) (ai d : ℕ) → ai ≡ aiAt s → d ≡ getD s ai 0 → ai + 1 + d ≡ caiAt s
+cai-is s ai d e f = let g : getD s ai 0 ≡ getD s (aiAt s) 0 = ap (λ (i : ℕ). getD s i 0) e in omega arith
 
-  pub settings-cai : namedAt s (8 + a) ≡ true → b ≡ getD s (8 + a) 0 → namedAt s (8 + a + 1 + b) ≡ false → settingsBody s ≡ false
+module _ (s : List ℕ) (p : ℕ) (ep : p ≡ getD s precisionAt 0) where
+  pub settings-precision : precisionLimit < p → settingsBody s ≡ false
   unfolding settingsBody
-  settings-cai h eb k = simp (← ep, le-leb p precisionLimit low, ci, ← ea, h, ← eb, k)
+  settings-precision h = simp (← ep, lt-leb p precisionLimit h)
 
-  pub settings-end : namedAt s (8 + a) ≡ true → b ≡ getD s (8 + a) 0 → namedAt s (8 + a + 1 + b) ≡ true → d ≡ getD s (8 + a + 1 + b) 0 → eqb (8 + a + 1 + b + 1 + d) (length s) ≡ settingsBody s
-  unfolding settingsBody
-  settings-end h eb k ed = simp (← ep, le-leb p precisionLimit low, ci, ← ea, h, ← eb, k, ← ed)
+  module _ (low : p ≤ precisionLimit) where
+    pub settings-ci : namedAt s (ciAt s) ≡ false → settingsBody s ≡ false
+    unfolding settingsBody
+    settings-ci h = simp (← ep, le-leb p precisionLimit low, h)
+
+    module _ (ci : namedAt s (ciAt s) ≡ true) (ai : ℕ) (ea : ai ≡ aiAt s) where
+      pub settings-ai : namedAt s ai ≡ false → settingsBody s ≡ false
+      unfolding settingsBody
+      settings-ai h = simp (← ep, le-leb p precisionLimit low, ci, ap (namedAt s) (sym ea) ∙ h)
+
+      module _ (named : namedAt s ai ≡ true) (cai : ℕ) (ec : cai ≡ caiAt s) where
+        pub settings-cai : namedAt s cai ≡ false → settingsBody s ≡ false
+        unfolding settingsBody
+        settings-cai h = simp (← ep, le-leb p precisionLimit low, ci, ap (namedAt s) (sym ea) ∙ named, ap (namedAt s) (sym ec) ∙ h)
+
+        pub settings-end : (d : ℕ) → namedAt s cai ≡ true → d ≡ getD s cai 0 → eqb (cai + 1 + d) (length s) ≡ settingsBody s
+        unfolding settingsBody
+        settings-end d h ed =
+            let g : getD s cai 0 ≡ getD s (caiAt s) 0 = ap (λ (i : ℕ). getD s i 0) ec in
+            let e : cai + 1 + d ≡ past s (caiAt s) = omega arith in
+            ap (λ (i : ℕ). eqb i (length s)) e ∙ simp (← ep, le-leb p precisionLimit low, ci, ap (namedAt s) (sym ea) ∙ named, ap (namedAt s) (sym ec) ∙ h)

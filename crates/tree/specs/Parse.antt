@@ -78,7 +78,7 @@ mantissa s i = signed (le64 s i)
 abbrev pub dateAt : List ℕ → Bool
 dateAt s = validDate (le16 s 0) (getD s 2 0) (getD s 3 0)
 
--- the name behind the length byte at i, as far as there are bytes; and where it ends
+-- the name after the length byte at i, as far as there are bytes; and where it ends
 abbrev pub nameAt : List ℕ → ℕ → List ℕ
 nameAt s i = take (getD s i 0) (drop (i + 1) s)
 

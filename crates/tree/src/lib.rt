@@ -1,14 +1,13 @@
 ghost use mathlib.Core.Path.{_≡_};
 ghost use mathlib.Core.Bool.{true};
-ghost use Prim.Native.Nat.{_+_, _-_, _≤_, _<_};
+ghost use Prim.Native.Nat.{_+_, _-_, _<_};
 ghost use lib.IntN.{natAbs};
 ghost use lib.Dec.{leb};
-ghost use lib.ListN.{length};
 ghost use Rattle.prelude.specs.Choice.{pick, both};
 ghost use Rattle.tree.specs.Limits.{mantissaLimit};
 ghost use Rattle.tree.specs.Parse.{signed, mantissa, namedAt, boolBody, numBody, strBody, dateBody, timestampBody, spatialBody, takesOne, takesTwo, readMonadic, readDyadic, readFunction, node, exactly, items};
 ghost use Rattle.tree.specs.Placed.{isBetween};
-ghost use Rattle.tree.specs.Accepted.{settingsBody, isSettings, accepted, verdict};
+ghost use Rattle.tree.specs.Accepted.{aiAt, caiAt, settingsBody, isSettings, accepted, verdict};
 ghost use Rattle.tree.specs.WalkWords.{seen, seenOne, seenTwo, seenAll, firstOf, taken, plainShape, pairShape, intervalShape, soundShape, fits, orMisplaced, leafOne, monadicOne, dyadicOne, functionOne, arrayOne, intervalOne};
 use op::Named;
 use op::Op;
@@ -44,6 +43,23 @@ pub const ARRAY: usize = 12;
 
 pub const INTERVAL: usize = 13;
 
+// The operators that the kinds and refusal 7 single out, by number.
+const MINUS: usize = 1;
+
+const NEG: usize = 7;
+
+const CASE_I: usize = 16;
+
+const ACCENT_I: usize = 17;
+
+const IS_BETWEEN: usize = 47;
+
+const IS_NOT_BETWEEN: usize = 48;
+
+const IS_NULL: usize = 51;
+
+const IS_NOT_NULL: usize = 52;
+
 // Document 01's limits.
 const TREE_LIMIT: usize = 32768;
 
@@ -60,6 +76,11 @@ const TEXT_LIMIT: usize = 4096;
 const PRECISION_LIMIT: usize = 15;
 
 const SETTINGS_KIND: usize = 100;
+
+// Where the settings' precision byte stands, and where the first of their names begins, with its length byte.
+pub const PRECISION_AT: usize = 6;
+
+pub const CI_AT: usize = 7;
 
 // What a caller hears of settings and a tree.
 pub enum Checked {
@@ -219,22 +240,22 @@ fn takes_one(o: Op) -> bool
     ensures { λ r. ⌜ r ≡ takesOne o ⌝ }
 {
     let n = op::op_number(o);
-    if n == 1 {
+    if n == MINUS {
         return true;
     }
-    if n == 7 {
+    if n == NEG {
         return true;
     }
-    if n == 16 {
+    if n == CASE_I {
         return true;
     }
-    if n == 17 {
+    if n == ACCENT_I {
         return true;
     }
-    if n == 51 {
+    if n == IS_NULL {
         return true;
     }
-    if n == 52 {
+    if n == IS_NOT_NULL {
         return true;
     }
     false
@@ -245,7 +266,7 @@ fn takes_two(o: Op) -> bool
     ensures { λ r. ⌜ r ≡ takesTwo o ⌝ }
 {
     if takes_one(o) {
-        op::op_number(o) == 1
+        op::op_number(o) == MINUS
     } else {
         true
     }
@@ -255,10 +276,10 @@ fn is_between(o: Op) -> bool
     ensures { λ r. ⌜ r ≡ isBetween o ⌝ }
 {
     let n = op::op_number(o);
-    if n == 47 {
+    if n == IS_BETWEEN {
         return true;
     }
-    if n == 48 {
+    if n == IS_NOT_BETWEEN {
         return true;
     }
     false
@@ -447,7 +468,7 @@ fn check_dyadic(s: &[u8], levels: usize) -> One
     }
 }
 
-// A name behind its length byte, and records to the end.
+// A name after its length byte, and records to the end.
 fn check_function(s: &[u8], levels: usize) -> One
     ensures { λ r. ⌜ r ≡ seen (readFunction (node levels) (now (s .entry))) ⌝ }
 {
@@ -546,18 +567,30 @@ fn check_many(s: &[u8], levels: usize) -> Items
     Items::ItemsAre { plain, count }
 }
 
+// Where the second and the third name begin.
+pub fn ai_at(s: &[u8]) -> usize
+    ensures { λ r. ⌜ (r ≡ aiAt (now (s .entry))) × (r < 264) ⌝ }
+{
+    CI_AT + 1 + record::byte_at(s, CI_AT)
+}
+
+pub fn cai_at(s: &[u8]) -> usize
+    ensures { λ r. ⌜ (r ≡ caiAt (now (s .entry))) × (r < 520) ⌝ }
+{
+    let ai = ai_at(s);
+    ai + 1 + record::byte_at(s, ai)
+}
+
 // Past the frame: a precision, three names, and nothing more.
 fn settings_body(s: &[u8]) -> bool
-    requires { ⌜ 6 ≤ length (now s) ⌝ }
     ensures { λ r. ⌜ r ≡ settingsBody (now (s .entry)) ⌝ }
 {
-    if PRECISION_LIMIT < record::byte_at(s, 6) {
+    if PRECISION_LIMIT < record::byte_at(s, PRECISION_AT) {
         return false;
     }
-    if named_at(s, 7) {
-        let ai = 8 + record::byte_at(s, 7);
-        if named_at(s, ai) {
-            let cai = ai + 1 + record::byte_at(s, ai);
+    if named_at(s, CI_AT) {
+        if named_at(s, ai_at(s)) {
+            let cai = cai_at(s);
             if named_at(s, cai) {
                 return cai + 1 + record::byte_at(s, cai) == s.len();
             }
