@@ -3,8 +3,8 @@ ghost use Prim.Native.Nat.{_≤_, _<_};
 ghost use lib.ListN.{length};
 ghost use Rattle.prelude.specs.Choice.{between, all};
 ghost use Rattle.charset.specs.Charset.{letter, digit, nameStart, nameByte, upper, uppers, reserved, freeWord, name, strByte, strText, spatialByte, spatialText};
-ghost use Rattle.charset.specs.Classes.{classByte};
-ghost use Rattle.charset.specs.WordKey.{keyOf, Bytes, mayBe};
+ghost use Rattle.charset.specs.ClassWords.{classByte};
+ghost use Rattle.charset.specs.KeyWords.{keyOf, Bytes, mayBe};
 
 // The most bytes of a name.
 const NAME_LIMIT: usize = 64;

@@ -1,8 +1,7 @@
 // Replays records of the leaf kinds, each with the text that the Rust itself wrote. A case: the record, the text.
 // A case is right if the crate `literal` writes that text into a buffer that just holds it, changes no byte beside it,
 // and changes nothing where the buffer is one byte short.
-ghost use Prim.Native.Nat.{_+_, _≤_, _<_, _^_};
-ghost use lib.ListN.{length};
+ghost use Prim.Native.Nat.{_+_, _<_, _^_};
 use input::Part;
 use replay::Turn;
 

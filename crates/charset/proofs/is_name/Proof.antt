@@ -8,11 +8,6 @@ use Rattle.charset.proofs.Laws.{rest-tells}
 use borrow.Author.Needs.{needs}
 use Rattle.charset.proofs.is_name.Statement.{statement}
 use Rattle.charset.proofs.is_name.Tie as tie
-use Rattle.charset.proofs.is_name.Reads as reads
-use Rattle.charset.proofs.is_name.Lts as lts
-use Rattle.charset.proofs.are_all.Reads as are-all-reads
-use Rattle.charset.proofs.is_name_start.Reads as is-name-start-reads
-use Rattle.charset.proofs.is_reserved.Reads as is-reserved-reads
 
 returns : tie.Need-returns
 unfolding name

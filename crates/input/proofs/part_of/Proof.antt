@@ -4,9 +4,6 @@ use Rattle.input.specs.Part.{partOf}
 use borrow.Author.Needs.{needs}
 use Rattle.input.proofs.part_of.Statement.{statement}
 use Rattle.input.proofs.part_of.Tie as tie
-use Rattle.input.proofs.part_of.Reads as reads
-use Rattle.input.proofs.part_of.Lts as lts
-use Rattle.input.proofs.length_in.Reads as length-in-reads
 
 returns : tie.Need-returns
 unfolding partOf

@@ -1,11 +1,9 @@
 -- `op_replay::same` stays in bounds and ends: i counts up to the common length.
-use Prim.Native.Nat.{_≤_, _-_, _+_}
+use Prim.Native.Nat.{_≤_, _-_}
 use lib.ListN.{length}
 use borrow.Author.Needs.{needs}
 use Rattle.op_replay.proofs.same.Statement.{statement}
 use Rattle.op_replay.proofs.same.Tie as tie
-use Rattle.op_replay.proofs.same.Reads as reads
-use Rattle.op_replay.proofs.same.Lts as lts
 
 abbrev Inv-loop : tie.InvT-loop
 Inv-loop s t i₀ i = i ≤ length s
