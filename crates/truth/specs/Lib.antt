@@ -8,3 +8,4 @@ pub mod PlaceWords
 pub mod LexLaws
 pub mod GrammarLaws
 pub mod MissingLaws
+pub mod ReadingLaws
