@@ -30,47 +30,21 @@ fn blank_buffer() -> [u8; 65536]
     [BLANK; 65536]
 }
 
-fn starts_with<'a>(out: &'a [u8], text: &'a [u8]) -> bool {
-    if out.len() < text.len() {
-        return false;
-    }
-    let mut k = 0;
-    while k < text.len() {
-        if out[k] != text[k] {
-            return false;
-        }
-        k += 1;
-    }
-    true
-}
-
-// Whether the bytes from a place on are as they were before the call.
-fn blank_from(out: &[u8], from: usize) -> bool {
-    let mut k = from;
-    while k < out.len() {
-        if out[k] != BLANK {
-            return false;
-        }
-        k += 1;
-    }
-    true
-}
-
 fn text_found<'a>(n: usize, text: &'a [u8], out: &'a [u8]) -> u8 {
-    if n != text.len() {
+    if !check::same(input::first(out, n), text) {
         return OTHER_TEXT;
     }
-    if !starts_with(out, text) {
+    if out.len() < n {
         return OTHER_TEXT;
     }
-    if !blank_from(out, n) {
+    if !replay::all_are(&out[n..], BLANK) {
         return BYTE_CHANGED;
     }
     0
 }
 
 fn refusal_found(number: u8, out: &[u8]) -> u8 {
-    if !blank_from(out, 0) {
+    if !replay::all_are(out, BLANK) {
         return BYTE_CHANGED;
     }
     number

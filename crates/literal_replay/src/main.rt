@@ -103,17 +103,6 @@ fn write_leaf(kind: usize, body: &[u8], out: &mut [u8]) -> usize {
     }
 }
 
-fn blank(s: &[u8]) -> bool {
-    let mut i = 0;
-    while i < s.len() {
-        if s[i] != BLANK {
-            return false;
-        }
-        i += 1;
-    }
-    true
-}
-
 // Into a part of the buffer that just holds the text.
 fn fits(kind: usize, body: &[u8], text: &[u8], out: &mut [u8]) -> bool {
     let end = START + text.len();
@@ -127,8 +116,8 @@ fn fits(kind: usize, body: &[u8], text: &[u8], out: &mut [u8]) -> bool {
         return false;
     }
     if check::same(&out[START..end], text) {
-        if blank(&out[0..START]) {
-            return blank(&out[end..]);
+        if replay::all_are(&out[0..START], BLANK) {
+            return replay::all_are(&out[end..], BLANK);
         }
     }
     false
@@ -143,7 +132,7 @@ fn falls_short(kind: usize, body: &[u8], text: &[u8], out: &mut [u8]) -> bool {
     if write_leaf(kind, body, &mut out[0..short]) != START {
         return false;
     }
-    blank(out)
+    replay::all_are(out, BLANK)
 }
 
 // The length that is known before a number is written.
