@@ -12,7 +12,7 @@ use Rattle.gpkg.specs.Lowered as lowered
 use Rattle.truth.specs.declared.Reading.{Reading}
 use Rattle.truth.specs.declared.Reading.the-variants.{True, False, Unknown, Refused as NoTruth}
 use Rattle.truth.specs.Reading as reading
-use Rattle.capi.specs.Numbers.{minus, loweringNumber, readingNumber}
+use Rattle.capi.specs.Numbers.{loweringNumber, readingNumber}
 
 -- the refusal whose number is n + 1
 abbrev refusalAt : ℕ → Refusal

@@ -5,17 +5,18 @@ use mathlib.Core.List.{List, _++_, append-assoc}
 use mathlib.Core.Bool.{Bool, true, false}
 use native.Mathlib.Omega.{arith}
 use lib.ListN.{length, drop, length-append}
-use Rattle.prelude.specs.Choice.{both}
+use Rattle.prelude.specs.Choice.{both, pick}
 use Rattle.record.specs.Record.{le16}
-use Rattle.tree.specs.Tree.{Tree, encode, null, unbounded, bool, num, str, date, timestamp, spatial, id, monadic, dyadic, function, array, interval}
-use Rattle.tree.specs.Placed.{isInterval}
+use Rattle.tree.specs.Tree.{Tree, encode, null, unbounded, interval, kindOf}
+use Rattle.tree.specs.Tests.{isInterval, isId, startOf, stopOf, first, second, children}
 use Rattle.sql.specs.declared.End as end
 use Rattle.sql.specs.declared.End.the-variants.{Column, Instant, Other, Open, Null}
 use Rattle.sql.specs.declared.Operand.the-variants.{Single, Interval}
-use Rattle.gpkg.specs.Text.{isId, startOf, stopOf}
 use Rattle.gpkg.specs.Plan.{Inside, part, Is, IsOperand, Stands, EndOf, sound}
-use Rattle.gpkg.proofs.Records.{kindOf, bodyOf, kind-at, beyond, part-at, ends-at, size-of, long-at}
+use Rattle.gpkg.proofs.Records.{bodyOf, kind-at, beyond, part-at, ends-at, size-of, long-at}
 use Rattle.gpkg.proofs.Literals.{id-no, id-true, body-at}
+use Rattle.tree.specs.TestsLaws.{OfKind, of-null, of-unbounded, of-interval, kind-is}
+use borrow.Author.Tests.{ne-eqb}
 
 never : {A : Type 0} → ⊥ → A
 never v = absurd v
@@ -38,52 +39,22 @@ stands-part {s} {a} {z} {x} h =
     )
 
 null-of : (x : Tree) → kindOf x ≡ 0 → x ≡ null
-null-of null e = refl
-null-of unbounded e = absurd (let v : ⊥ = omega arith in v)
-null-of (bool b) e = absurd (let v : ⊥ = omega arith in v)
-null-of (num m s) e = absurd (let v : ⊥ = omega arith in v)
-null-of (str f s) e = absurd (let v : ⊥ = omega arith in v)
-null-of (date y m d) e = absurd (let v : ⊥ = omega arith in v)
-null-of (timestamp y m d h i s) e = absurd (let v : ⊥ = omega arith in v)
-null-of (spatial n s) e = absurd (let v : ⊥ = omega arith in v)
-null-of (id s) e = absurd (let v : ⊥ = omega arith in v)
-null-of (monadic o t) e = absurd (let v : ⊥ = omega arith in v)
-null-of (dyadic o t u) e = absurd (let v : ⊥ = omega arith in v)
-null-of (function n ts) e = absurd (let v : ⊥ = omega arith in v)
-null-of (array ts) e = absurd (let v : ⊥ = omega arith in v)
-null-of (interval t u) e = absurd (let v : ⊥ = omega arith in v)
+null-of x e = go x (kind-is 0 x e)
+  where
+    go : (t : Tree) → OfKind 0 t → t ≡ null
+    go t of-null = refl
 
 open-of : (x : Tree) → kindOf x ≡ 1 → x ≡ unbounded
-open-of null e = absurd (let v : ⊥ = omega arith in v)
-open-of unbounded e = refl
-open-of (bool b) e = absurd (let v : ⊥ = omega arith in v)
-open-of (num m s) e = absurd (let v : ⊥ = omega arith in v)
-open-of (str f s) e = absurd (let v : ⊥ = omega arith in v)
-open-of (date y m d) e = absurd (let v : ⊥ = omega arith in v)
-open-of (timestamp y m d h i s) e = absurd (let v : ⊥ = omega arith in v)
-open-of (spatial n s) e = absurd (let v : ⊥ = omega arith in v)
-open-of (id s) e = absurd (let v : ⊥ = omega arith in v)
-open-of (monadic o t) e = absurd (let v : ⊥ = omega arith in v)
-open-of (dyadic o t u) e = absurd (let v : ⊥ = omega arith in v)
-open-of (function n ts) e = absurd (let v : ⊥ = omega arith in v)
-open-of (array ts) e = absurd (let v : ⊥ = omega arith in v)
-open-of (interval t u) e = absurd (let v : ⊥ = omega arith in v)
+open-of x e = go x (kind-is 1 x e)
+  where
+    go : (t : Tree) → OfKind 1 t → t ≡ unbounded
+    go t of-unbounded = refl
 
 pub interval-of : (x : Tree) → kindOf x ≡ 13 → (p : Tree) × ((q : Tree) × (x ≡ interval p q))
-interval-of null e = absurd (let v : ⊥ = omega arith in v)
-interval-of unbounded e = absurd (let v : ⊥ = omega arith in v)
-interval-of (bool b) e = absurd (let v : ⊥ = omega arith in v)
-interval-of (num m s) e = absurd (let v : ⊥ = omega arith in v)
-interval-of (str f s) e = absurd (let v : ⊥ = omega arith in v)
-interval-of (date y m d) e = absurd (let v : ⊥ = omega arith in v)
-interval-of (timestamp y m d h i s) e = absurd (let v : ⊥ = omega arith in v)
-interval-of (spatial n s) e = absurd (let v : ⊥ = omega arith in v)
-interval-of (id s) e = absurd (let v : ⊥ = omega arith in v)
-interval-of (monadic o t) e = absurd (let v : ⊥ = omega arith in v)
-interval-of (dyadic o t u) e = absurd (let v : ⊥ = omega arith in v)
-interval-of (function n ts) e = absurd (let v : ⊥ = omega arith in v)
-interval-of (array ts) e = absurd (let v : ⊥ = omega arith in v)
-interval-of (interval t u) e = (t, (u, refl))
+interval-of x e = go x (kind-is 13 x e)
+  where
+    go : (t : Tree) → OfKind 13 t → (p : Tree) × ((q : Tree) × (t ≡ interval p q))
+    go t (of-interval p q) = (p, (q, refl))
 
 record Alone (x : Tree) : Type 0 where
   pub plain : isInterval x ≡ false
@@ -92,20 +63,13 @@ record Alone (x : Tree) : Type 0 where
 
 alone : (x : Tree) → (kindOf x ≡ 13 → ⊥) → Alone x
 unfolding isInterval startOf stopOf
-alone null e = record { plain = refl; starts = refl; stops = refl }
-alone unbounded e = record { plain = refl; starts = refl; stops = refl }
-alone (bool b) e = record { plain = refl; starts = refl; stops = refl }
-alone (num m s) e = record { plain = refl; starts = refl; stops = refl }
-alone (str f s) e = record { plain = refl; starts = refl; stops = refl }
-alone (date y m d) e = record { plain = refl; starts = refl; stops = refl }
-alone (timestamp y m d h i s) e = record { plain = refl; starts = refl; stops = refl }
-alone (spatial n s) e = record { plain = refl; starts = refl; stops = refl }
-alone (id s) e = record { plain = refl; starts = refl; stops = refl }
-alone (monadic o t) e = record { plain = refl; starts = refl; stops = refl }
-alone (dyadic o t u) e = record { plain = refl; starts = refl; stops = refl }
-alone (function n ts) e = record { plain = refl; starts = refl; stops = refl }
-alone (array ts) e = record { plain = refl; starts = refl; stops = refl }
-alone (interval t u) e = never (e refl)
+alone x e =
+    let p : isInterval x ≡ false = ne-eqb (kindOf x) 13 e in
+    record {
+      plain = p;
+      starts = ap (λ (b : Bool). pick b (first (children x)) x) p;
+      stops = ap (λ (b : Bool). pick b (second (children x)) null) p;
+    }
 
 pub null-is : (s : List ℕ) → Is s Null null
 unfolding isId sound
@@ -186,7 +150,7 @@ halves {s} {a} {z} {k} {p} {m} {x} h e q l n =
     }
 
 pub interval-is : {s : List ℕ} {p m z : ℕ} {x : Tree} {e f : end.End} (h : Halves s p m z x) → Is s e (h .first) → Is s f (h .second) → IsOperand s (Interval e f) x
-unfolding isInterval startOf stopOf
+unfolding isInterval startOf stopOf first second
 interval-is {s} {p} {m} {z} {x} {e} {f} h i j = record {
   split = sym (ap isInterval (h .whole));
   starts = subst (λ (y : Tree). Is s e (startOf y)) (sym (h .whole)) i;

@@ -8,15 +8,14 @@ use lib.IntN.{ℤ, natAbs}
 use lib.Dec.{eqb, leb}
 use borrow.Author.Tests.{leb-true, ltb-true}
 use Rattle.prelude.specs.Choice.{pick}
-use Rattle.record.specs.Record.{le, recordOf}
+use Rattle.record.specs.Record.{le, recordOf, le64}
 use Rattle.tree.specs.Limits.{mantissaLimit}
-use Rattle.tree.specs.Parse.{le64, signed, mantissa}
+use Rattle.tree.specs.Parse.{signed, mantissa}
 use Rattle.tree.specs.ByteLaws.{le16-le, le32-le, le64-le, signed-twos, twos-low}
-use Rattle.tree.specs.Tree.{Tree, Settings, encode, twos, dateBytes, null, unbounded, bool, num, str, date, timestamp, spatial, id, monadic, dyadic, function, array, interval}
+use Rattle.tree.specs.Tree.{Tree, Settings, encode, twos, dateBytes, null, unbounded, bool, num, str, date, timestamp, spatial, id, monadic, dyadic, function, array, interval, kindOf}
 use Rattle.literal.specs.Literal.{numText, boolText, dateText, timestampText, spatialText, quoted, collate, strText}
 use Rattle.gpkg.specs.Text.{text}
 use Rattle.gpkg.specs.Plan.{leafText, sound, collation}
-use Rattle.gpkg.proofs.Records.{kindOf}
 
 -- a Bool is not both
 pub clash : {A : Type 0} → _≡_ {A = Bool} false true → A

@@ -8,10 +8,14 @@ use lib.ListN.{length, drop, length-append, length-drop, drop-of-length-le}
 use lib.Seq.{drop-drop}
 use Rattle.prelude.specs.Choice.{both, either, between}
 use Rattle.record.specs.Record.{le16, recordOf}
-use Rattle.tree.specs.Tree.{Tree, Trees, encode, encodes, null, unbounded, bool, num, str, date, timestamp, spatial, id, monadic, dyadic, function, array, interval, none, _then_}
-use Rattle.gpkg.specs.Text.{isLiteral, allLiteral, isId, isLiteralOrId}
+use Rattle.tree.specs.Tree.{Tree, Trees, encode, encodes, null, unbounded, bool, num, str, date, timestamp, spatial, id, monadic, dyadic, function, array, interval, none, _then_, kindOf}
+use Rattle.tree.specs.Tests.{isLiteral, allLiteral, isId, isLiteralOrId, everywhereIn, everywhere}
 use Rattle.gpkg.specs.Plan.{EndOf}
-use Rattle.gpkg.proofs.Records.{kindOf, bodyOf, shape, kind-at, beyond, long, long-at}
+use Rattle.gpkg.proofs.Records.{bodyOf, shape, kind-at, beyond, long, long-at}
+use Rattle.tree.specs.TestsLaws.{OfKind, of-array, kind-is}
+use borrow.Author.Tests.{eq-eqb, ne-eqb}
+use Rattle.prelude.specs.ChoiceLaws.{between-true}
+use Rattle.tree.specs.EncodeLaws.{between-is}
 
 never : {A : Type 0} → ⊥ → A
 never v = absurd v
@@ -34,95 +38,52 @@ both-true true = refl
 both-true false = refl
 
 literal-join : (ts us : Trees) → allLiteral (join ts us) ≡ both (allLiteral ts) (allLiteral us)
-unfolding allLiteral
+unfolding allLiteral everywhereIn everywhere isLiteral
 literal-join none us = refl
 literal-join (t then ts) us = ap (λ (b : Bool). both (isLiteral t) b) (literal-join ts us) ∙ both-assoc (isLiteral t) (allLiteral ts) (allLiteral us)
 
 -- what the kind decides
 
+literal-kind : (u : Tree) → (kindOf u ≡ 12 → ⊥) → isLiteral u ≡ between 2 (kindOf u) 7
+unfolding isLiteral everywhere
+literal-kind null g = refl
+literal-kind unbounded g = refl
+literal-kind (bool b) g = refl
+literal-kind (num m s) g = refl
+literal-kind (str f s) g = refl
+literal-kind (date y m d) g = refl
+literal-kind (timestamp y m d k i s) g = refl
+literal-kind (spatial n s) g = refl
+literal-kind (id s) g = refl
+literal-kind (monadic o t) g = refl
+literal-kind (dyadic o t v) g = refl
+literal-kind (function n ts) g = refl
+literal-kind (array ts) g = never (g refl)
+literal-kind (interval t v) g = refl
+
 lit-yes : (u : Tree) → 2 ≤ kindOf u → kindOf u ≤ 7 → isLiteral u ≡ true
-unfolding isLiteral
-lit-yes null h g = absurd (let v : ⊥ = omega arith in v)
-lit-yes unbounded h g = absurd (let v : ⊥ = omega arith in v)
-lit-yes (bool b) h g = refl
-lit-yes (num m s) h g = refl
-lit-yes (str f s) h g = refl
-lit-yes (date y m d) h g = refl
-lit-yes (timestamp y m d k i s) h g = refl
-lit-yes (spatial n s) h g = refl
-lit-yes (id s) h g = absurd (let v : ⊥ = omega arith in v)
-lit-yes (monadic o t) h g = absurd (let v : ⊥ = omega arith in v)
-lit-yes (dyadic o t v) h g = absurd (let z : ⊥ = omega arith in z)
-lit-yes (function n ts) h g = absurd (let v : ⊥ = omega arith in v)
-lit-yes (array ts) h g = absurd (let v : ⊥ = omega arith in v)
-lit-yes (interval t v) h g = absurd (let z : ⊥ = omega arith in z)
+lit-yes u h g = literal-kind u (λ e. omega arith) ∙ between-is 2 (kindOf u) 7 h g
 
 lit-no : (u : Tree) → (2 ≤ kindOf u → kindOf u ≤ 7 → ⊥) → (kindOf u ≡ 12 → ⊥) → isLiteral u ≡ false
-unfolding isLiteral
-lit-no null h g = refl
-lit-no unbounded h g = refl
-lit-no (bool b) h g = never (h (omega arith) (omega arith))
-lit-no (num m s) h g = never (h (omega arith) (omega arith))
-lit-no (str f s) h g = never (h (omega arith) (omega arith))
-lit-no (date y m d) h g = never (h (omega arith) (omega arith))
-lit-no (timestamp y m d k i s) h g = never (h (omega arith) (omega arith))
-lit-no (spatial n s) h g = never (h (omega arith) (omega arith))
-lit-no (id s) h g = refl
-lit-no (monadic o t) h g = refl
-lit-no (dyadic o t v) h g = refl
-lit-no (function n ts) h g = refl
-lit-no (array ts) h g = never (g refl)
-lit-no (interval t v) h g = refl
+lit-no u h g = literal-kind u g ∙ go (between 2 (kindOf u) 7) refl
+  where
+    go : (b : Bool) → between 2 (kindOf u) 7 ≡ b → b ≡ false
+    go true e = let r = between-true 2 (kindOf u) 7 e in never (h (r .0) (r .1))
+    go false e = refl
 
 id-yes : (u : Tree) → kindOf u ≡ 8 → isId u ≡ true
 unfolding isId
-id-yes null h = absurd (let v : ⊥ = omega arith in v)
-id-yes unbounded h = absurd (let v : ⊥ = omega arith in v)
-id-yes (bool b) h = absurd (let v : ⊥ = omega arith in v)
-id-yes (num m s) h = absurd (let v : ⊥ = omega arith in v)
-id-yes (str f s) h = absurd (let v : ⊥ = omega arith in v)
-id-yes (date y m d) h = absurd (let v : ⊥ = omega arith in v)
-id-yes (timestamp y m d k i s) h = absurd (let v : ⊥ = omega arith in v)
-id-yes (spatial n s) h = absurd (let v : ⊥ = omega arith in v)
-id-yes (id s) h = refl
-id-yes (monadic o t) h = absurd (let v : ⊥ = omega arith in v)
-id-yes (dyadic o t v) h = absurd (let z : ⊥ = omega arith in z)
-id-yes (function n ts) h = absurd (let v : ⊥ = omega arith in v)
-id-yes (array ts) h = absurd (let v : ⊥ = omega arith in v)
-id-yes (interval t v) h = absurd (let z : ⊥ = omega arith in z)
+id-yes u h = eq-eqb (kindOf u) 8 h
 
 pub id-no : (u : Tree) → (kindOf u ≡ 8 → ⊥) → isId u ≡ false
 unfolding isId
-id-no null h = refl
-id-no unbounded h = refl
-id-no (bool b) h = refl
-id-no (num m s) h = refl
-id-no (str f s) h = refl
-id-no (date y m d) h = refl
-id-no (timestamp y m d k i s) h = refl
-id-no (spatial n s) h = refl
-id-no (id s) h = never (h refl)
-id-no (monadic o t) h = refl
-id-no (dyadic o t v) h = refl
-id-no (function n ts) h = refl
-id-no (array ts) h = refl
-id-no (interval t v) h = refl
+id-no u h = ne-eqb (kindOf u) 8 h
 
 array-of : (u : Tree) → kindOf u ≡ 12 → (ts : Trees) × (u ≡ array ts)
-array-of null h = absurd (let v : ⊥ = omega arith in v)
-array-of unbounded h = absurd (let v : ⊥ = omega arith in v)
-array-of (bool b) h = absurd (let v : ⊥ = omega arith in v)
-array-of (num m s) h = absurd (let v : ⊥ = omega arith in v)
-array-of (str f s) h = absurd (let v : ⊥ = omega arith in v)
-array-of (date y m d) h = absurd (let v : ⊥ = omega arith in v)
-array-of (timestamp y m d k i s) h = absurd (let v : ⊥ = omega arith in v)
-array-of (spatial n s) h = absurd (let v : ⊥ = omega arith in v)
-array-of (id s) h = absurd (let v : ⊥ = omega arith in v)
-array-of (monadic o t) h = absurd (let v : ⊥ = omega arith in v)
-array-of (dyadic o t v) h = absurd (let z : ⊥ = omega arith in z)
-array-of (function n ts) h = absurd (let v : ⊥ = omega arith in v)
-array-of (array ts) h = (ts, refl)
-array-of (interval t v) h = absurd (let z : ⊥ = omega arith in z)
+array-of u h = go u (kind-is 12 u h)
+  where
+    go : (t : Tree) → OfKind 12 t → (ts : Trees) × (t ≡ array ts)
+    go t (of-array ts) = (ts, refl)
 
 -- the body of the record at p
 pub body-at : (s : List ℕ) (p : ℕ) (x : Tree) (rest : List ℕ) → drop p s ≡ encode x ++ rest → drop (p + 6) s ≡ bodyOf x ++ rest
@@ -137,11 +98,11 @@ pub record Left (s : List ℕ) (p : ℕ) (t : Tree) : Type 0 where
   pub same : isLiteral t ≡ allLiteral us
 
 pub left-start : (s : List ℕ) (t : Tree) → s ≡ encode t → Left s 0 t
-unfolding encodes allLiteral
+unfolding encodes allLiteral everywhereIn everywhere isLiteral
 left-start s t e = record { us = t then none; there = e ∙ sym (append-nil (encode t)); same = sym (both-true (isLiteral t)) }
 
 pub left-end : {s : List ℕ} {p : ℕ} {t : Tree} → length s ≤ p → Left s p t → true ≡ isLiteral t
-unfolding encodes allLiteral
+unfolding encodes allLiteral everywhereIn everywhere isLiteral
 left-end {s} {p} {t} h l = go (l .us) (l .there) (l .same)
   where
     go : (us : Trees) → drop p s ≡ encodes us → isLiteral t ≡ allLiteral us → true ≡ isLiteral t
@@ -159,7 +120,7 @@ pub record Front (s : List ℕ) (p : ℕ) (t : Tree) : Type 0 where
   pub same : isLiteral t ≡ both (isLiteral u) (allLiteral vs)
 
 front : {s : List ℕ} {p : ℕ} {t : Tree} → p < length s → Left s p t → Front s p t
-unfolding encodes allLiteral
+unfolding encodes allLiteral everywhereIn everywhere isLiteral
 front {s} {p} {t} h l = go (l .us) (l .there) (l .same)
   where
     go : (us : Trees) → drop p s ≡ encodes us → isLiteral t ≡ allLiteral us → Front s p t
@@ -173,7 +134,7 @@ pub left-long : {s : List ℕ} {p : ℕ} {t : Tree} → p < length s → Left s 
 left-long {s} {p} h l = let f = front h l in long-at s p (f .u) (encodes (f .vs)) (f .at)
 
 pub left-array : {s : List ℕ} {p k : ℕ} {t : Tree} → p < length s → k ≡ le16 s (p + 4) → k ≡ 12 → Left s p t → Left s (p + 6) t
-unfolding isLiteral
+unfolding isLiteral everywhere allLiteral everywhereIn
 left-array {s} {p} {k} {t} h e q l =
     let f = front h l in
     let a : kindOf (f .u) ≡ 12 = sym (kind-at s p (f .u) (encodes (f .vs)) (f .at)) ∙ sym e ∙ q in
@@ -214,7 +175,7 @@ kind-whole s t e = kind-at s 0 t [] (whole s t e)
 
 -- what the kind of any tree but an array tells
 pub kind-tells : (s : List ℕ) (k : ℕ) (t : Tree) → s ≡ encode t → k ≡ le16 s 4 → (k ≡ 12 → ⊥) → between 2 k 8 ≡ isLiteralOrId t
-unfolding isLiteralOrId isLiteral isId
+unfolding isLiteralOrId isLiteral isId everywhere
 kind-tells s k t e q z = ap (λ (n : ℕ). between 2 n 8) w ∙ go t (λ y. z (w ∙ y))
   where
     w : k ≡ kindOf t

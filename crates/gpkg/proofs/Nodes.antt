@@ -13,17 +13,19 @@ use Rattle.op.specs.declared.Op.{Op}
 use Rattle.op.specs.declared.Op.the-variants.{Minus, Neg, CaseI, AccentI, STouches, SWithin, SOverlaps, IsLike, IsNotLike}
 use Rattle.op.specs.Op.{opNumber, oneOf, isArray, isSpatial, isTemporal, isNullable}
 use Rattle.op.specs.OpLaws.{agree, number-below}
-use Rattle.tree.specs.Tree.{Tree, Settings, encode, null, unbounded, bool, num, str, date, timestamp, spatial, id, monadic, dyadic, function, array, interval, none, _then_}
-use Rattle.tree.specs.Parse.{first, second}
-use Rattle.tree.specs.Placed.{isInterval, isBetween}
-use Rattle.literal.specs.Literal.{collate}
+use Rattle.tree.specs.Tree.{Tree, Trees, Settings, encode, null, unbounded, bool, num, str, date, timestamp, spatial, id, monadic, dyadic, function, array, interval, none, _then_, kindOf}
+use Rattle.tree.specs.Tests as trees
+use Rattle.tree.specs.Tests.{first, second, isInterval, isId, isLiteralOrId, isMonadic, isItems, startOf, stopOf, endsOf, columnsOf, byOperator}
+use Rattle.tree.specs.Placed.{isBetween}
+use Rattle.literal.specs.Literal.{collate, nullText}
 use Rattle.sql.specs.Translators.{translate}
 use Rattle.sql.specs.Template.{fill, templateOf}
 use Rattle.sql.specs.TemplateLaws.{translate-fills, translate-same}
-use Rattle.gpkg.specs.Text.{isId, isLiteralOrId, isMonadic, isItems, startOf, stopOf, endsOf, columnsOf, bare, reducePrecision, monadicText, reduces, startText, stopText, boundText, dyadicText, text, children, texts}
+use Rattle.gpkg.specs.Text.{bare, reducePrecision, monadicText, reduces, startText, stopText, boundText, dyadicText, text, children, texts}
 use Rattle.op.specs.Spelling.{word}
 use Rattle.gpkg.specs.Plan.{twin, twinOf, underOf, operandOf, itemsOf, nameOf, beforeText, behindText, collationFlags, slot, reducedText, infixText, leftBare, rightBare}
-use Rattle.gpkg.proofs.Records.{kindOf}
+use Rattle.tree.specs.TestsLaws.{OfKind, of-array, of-interval, kind-is, interval-is}
+use borrow.Author.Tests.{eqb-true}
 
 -- Classes of operators, by number.
 
@@ -70,7 +72,7 @@ unfolding encode recordOf
 op-at p t = let h = number-below p in omega arith
 
 inner-of : (t : Tree) (k : ℕ) (o : Op) → k ≡ opNumber o → isMonadic o t ≡ pick (eqb (kindOf t) 9) (eqb (le16 (encode t) 6) k) false
-unfolding isMonadic encode recordOf
+unfolding isMonadic encode recordOf byOperator
 inner-of null k o e = refl
 inner-of unbounded k o e = refl
 inner-of (bool b) k o e = refl
@@ -105,7 +107,7 @@ is-twin o t =
 
 -- the operand's text under a twin
 under-text : (g : Settings) (o : Op) (t : Tree) → isMonadic o t ≡ true → getD (children g t) 0 [] ≡ text g (underOf t)
-unfolding isMonadic children underOf
+unfolding isMonadic children underOf byOperator first
 under-text g o null e = absurd (let z : _≡_ {A = ℕ} 0 1 = cc in let v : ⊥ = omega arith in v)
 under-text g o unbounded e = absurd (let z : _≡_ {A = ℕ} 0 1 = cc in let v : ⊥ = omega arith in v)
 under-text g o (bool b) e = absurd (let z : _≡_ {A = ℕ} 0 1 = cc in let v : ⊥ = omega arith in v)
@@ -187,76 +189,62 @@ apart a n b c d e h = go (between c n d) refl
         absurd (h (let v : c ≤ b = omega (arith, r .1, q .0) in v) (let v : a ≤ d = omega (arith, r .0, q .1) in v))
     go false w = refl
 
+first-item : (g : Settings) (ts : Trees) → getD (texts g ts) 0 nullText ≡ text g (first ts)
+unfolding texts first text
+first-item g none = refl
+first-item g (t then ts) = refl
+
+second-item : (g : Settings) (ts : Trees) → getD (texts g ts) 1 nullText ≡ text g (second ts)
+unfolding texts first second text
+second-item g none = refl
+second-item g (t then none) = refl
+second-item g (t then (u then ts)) = refl
+
+-- a bound: an array's item, or Null where there is no array
 bound-0 : (g : Settings) (u : Tree) → boundText u (children g u) 0 ≡ text g (first (itemsOf u))
-unfolding children texts itemsOf isItems first second text
-bound-0 g null = refl
-bound-0 g unbounded = refl
-bound-0 g (bool b) = refl
-bound-0 g (num m s) = refl
-bound-0 g (str f s) = refl
-bound-0 g (date y m d) = refl
-bound-0 g (timestamp y m d h i s) = refl
-bound-0 g (spatial n s) = refl
-bound-0 g (id s) = refl
-bound-0 g (monadic p t) = refl
-bound-0 g (dyadic p t u) = refl
-bound-0 g (function n ts) = refl
-bound-0 g (array none) = refl
-bound-0 g (array (t then ts)) = refl
-bound-0 g (interval t u) = refl
+unfolding children itemsOf isItems first text
+bound-0 g u = go (isItems u) refl
+  where
+    there : (t : Tree) → OfKind 12 t → getD (children g t) 0 nullText ≡ text g (first (trees.children t))
+    there t (of-array ts) = first-item g ts
+
+    go : (b : Bool) → isItems u ≡ b → pick b (getD (children g u) 0 nullText) nullText ≡ text g (first (pick b (trees.children u) none))
+    go true e = there u (kind-is 12 u (eqb-true (kindOf u) 12 e))
+    go false e = refl
 
 bound-1 : (g : Settings) (u : Tree) → boundText u (children g u) 1 ≡ text g (second (itemsOf u))
-unfolding children texts itemsOf isItems first second text
-bound-1 g null = refl
-bound-1 g unbounded = refl
-bound-1 g (bool b) = refl
-bound-1 g (num m s) = refl
-bound-1 g (str f s) = refl
-bound-1 g (date y m d) = refl
-bound-1 g (timestamp y m d h i s) = refl
-bound-1 g (spatial n s) = refl
-bound-1 g (id s) = refl
-bound-1 g (monadic p t) = refl
-bound-1 g (dyadic p t u) = refl
-bound-1 g (function n ts) = refl
-bound-1 g (array none) = refl
-bound-1 g (array (t then none)) = refl
-bound-1 g (array (t then (u then ts))) = refl
-bound-1 g (interval t u) = refl
+unfolding children itemsOf isItems first second text
+bound-1 g u = go (isItems u) refl
+  where
+    there : (t : Tree) → OfKind 12 t → getD (children g t) 1 nullText ≡ text g (second (trees.children t))
+    there t (of-array ts) = second-item g ts
 
+    go : (b : Bool) → isItems u ≡ b → pick b (getD (children g u) 1 nullText) nullText ≡ text g (second (pick b (trees.children u) none))
+    go true e = there u (kind-is 12 u (eqb-true (kindOf u) 12 e))
+    go false e = refl
+
+-- an end: an interval's child, or of an instant itself and Null
 start-text : (g : Settings) (t : Tree) → startText t (text g t) (children g t) ≡ text g (startOf t)
-unfolding isInterval children startOf stopOf text
-start-text g null = refl
-start-text g unbounded = refl
-start-text g (bool b) = refl
-start-text g (num m s) = refl
-start-text g (str f s) = refl
-start-text g (date y m d) = refl
-start-text g (timestamp y m d h i s) = refl
-start-text g (spatial n s) = refl
-start-text g (id s) = refl
-start-text g (monadic p t) = refl
-start-text g (dyadic p t u) = refl
-start-text g (function n ts) = refl
-start-text g (array ts) = refl
-start-text g (interval t u) = refl
+unfolding children startOf first
+start-text g t = go (isInterval t) refl
+  where
+    there : (t : Tree) → OfKind 13 t → getD (children g t) 0 [] ≡ text g (first (trees.children t))
+    there t (of-interval a b) = refl
+
+    go : (b : Bool) → isInterval t ≡ b → pick b (getD (children g t) 0 []) (text g t) ≡ text g (pick b (first (trees.children t)) t)
+    go true e = there t (interval-is t e)
+    go false e = refl
 
 stop-text : (g : Settings) (t : Tree) → stopText t (children g t) ≡ text g (stopOf t)
-unfolding isInterval children startOf stopOf text
-stop-text g null = refl
-stop-text g unbounded = refl
-stop-text g (bool b) = refl
-stop-text g (num m s) = refl
-stop-text g (str f s) = refl
-stop-text g (date y m d) = refl
-stop-text g (timestamp y m d h i s) = refl
-stop-text g (spatial n s) = refl
-stop-text g (id s) = refl
-stop-text g (monadic p t) = refl
-stop-text g (dyadic p t u) = refl
-stop-text g (function n ts) = refl
-stop-text g (array ts) = refl
-stop-text g (interval t u) = refl
+unfolding children stopOf first second text
+stop-text g t = go (isInterval t) refl
+  where
+    there : (t : Tree) → OfKind 13 t → getD (children g t) 1 [] ≡ text g (second (trees.children t))
+    there t (of-interval a b) = refl
+
+    go : (b : Bool) → isInterval t ≡ b → pick b (getD (children g t) 1 []) nullText ≡ text g (pick b (second (trees.children t)) null)
+    go true e = there t (interval-is t e)
+    go false e = refl
 
 module _ (g : Settings) (o : Op) (t u : Tree) where
   pub between-parts : isBetween o ≡ true → text g (dyadic o t u) ≡ text g t ++ (infixText true (word o) true ++ (text g (first (itemsOf u)) ++ ((32 ∷ 65 ∷ 78 ∷ 68 ∷ 32 ∷ []) ++ text g (second (itemsOf u)))))

@@ -7,71 +7,38 @@ use native.Mathlib.Omega.{arith}
 use lib.ListN.{length, getD, drop, length-drop, drop-of-length-le}
 use lib.Seq.{drop-drop, getD-drop}
 use lib.Dec.{eqb}
-use borrow.Author.Tests.{eqb-true, eqb-false}
+use borrow.Author.Tests.{eqb-true, eqb-false, ne-eqb}
 use Rattle.prelude.specs.Choice.{pick, between}
 use Rattle.record.specs.Record.{le16, recordOf}
 use Rattle.op.specs.declared.Op.{Op}
 use Rattle.op.specs.Op.{opNumber}
-use Rattle.tree.specs.Tree.{Tree, Trees, encode, encodes, null, unbounded, bool, num, str, date, timestamp, spatial, id, monadic, dyadic, function, array, interval, none, _then_}
-use Rattle.tree.specs.Parse.{first, second}
+use Rattle.tree.specs.Tree.{Tree, Trees, encode, encodes, monadic, array, none, _then_, kindOf}
+use Rattle.tree.specs.Tests.{first, second, endsOf, isItems, children}
 use Rattle.sql.specs.declared.Operand as operand
 use Rattle.sql.specs.Ends.{unfoldExpressions}
-use Rattle.gpkg.specs.Text.{endsOf}
 use Rattle.gpkg.specs.Plan.{IsOperand, Stands, EndOf, Are, sound, sounds, twin, twinOf, underOf, itemsOf, operandOf, Bound, gone, item}
-use Rattle.gpkg.proofs.Records.{kindOf, bodyOf, beyond, ends-at, size-of}
+use Rattle.gpkg.proofs.Records.{bodyOf, beyond, ends-at, size-of}
 use Rattle.gpkg.proofs.Literals.{body-at}
 use Rattle.gpkg.proofs.Ends.{stands-kind, stands-part, both-first, both-second}
 use Rattle.gpkg.proofs.Nodes.{is-twin}
 use Rattle.gpkg.proofs.LaysLaws.{no-bytes}
+use Rattle.tree.specs.TestsLaws.{OfKind, of-monadic, of-array, kind-is}
 
 monadic-of : (x : Tree) → kindOf x ≡ 9 → (o : Op) × ((t : Tree) × (x ≡ monadic o t))
-monadic-of null e = absurd (let v : ⊥ = omega arith in v)
-monadic-of unbounded e = absurd (let v : ⊥ = omega arith in v)
-monadic-of (bool b) e = absurd (let v : ⊥ = omega arith in v)
-monadic-of (num m s) e = absurd (let v : ⊥ = omega arith in v)
-monadic-of (str f s) e = absurd (let v : ⊥ = omega arith in v)
-monadic-of (date y m d) e = absurd (let v : ⊥ = omega arith in v)
-monadic-of (timestamp y m d h i s) e = absurd (let v : ⊥ = omega arith in v)
-monadic-of (spatial n s) e = absurd (let v : ⊥ = omega arith in v)
-monadic-of (id s) e = absurd (let v : ⊥ = omega arith in v)
-monadic-of (monadic o t) e = (o, (t, refl))
-monadic-of (dyadic o t u) e = absurd (let v : ⊥ = omega arith in v)
-monadic-of (function n ts) e = absurd (let v : ⊥ = omega arith in v)
-monadic-of (array ts) e = absurd (let v : ⊥ = omega arith in v)
-monadic-of (interval t u) e = absurd (let v : ⊥ = omega arith in v)
+monadic-of x e = go x (kind-is 9 x e)
+  where
+    go : (u : Tree) → OfKind 9 u → (o : Op) × ((t : Tree) × (u ≡ monadic o t))
+    go u (of-monadic o t) = (o, (t, refl))
 
 items-of : (x : Tree) → kindOf x ≡ 12 → (ts : Trees) × (x ≡ array ts)
-items-of null e = absurd (let v : ⊥ = omega arith in v)
-items-of unbounded e = absurd (let v : ⊥ = omega arith in v)
-items-of (bool b) e = absurd (let v : ⊥ = omega arith in v)
-items-of (num m s) e = absurd (let v : ⊥ = omega arith in v)
-items-of (str f s) e = absurd (let v : ⊥ = omega arith in v)
-items-of (date y m d) e = absurd (let v : ⊥ = omega arith in v)
-items-of (timestamp y m d h i s) e = absurd (let v : ⊥ = omega arith in v)
-items-of (spatial n s) e = absurd (let v : ⊥ = omega arith in v)
-items-of (id s) e = absurd (let v : ⊥ = omega arith in v)
-items-of (monadic o t) e = absurd (let v : ⊥ = omega arith in v)
-items-of (dyadic o t u) e = absurd (let v : ⊥ = omega arith in v)
-items-of (function n ts) e = absurd (let v : ⊥ = omega arith in v)
-items-of (array ts) e = (ts, refl)
-items-of (interval t u) e = absurd (let v : ⊥ = omega arith in v)
+items-of x e = go x (kind-is 12 x e)
+  where
+    go : (t : Tree) → OfKind 12 t → (ts : Trees) × (t ≡ array ts)
+    go t (of-array ts) = (ts, refl)
 
 no-items : (x : Tree) → (kindOf x ≡ 12 → ⊥) → itemsOf x ≡ none
-unfolding itemsOf
-no-items null e = refl
-no-items unbounded e = refl
-no-items (bool b) e = refl
-no-items (num m s) e = refl
-no-items (str f s) e = refl
-no-items (date y m d) e = refl
-no-items (timestamp y m d h i s) e = refl
-no-items (spatial n s) e = refl
-no-items (id s) e = refl
-no-items (monadic o t) e = refl
-no-items (dyadic o t u) e = refl
-no-items (function n ts) e = refl
-no-items (array ts) e = absurd (e refl)
-no-items (interval t u) e = refl
+unfolding itemsOf isItems
+no-items x e = ap (λ (b : Bool). pick b (children x) none) (ne-eqb (kindOf x) 12 e)
 
 -- the operand of a monadic node that stands at p
 under-at : (s : List ℕ) (p : ℕ) (o : Op) (t : Tree) (rest : List ℕ) → drop p s ≡ encode (monadic o t) ++ rest → drop (p + 8) s ≡ encode t ++ rest
@@ -127,7 +94,7 @@ module _ (s : List ℕ) (op kind inner : ℕ) (b : Bool) (k : kind ≡ le16 s 12
 
   -- the operand that is written
   pub under-stands : (a : ℕ) → a ≡ pick b (min 16 (length s)) 8 → Stands s a (length s) (operandOf o t)
-  unfolding operandOf underOf sound
+  unfolding operandOf underOf sound first
   under-stands a z = rw twins (go b refl z)
     where
       go : (c : Bool) → b ≡ c → a ≡ pick c (min 16 (length s)) 8 → Stands s a (length s) (pick c (underOf t) t)
@@ -160,7 +127,7 @@ record Items (s : List ℕ) (p : ℕ) (u : Tree) : Type 0 where
   pub fit : sounds ts ≡ true
 
 items-stand : {s : List ℕ} {m p k : ℕ} {u : Tree} → Stands s m (length s) u → k ≡ le16 s (m + 4) → k ≡ 12 → p ≡ min (m + 6) (length s) → Items s p u
-unfolding itemsOf sound
+unfolding itemsOf sound isItems
 items-stand {s} {m} {p} {k} {u} h e q l =
     let w = items-of u (sym (stands-kind h) ∙ sym e ∙ q) in
     let en = ends-at s m u (h .rest) (h .there) (h .inside) in

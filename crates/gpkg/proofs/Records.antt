@@ -9,24 +9,8 @@ use lib.Seq.{getD-drop, drop-drop, take-at, drop-at}
 use Rattle.prelude.specs.Choice.{pick}
 use Rattle.record.specs.Record.{le, le16, le32, recordOf}
 use Rattle.op.specs.Op.{opNumber}
-use Rattle.tree.specs.Tree.{Tree, encode, encodes, twos, dateBytes, counted, null, unbounded, bool, num, str, date, timestamp, spatial, id, monadic, dyadic, function, array, interval}
+use Rattle.tree.specs.Tree.{Tree, encode, encodes, twos, dateBytes, counted, null, unbounded, bool, num, str, date, timestamp, spatial, id, monadic, dyadic, function, array, interval, kindOf}
 use Rattle.gpkg.specs.Plan.{part, EndOf}
-
-abbrev pub kindOf : Tree → ℕ
-kindOf null = 0
-kindOf unbounded = 1
-kindOf (bool b) = 2
-kindOf (num m s) = 3
-kindOf (str f s) = 4
-kindOf (date y m d) = 5
-kindOf (timestamp y m d h i s) = 6
-kindOf (spatial n s) = 7
-kindOf (id s) = 8
-kindOf (monadic o t) = 9
-kindOf (dyadic o t u) = 10
-kindOf (function n ts) = 11
-kindOf (array ts) = 12
-kindOf (interval t u) = 13
 
 abbrev pub bodyOf : Tree → List ℕ
 bodyOf null = []

@@ -11,52 +11,26 @@ use lib.Dec.{eqb}
 use Rattle.record.specs.Record.{le16}
 use Rattle.op.specs.declared.Op.{Op}
 use Rattle.op.specs.Op.{opNumber, isSpatial}
-use Rattle.tree.specs.Tree.{Tree, Settings, encode, null, unbounded, bool, num, str, date, timestamp, spatial, id, monadic, dyadic, function, array, interval}
-use Rattle.tree.specs.Placed.{isInterval, isBetween}
+use Rattle.tree.specs.Tree.{Tree, Settings, encode, kindOf}
+use Rattle.tree.specs.Placed.{isBetween}
+use Rattle.tree.specs.Tests.{isInterval, isId, columnsOf, endsOf, byOperator}
 use Rattle.sql.specs.declared.End as end
 use Rattle.sql.specs.Ends.{columns}
 use Rattle.sql.specs.Template.{fill, templateOf}
 use Rattle.sql.specs.Translators.{translate}
-use Rattle.gpkg.specs.Text.{isId, columnsOf, endsOf, text}
+use Rattle.gpkg.specs.Text.{text}
 use Rattle.gpkg.specs.Plan.{Are, Node, one, two, nodeEnds, part, slot}
-use Rattle.gpkg.proofs.Records.{kindOf}
 use Rattle.gpkg.proofs.Literals.{kind-whole}
 use Rattle.gpkg.proofs.Ends.{stands-part}
 use Rattle.gpkg.proofs.Nodes.{is-between, is-spatial, is-temporal, apart, temporal-fills}
 
 id-kind : (t : Tree) → eqb (kindOf t) 8 ≡ isId t
 unfolding isId
-id-kind null = refl
-id-kind unbounded = refl
-id-kind (bool b) = refl
-id-kind (num m s) = refl
-id-kind (str f s) = refl
-id-kind (date y m d) = refl
-id-kind (timestamp y m d h i s) = refl
-id-kind (spatial n s) = refl
-id-kind (id s) = refl
-id-kind (monadic o t) = refl
-id-kind (dyadic o t u) = refl
-id-kind (function n ts) = refl
-id-kind (array ts) = refl
-id-kind (interval t u) = refl
+id-kind t = refl
 
 interval-kind : (t : Tree) → eqb (kindOf t) 13 ≡ isInterval t
 unfolding isInterval
-interval-kind null = refl
-interval-kind unbounded = refl
-interval-kind (bool b) = refl
-interval-kind (num m s) = refl
-interval-kind (str f s) = refl
-interval-kind (date y m d) = refl
-interval-kind (timestamp y m d h i s) = refl
-interval-kind (spatial n s) = refl
-interval-kind (id s) = refl
-interval-kind (monadic o t) = refl
-interval-kind (dyadic o t u) = refl
-interval-kind (function n ts) = refl
-interval-kind (array ts) = refl
-interval-kind (interval t u) = refl
+interval-kind t = refl
 
 pub kind-id : (s : List ℕ) (t : Tree) → s ≡ encode t → eqb (le16 s 4) 8 ≡ isId t
 kind-id s t e = ap (λ (k : ℕ). eqb k 8) (kind-whole s t e) ∙ id-kind t
@@ -84,7 +58,7 @@ same-column t u a (suc (suc (suc (suc j)))) = simp (le-ltb (suc (suc (suc (suc j
 -- the template of a temporal node
 pub template-fills : {s : List ℕ} {op m : ℕ} (g : Settings) {t : Tree} → Node s 10 op m t → between 26 op 40 ≡ true → {e : List end.End} → Are s e (nodeEnds t) → {a b : Bool} {w : List ℕ}
     → a ≡ eqb (le16 (part s 8 m) 4) 13 → b ≡ eqb (le16 (part s m (length s)) 4) 13 → w ≡ templateOf (translate op a b (columns e)) → text g t ≡ fill (slot g (nodeEnds t)) w
-unfolding nodeEnds
+unfolding nodeEnds byOperator
 template-fills g (one o x k n e f) h r ea eb ew = absurd (let v : ⊥ = omega (arith, k) in v)
 template-fills {s} {op} g (two o x y k n p q) h {e} r ea eb ew =
     let c : between 26 (opNumber o) 40 ≡ true = ap (λ (j : ℕ). between 26 j 40) (sym n) ∙ h in

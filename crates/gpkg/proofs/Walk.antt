@@ -18,7 +18,7 @@ use Rattle.record.specs.Record.{le16, recordOf}
 use Rattle.op.specs.declared.Op.{Op}
 use Rattle.op.specs.Op.{opNumber}
 use Rattle.op.specs.OpLaws.{number-below}
-use Rattle.tree.specs.Tree.{Tree, Trees, Settings, encode, encodes, counted, null, unbounded, bool, num, str, date, timestamp, spatial, id, monadic, dyadic, function, array, interval, none, _then_}
+use Rattle.tree.specs.Tree.{Tree, Trees, Settings, encode, encodes, counted, null, unbounded, bool, num, str, date, timestamp, spatial, id, monadic, dyadic, function, array, interval, none, _then_, kindOf}
 use Rattle.literal.specs.Literal.{nullText}
 use Rattle.sql.specs.Template.{fill, spelt, parts, partOf}
 use Rattle.sql.specs.declared.End as end
@@ -27,16 +27,16 @@ use Rattle.gpkg.specs.declared.Flat as flat
 use Rattle.gpkg.specs.declared.Flat.the-variants.{Words, Opened, Nothing}
 use Rattle.gpkg.specs.declared.Piece.the-variants as pieces
 use Rattle.gpkg.specs.Lays.{Lays, capped}
-use Rattle.gpkg.specs.Text.{text, texts, joined, isId, isLiteralOrId, endsOf}
+use Rattle.gpkg.specs.Text.{text, texts, joined}
 use Rattle.op.specs.Spelling.{word}
 use Rattle.gpkg.specs.Plan.{Inside, part, Is, Are, Stands, EndOf, Node, one, two, nodeEnds, Bound, gone, item, sound, sounds, slot, endPiece, pieceOf, partText, flatText, leafText, itemsOf, temporalOf, infixText, reducedText, leftBare, rightBare, twin, twinOf, operandOf, beforeText, behindText}
-use Rattle.gpkg.proofs.Records.{kindOf, beyond, size-of, long, part-at}
+use Rattle.gpkg.proofs.Records.{beyond, size-of, long, part-at}
 use Rattle.gpkg.proofs.Literals.{kind-whole}
 use Rattle.gpkg.proofs.Ends.{both-first, both-second, stands-part}
 use Rattle.gpkg.proofs.Leaves.{leaf-text}
 use Rattle.gpkg.proofs.Operands.{operand-stands, twins, under-stands, bounds}
 use Rattle.gpkg.proofs.Sorts.{kind-id}
-use Rattle.tree.specs.Parse.{first, second}
+use Rattle.tree.specs.Tests.{first, second, isId, isLiteralOrId, endsOf, byOperator}
 use Rattle.tree.specs.Placed.{isBetween}
 use Rattle.gpkg.proofs.LaysLaws.{lays-of, lays-then, lays-none}
 
@@ -490,7 +490,7 @@ temporal-node {s} {kind} {op} {m} {t} e n = go (eqb kind 10) refl e
     go false q z = never (cc)
 
 pub node-ends : {s : List ℕ} {op m : ℕ} {t : Tree} → Node s 10 op m t → (es : List end.End) → ((x y : Tree) → Stands s 8 m x → Stands s m (length s) y → Are s es (endsOf x y)) → Are s es (nodeEnds t)
-unfolding nodeEnds
+unfolding nodeEnds byOperator
 node-ends (one o x k n e f) es h = absurd (let v : ⊥ = omega (arith, k) in v)
 node-ends (two o x y k n p q) es h = h x y p q
 

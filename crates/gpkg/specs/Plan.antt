@@ -15,7 +15,7 @@ use Rattle.op.specs.Op.{oneOf, isNullable, opNumber}
 use Rattle.tree.specs.Tree.{Tree, Trees, Settings, encode, null, unbounded, bool, num, str, date, timestamp, spatial, id, monadic, dyadic, function, array, interval, none, _then_}
 use Rattle.tree.specs.Parse.{nameAt, mantissa}
 use Rattle.tree.specs.Accepted.{ciAt, aiAt, caiAt}
-use Rattle.tree.specs.Placed.{isInterval}
+use Rattle.tree.specs.Tests.{first, children, byOperator, isItems, isInterval, isId, isLiteralOrId, isMonadic, startOf, stopOf, endsOf}
 use Rattle.literal.specs.Literal.{nullText, boolText, unboundedText, numText, strText, dateText, timestampText, spatialText, decimal, collate}
 use Rattle.sql.specs.Ends.{isColumn}
 use Rattle.sql.specs.Ends as sqlEnds
@@ -23,15 +23,11 @@ use Rattle.sql.specs.declared.Operand as operand
 use Rattle.sql.specs.Template.{partOf}
 use Rattle.sql.specs.declared.End as end
 use Rattle.sql.specs.declared.End.the-variants.{Column, Instant, Other, Open, Null}
-use Rattle.gpkg.specs.Text.{isId, isLiteralOrId, isMonadic, startOf, stopOf, endsOf, text}
+use Rattle.gpkg.specs.Text.{text}
 use Rattle.gpkg.specs.declared.Flat as flat
 use Rattle.gpkg.specs.declared.Flat.the-variants.{Words, Opened, Nothing}
 use Rattle.gpkg.specs.declared.Piece as piece
 use Rattle.gpkg.specs.declared.Piece.the-variants as pieces
-
--- the settings that some bytes hold
-abbrev pub settingsIn : List ℕ → Settings
-settingsIn s = record { precision = getD s 6 0; ci = nameAt s (ciAt s); ai = nameAt s (aiAt s); cai = nameAt s (caiAt s) }
 
 -- Trees whose numbers fit their fields.
 unfoldable mutual
@@ -98,36 +94,10 @@ twin o t =
 
 -- the operand of a monadic node; the items of an array
 unfoldable pub underOf : Tree → Tree
-underOf null = null
-underOf unbounded = null
-underOf (bool b) = null
-underOf (num m s) = null
-underOf (str f s) = null
-underOf (date y m d) = null
-underOf (timestamp y m d h i s) = null
-underOf (spatial n s) = null
-underOf (id s) = null
-underOf (monadic o t) = t
-underOf (dyadic o t u) = null
-underOf (function n ts) = null
-underOf (array ts) = null
-underOf (interval t u) = null
+underOf t = first (children t)
 
 unfoldable pub itemsOf : Tree → Trees
-itemsOf null = none
-itemsOf unbounded = none
-itemsOf (bool b) = none
-itemsOf (num m s) = none
-itemsOf (str f s) = none
-itemsOf (date y m d) = none
-itemsOf (timestamp y m d h i s) = none
-itemsOf (spatial n s) = none
-itemsOf (id s) = none
-itemsOf (monadic o t) = none
-itemsOf (dyadic o t u) = none
-itemsOf (function n ts) = none
-itemsOf (array ts) = ts
-itemsOf (interval t u) = none
+itemsOf t = pick (isItems t) (children t) none
 
 -- what is written of a monadic node's operand: its own, or under a twin the twin's
 unfoldable pub operandOf : Op → Tree → Tree
@@ -247,20 +217,7 @@ pub data Bound (s : List ℕ) (a z : ℕ) : Tree → Type 0 where
 
 -- the ends of a node of two operands
 unfoldable pub nodeEnds : Tree → List Tree
-nodeEnds null = []
-nodeEnds unbounded = []
-nodeEnds (bool b) = []
-nodeEnds (num m s) = []
-nodeEnds (str f s) = []
-nodeEnds (date y m d) = []
-nodeEnds (timestamp y m d h i s) = []
-nodeEnds (spatial n s) = []
-nodeEnds (id s) = []
-nodeEnds (monadic o t) = []
-nodeEnds (dyadic o t u) = endsOf t u
-nodeEnds (function n ts) = []
-nodeEnds (array ts) = []
-nodeEnds (interval t u) = []
+nodeEnds = byOperator (λ t. []) (λ o t r. []) (λ o t u r s. endsOf t u)
 
 -- s is the record of a node with operands, of this kind and operator, whose second operand, if it has two, starts at m
 pub data Node (s : List ℕ) (kind op m : ℕ) : Tree → Type 0 where

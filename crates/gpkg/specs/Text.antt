@@ -1,4 +1,4 @@
--- The SQL text of a tree, case by case as `to_sql_impl` (src/ds/gpkg.rs) with `is_literal` (src/expr.rs): document 01, "The lowering".
+-- The SQL text of a tree, case by case as `to_sql_impl` (src/ds/gpkg.rs): document 01, "The lowering".
 use Prim.Native.Nat.{ℕ}
 use mathlib.Core.List.{List, [], _∷_, _++_}
 use mathlib.Core.Bool.{Bool, true, false}
@@ -10,127 +10,11 @@ use Rattle.op.specs.declared.Op.the-variants.{Minus, Neg, CaseI, AccentI, STouc
 use Rattle.op.specs.Op.{opNumber, oneOf, isArray, isSpatial, isTemporal, isNullable}
 use Rattle.op.specs.Spelling.{word}
 use Rattle.tree.specs.Tree.{Tree, Trees, Settings, null, unbounded, bool, num, str, date, timestamp, spatial, id, monadic, dyadic, function, array, interval, none, _then_}
-use Rattle.tree.specs.Placed.{isInterval, isBetween}
+use Rattle.tree.specs.Placed.{isBetween}
+use Rattle.tree.specs.Tests.{isId, isItems, isInterval, isMonadic, isLiteralOrId, columnsOf}
 use Rattle.literal.specs.Literal.{nullText, boolText, unboundedText, numText, strText, dateText, timestampText, spatialText, decimal, collate}
 use Rattle.sql.specs.Condition.{print}
 use Rattle.sql.specs.Translators.{translate}
-
--- Tests on a tree.
-
--- false for Null and Unbounded, true for an empty array
-unfoldable mutual
-  pub isLiteral : Tree → Bool
-  isLiteral null = false
-  isLiteral unbounded = false
-  isLiteral (bool b) = true
-  isLiteral (num m s) = true
-  isLiteral (str f s) = true
-  isLiteral (date y m d) = true
-  isLiteral (timestamp y m d h i s) = true
-  isLiteral (spatial n s) = true
-  isLiteral (id s) = false
-  isLiteral (monadic o t) = false
-  isLiteral (dyadic o t u) = false
-  isLiteral (function n ts) = false
-  isLiteral (array ts) = allLiteral ts
-  isLiteral (interval t u) = false
-
-  pub allLiteral : Trees → Bool
-  allLiteral none = true
-  allLiteral (t then ts) = both (isLiteral t) (allLiteral ts)
-
-unfoldable pub isId : Tree → Bool
-isId null = false
-isId unbounded = false
-isId (bool b) = false
-isId (num m s) = false
-isId (str f s) = false
-isId (date y m d) = false
-isId (timestamp y m d h i s) = false
-isId (spatial n s) = false
-isId (id s) = true
-isId (monadic o t) = false
-isId (dyadic o t u) = false
-isId (function n ts) = false
-isId (array ts) = false
-isId (interval t u) = false
-
-unfoldable pub isLiteralOrId : Tree → Bool
-isLiteralOrId t = either (isLiteral t) (isId t)
-
--- a monadic node of the operator o
-unfoldable pub isMonadic : Op → Tree → Bool
-isMonadic o null = false
-isMonadic o unbounded = false
-isMonadic o (bool b) = false
-isMonadic o (num m s) = false
-isMonadic o (str f s) = false
-isMonadic o (date y m d) = false
-isMonadic o (timestamp y m d h i s) = false
-isMonadic o (spatial n s) = false
-isMonadic o (id s) = false
-isMonadic o (monadic p t) = eqb (opNumber p) (opNumber o)
-isMonadic o (dyadic p t u) = false
-isMonadic o (function n ts) = false
-isMonadic o (array ts) = false
-isMonadic o (interval t u) = false
-
-unfoldable pub isItems : Tree → Bool
-isItems null = false
-isItems unbounded = false
-isItems (bool b) = false
-isItems (num m s) = false
-isItems (str f s) = false
-isItems (date y m d) = false
-isItems (timestamp y m d h i s) = false
-isItems (spatial n s) = false
-isItems (id s) = false
-isItems (monadic o t) = false
-isItems (dyadic o t u) = false
-isItems (function n ts) = false
-isItems (array ts) = true
-isItems (interval t u) = false
-
--- `unfold_expressions`: the ends of an operand; an instant's second end is Null
-unfoldable pub startOf : Tree → Tree
-startOf null = null
-startOf unbounded = unbounded
-startOf (bool b) = bool b
-startOf (num m s) = num m s
-startOf (str f s) = str f s
-startOf (date y m d) = date y m d
-startOf (timestamp y m d h i s) = timestamp y m d h i s
-startOf (spatial n s) = spatial n s
-startOf (id s) = id s
-startOf (monadic o t) = monadic o t
-startOf (dyadic o t u) = dyadic o t u
-startOf (function n ts) = function n ts
-startOf (array ts) = array ts
-startOf (interval t u) = t
-
-unfoldable pub stopOf : Tree → Tree
-stopOf null = null
-stopOf unbounded = null
-stopOf (bool b) = null
-stopOf (num m s) = null
-stopOf (str f s) = null
-stopOf (date y m d) = null
-stopOf (timestamp y m d h i s) = null
-stopOf (spatial n s) = null
-stopOf (id s) = null
-stopOf (monadic o t) = null
-stopOf (dyadic o t u) = null
-stopOf (function n ts) = null
-stopOf (array ts) = null
-stopOf (interval t u) = u
-
--- the four ends in order
-unfoldable pub endsOf : Tree → Tree → List Tree
-endsOf t u = startOf t ∷ stopOf t ∷ startOf u ∷ stopOf u ∷ []
-
--- which of them are columns
-abbrev pub columnsOf : Tree → Tree → ℕ → Bool
-columnsOf t u j = isId (getD (endsOf t u) j null)
 
 -- Texts put together.
 

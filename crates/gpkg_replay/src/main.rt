@@ -10,19 +10,13 @@ use replay::say;
 
 // A byte that no text has: the buffer is full of it before the call.
 const BLANK: u8 = 7;
-// What is found in place of an answer: a text that is not the stored one; a byte changed that is not the text's; a case that asks for more
+// What is found instead of an answer: a text that is not the stored one; a byte changed that is not the text's; a case that asks for more
 // room than there is.
 const OTHER_TEXT: u8 = 100;
 
 const BYTE_CHANGED: u8 = 101;
 
 const NO_ROOM: u8 = 102;
-
-fn wide(x: u8) -> usize
-    ensures { λ r. ⌜ (r ≡ x) × (r < 256) ⌝ }
-{
-    x as usize
-}
 
 fn blank_buffer() -> [u8; 65536]
     ensures { λ r. ⌜ 65536 ≡ length r ⌝ }
@@ -71,11 +65,6 @@ fn answer(settings: &[u8], tree: &[u8], text: &[u8], room: usize) -> u8 {
     lowered(settings, tree, text, &mut out, room)
 }
 
-// A number of four bytes, little-endian.
-fn number_in(room: &[u8; 4]) -> usize {
-    wide(room[0]) + wide(room[1]) * 256 + (wide(room[2]) + wide(room[3]) * 256) * 65536
-}
-
 // The case whose answer is stored[..size].
 fn judged(settings: &[u8], tree: &[u8], room: usize, stored: &[u8], size: usize) -> Turn {
     if stored.len() < size {
@@ -115,7 +104,7 @@ fn end_of_case(
     judged(
         input::first(settings, n),
         input::first(tree, m),
-        number_in(&room),
+        record::dword_at(&room, 0),
         stored,
         size,
     )

@@ -15,6 +15,10 @@ le16 s i = getD s i 0 + getD s (i + 1) 0 * 256
 abbrev pub le32 : List ℕ → ℕ → ℕ
 le32 s i = le16 s i + le16 s (i + 2) * 65536
 
+-- eight bytes at i, the low one first
+abbrev pub le64 : List ℕ → ℕ → ℕ
+le64 s i = le32 s i + le32 s (i + 4) * 4294967296
+
 -- Length, four bytes, then kind, two bytes, then body; the length counts kind and body.
 -- The record at the front of s: its kind, and where it ends.
 unfoldable pub frame : List ℕ → Frame

@@ -1,7 +1,13 @@
 ghost use mathlib.Core.Path.{_≡_};
+ghost use mathlib.Core.Bool.{true};
 ghost use Prim.Native.Nat.{_+_, _≤_, _<_};
-ghost use lib.ListN.{length};
-ghost use Rattle.record.specs.Record.{le16, le32, frame};
+ghost use lib.ListN.{length, getD};
+ghost use Rattle.record.specs.Record.{le16, le32, le64, frame};
+
+// Where a record's kind and its body begin; before the kind stands the length, which counts what comes after its own four bytes.
+pub const KIND: usize = 4;
+
+pub const BODY: usize = 6;
 
 // What stands at the front of some bytes where a record is due.
 pub enum Frame {
@@ -35,18 +41,108 @@ fn dword_in(s: &[u8], at: usize) -> usize
 pub fn frame_at(s: &[u8]) -> Frame
     ensures { λ r. ⌜ r ≡ frame (now (s .entry)) ⌝ }
 {
-    if s.len() < 6 {
+    if s.len() < BODY {
         return Frame::Broken;
     }
     let n = dword_in(s, 0);
     if n < 2 {
         return Frame::Broken;
     }
-    if s.len() - 4 < n {
+    if s.len() - KIND < n {
         return Frame::Broken;
     }
     Frame::Whole {
-        kind: word_in(s, 4),
-        end: n + 4,
+        kind: word_in(s, KIND),
+        end: n + KIND,
     }
+}
+
+fn qword_in(s: &[u8], at: usize) -> usize
+    requires { ⌜ at + 8 ≤ length (now s) ⌝ }
+    ensures { λ r. ⌜ (r ≡ le64 (now (s .entry)) at) × (r < 18446744073709551616) ⌝ }
+{
+    dword_in(s, at) + dword_in(s, at + 4) * 4294967296
+}
+
+// The reads below take any place: a byte past the end counts as 0.
+
+pub fn byte_at(s: &[u8], at: usize) -> usize
+    ensures { λ r. ⌜ (r ≡ getD (now (s .entry)) at 0) × (r < 256) ⌝ }
+{
+    if at < s.len() { wide(s[at]) } else { 0 }
+}
+
+// n bytes from `at` lie in `len` bytes. No sum is made, so `at` may be any number.
+fn lies(len: usize, at: usize, n: usize) -> bool
+    ensures { λ r. ⌜ (r ≡ true → at + n ≤ len) ⌝ }
+{
+    if len < n {
+        return false;
+    }
+    if len - n < at {
+        return false;
+    }
+    true
+}
+
+// A word of which a part may lie past the end.
+fn word_past(s: &[u8], at: usize) -> usize
+    ensures { λ r. ⌜ (r ≡ le16 (now (s .entry)) at) × (r < 65536) ⌝ }
+{
+    if at < s.len() {
+        byte_at(s, at) + byte_at(s, at + 1) * 256
+    } else {
+        0
+    }
+}
+
+pub fn word_at(s: &[u8], at: usize) -> usize
+    ensures { λ r. ⌜ (r ≡ le16 (now (s .entry)) at) × (r < 65536) ⌝ }
+{
+    if lies(s.len(), at, 2) {
+        return word_in(s, at);
+    }
+    word_past(s, at)
+}
+
+fn dword_past(s: &[u8], at: usize) -> usize
+    ensures { λ r. ⌜ (r ≡ le32 (now (s .entry)) at) × (r < 4294967296) ⌝ }
+{
+    if s.len() < 2 {
+        return word_past(s, at);
+    }
+    if s.len() - 2 < at {
+        return word_past(s, at);
+    }
+    word_past(s, at) + word_past(s, at + 2) * 65536
+}
+
+pub fn dword_at(s: &[u8], at: usize) -> usize
+    ensures { λ r. ⌜ (r ≡ le32 (now (s .entry)) at) × (r < 4294967296) ⌝ }
+{
+    if lies(s.len(), at, 4) {
+        return dword_in(s, at);
+    }
+    dword_past(s, at)
+}
+
+fn qword_past(s: &[u8], at: usize) -> usize
+    ensures { λ r. ⌜ (r ≡ le64 (now (s .entry)) at) × (r < 18446744073709551616) ⌝ }
+{
+    if s.len() < 4 {
+        return dword_past(s, at);
+    }
+    if s.len() - 4 < at {
+        return dword_past(s, at);
+    }
+    dword_past(s, at) + dword_past(s, at + 4) * 4294967296
+}
+
+pub fn qword_at(s: &[u8], at: usize) -> usize
+    ensures { λ r. ⌜ (r ≡ le64 (now (s .entry)) at) × (r < 18446744073709551616) ⌝ }
+{
+    if lies(s.len(), at, 8) {
+        return qword_in(s, at);
+    }
+    qword_past(s, at)
 }

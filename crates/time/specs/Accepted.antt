@@ -4,7 +4,7 @@ use mathlib.Core.Path.{_≡_}
 use mathlib.Core.List.{List}
 use lib.ListN.{length}
 use Rattle.tree.specs.Tree.{Tree, Settings}
-use Rattle.tree.specs.Parse.{Read, got}
+use Rattle.tree.specs.Parse.{got}
 use Rattle.tree.specs.Accepted.{accepted}
 use Rattle.tree.specs.ByteLaws.{Bytes}
 use Rattle.gpkg.specs.Lowered.{lowering}

@@ -5,80 +5,43 @@ use mathlib.Core.Path.{_≡_, refl, sym, _∙_}
 use mathlib.Core.List.{List}
 use mathlib.Core.Bool.{Bool, true, false, not}
 use lib.Dec.{eqb}
-use Rattle.prelude.specs.Choice.{negated}
-use Rattle.prelude.specs.ChoiceLaws.{both-true}
+use Rattle.prelude.specs.Choice.{either, negated}
 use Rattle.order.specs.Order.{order}
 use Rattle.op.specs.declared.Op.the-variants.{TDisjoint, TIntersects}
-use Rattle.tree.specs.Tree.{Tree, null, unbounded, bool, num, str, date, timestamp, spatial, id, monadic, dyadic, function, array, interval}
-use Rattle.tree.specs.Placed.{isInterval}
+use Rattle.tree.specs.Tree.{Tree}
+use Rattle.tree.specs.TestsLaws.{everywhere-here, everywhere-start, everywhere-stop}
+use Rattle.tree.specs.Tests.{isInterval, isId, startOf, stopOf, endsOf, columnsOf}
 use Rattle.sql.specs.Condition.{test, lt, gt}
 use Rattle.sql.specs.Translators.{translate, tDisjoint, tIntersects}
-use Rattle.gpkg.specs.Text.{isId, startOf, stopOf, endsOf, columnsOf}
-use Rattle.row.specs.Row.{val, Column, Found, absent, has, look}
+use Rattle.row.specs.Row.{val, Column, Found, absent, has}
 use Rattle.row.specs.Row as row
 use Rattle.truth.specs.declared.Truth.{Truth}
 use Rattle.truth.specs.declared.Truth.the-variants.{True, False, Unknown, Missing}
-use Rattle.truth.specs.declared.Reading.{Reading}
 use Rattle.truth.specs.declared.Reading.the-variants.{True as SaysTrue, False as SaysFalse, Unknown as SaysUnknown}
 use Rattle.truth.specs.Reading.{answered}
-use Rattle.truth.specs.Lex.{LT, GT, EQ, NE}
+use Rattle.truth.specs.Lex.{EQ, NE}
 use Rattle.truth.specs.Grammar.{not3, or3, truthOf, compared, holds}
-use Rattle.time.specs.FilterTruth.{valueOn, condTruth, endValues, temporalTruth, columnsNonNull}
+use Rattle.time.specs.FilterTruth.{valueOn, condTruth, endValues, temporalTruth, nonNull, columnsNonNull}
 use Rattle.time.specs.Claims.{Opposite}
 use Rattle.time.specs.TruthLaws.{not3-twice, guard, guard-passes, check-id, check-ids}
 
 -- An end of an operand whose columns are not NULL.
 start-non-null : (cs : List Column) (t : Tree) → columnsNonNull cs t ≡ true → columnsNonNull cs (startOf t) ≡ true
-unfolding startOf columnsNonNull
-start-non-null cs null e = e
-start-non-null cs unbounded e = e
-start-non-null cs (bool b) e = e
-start-non-null cs (num m s) e = e
-start-non-null cs (str f s) e = e
-start-non-null cs (date y m d) e = e
-start-non-null cs (timestamp y m d h i s) e = e
-start-non-null cs (spatial n s) e = e
-start-non-null cs (id s) e = e
-start-non-null cs (monadic o t) e = e
-start-non-null cs (dyadic o t u) e = e
-start-non-null cs (function n ts) e = e
-start-non-null cs (array ts) e = e
-start-non-null cs (interval t u) e = both-true (columnsNonNull cs t) (columnsNonNull cs u) e .0
+unfolding columnsNonNull isId
+start-non-null cs = everywhere-start (λ n. either (negated (isId n)) (nonNull cs n)) refl
 
 stop-non-null : (cs : List Column) (t : Tree) → columnsNonNull cs t ≡ true → columnsNonNull cs (stopOf t) ≡ true
-unfolding stopOf columnsNonNull
-stop-non-null cs null e = refl
-stop-non-null cs unbounded e = refl
-stop-non-null cs (bool b) e = refl
-stop-non-null cs (num m s) e = refl
-stop-non-null cs (str f s) e = refl
-stop-non-null cs (date y m d) e = refl
-stop-non-null cs (timestamp y m d h i s) e = refl
-stop-non-null cs (spatial n s) e = refl
-stop-non-null cs (id s) e = refl
-stop-non-null cs (monadic o t) e = refl
-stop-non-null cs (dyadic o t u) e = refl
-stop-non-null cs (function n ts) e = refl
-stop-non-null cs (array ts) e = refl
-stop-non-null cs (interval t u) e = both-true (columnsNonNull cs t) (columnsNonNull cs u) e .1
+unfolding columnsNonNull isId
+stop-non-null cs = everywhere-stop (λ n. either (negated (isId n)) (nonNull cs n)) refl
 
 -- its guard passes
 open-guard : (cs : List Column) (e : Tree) → columnsNonNull cs e ≡ true → (b : Truth) → guard (isId e) (valueOn cs e) b ≡ b
-unfolding isId valueOn columnsNonNull
-open-guard cs null h b = refl
-open-guard cs unbounded h b = refl
-open-guard cs (bool x) h b = refl
-open-guard cs (num m s) h b = refl
-open-guard cs (str f s) h b = refl
-open-guard cs (date y m d) h b = refl
-open-guard cs (timestamp y m d k i s) h b = refl
-open-guard cs (spatial n s) h b = refl
-open-guard cs (id s) h b = guard-passes true (look s cs) b h
-open-guard cs (monadic o t) h b = refl
-open-guard cs (dyadic o t u) h b = refl
-open-guard cs (function n ts) h b = refl
-open-guard cs (array ts) h b = refl
-open-guard cs (interval t u) h b = refl
+unfolding columnsNonNull
+open-guard cs e h b = go (isId e) (everywhere-here (λ n. either (negated (isId n)) (nonNull cs n)) e h)
+  where
+    go : (c : Bool) → either (negated c) (nonNull cs e) ≡ true → guard c (valueOn cs e) b ≡ b
+    go true p = guard-passes true (valueOn cs e) b p
+    go false p = refl
 
 -- the two signs of two instants
 pub ne-eq : (x y : Found) → compared NE x y ≡ not3 (compared EQ x y)

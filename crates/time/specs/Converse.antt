@@ -1,33 +1,23 @@
 -- Converses, the replacement of temporal predicates by them, and Allen's thirteen: document 01, "Truth", and demand 3.
 use mathlib.Core.Path.{_≡_}
 use mathlib.Core.List.{List, [], _∷_}
-use mathlib.Core.Bool.{Bool, true}
-use Rattle.prelude.specs.Choice.{pick, either}
+use mathlib.Core.Bool.{true}
+use Rattle.prelude.specs.Choice.{either}
 use Rattle.op.specs.declared.Op.{Op}
 use Rattle.op.specs.declared.Op.the-variants.{TAfter, TBefore, TContains, TDuring, TEquals, TFinishedBy, TFinishes, TMeets, TMetBy, TOverlappedBy, TOverlaps, TStartedBy, TStarts}
-use Rattle.op.specs.Op.{oneOf, isTemporal}
+use Rattle.op.specs.Op.{isTemporal}
 use Rattle.tree.specs.Tree.{Tree, monadic, dyadic}
+use Rattle.time.specs.Operators.{entry}
 use Rattle.time.specs.Filter.{isNeg, isAnd, isOr}
-
-abbrev pub isOp : Op → Op → Bool
-isOp p o = oneOf o (p ∷ [])
 
 -- TAfter/TBefore, TContains/TDuring, TFinishedBy/TFinishes, TMeets/TMetBy, TOverlaps/TOverlappedBy, TStartedBy/TStarts;
 -- TEquals, TDisjoint, TIntersects are their own
 unfoldable pub converse : Op → Op
 converse o =
-    pick (isOp TAfter o) TBefore
-    (pick (isOp TBefore o) TAfter
-    (pick (isOp TContains o) TDuring
-    (pick (isOp TDuring o) TContains
-    (pick (isOp TFinishedBy o) TFinishes
-    (pick (isOp TFinishes o) TFinishedBy
-    (pick (isOp TMeets o) TMetBy
-    (pick (isOp TMetBy o) TMeets
-    (pick (isOp TOverlaps o) TOverlappedBy
-    (pick (isOp TOverlappedBy o) TOverlaps
-    (pick (isOp TStartedBy o) TStarts
-    (pick (isOp TStarts o) TStartedBy o)))))))))))
+    entry
+    ((TAfter, TBefore) ∷ (TBefore, TAfter) ∷ (TContains, TDuring) ∷ (TDuring, TContains) ∷ (TFinishedBy, TFinishes) ∷ (TFinishes, TFinishedBy)
+    ∷ (TMeets, TMetBy) ∷ (TMetBy, TMeets) ∷ (TOverlaps, TOverlappedBy) ∷ (TOverlappedBy, TOverlaps) ∷ (TStartedBy, TStarts) ∷ (TStarts, TStartedBy) ∷ [])
+    o o
 
 -- One, some or all of a filter's temporal predicates replaced by their converses with the operands exchanged, each operand kept whole:
 -- at each predicate there is the choice to keep it or to turn it.

@@ -9,10 +9,9 @@ use Rattle.op.specs.declared.Op.{Op}
 use Rattle.op.specs.declared.Op.the-variants.{TContains, TDuring, TFinishedBy, TFinishes, TMeets, TMetBy, TOverlappedBy, TOverlaps, TStartedBy, TStarts}
 use Rattle.op.specs.Op.{isTemporal}
 use Rattle.tree.specs.Tree.{Tree, dyadic}
-use Rattle.tree.specs.Placed.{isInterval}
+use Rattle.tree.specs.Tests.{byOperator, isInterval, isId, startOf, stopOf, endsOf, columnsOf}
 use Rattle.sql.specs.Condition.{test, lt, gt, eq}
 use Rattle.sql.specs.Translators.{translate, tAfter, tBefore, tContains, tDisjoint, tDuring, tEquals, tFinishedBy, tFinishes, tIntersects, tMeets, tMetBy, tOverlappedBy, tOverlaps, tStartedBy, tStarts}
-use Rattle.gpkg.specs.Text.{isId, startOf, stopOf, endsOf, columnsOf}
 use Rattle.row.specs.Row.{Column, Found}
 use Rattle.truth.specs.declared.Truth.{Truth}
 use Rattle.truth.specs.Lex.{LT, GT, EQ}
@@ -171,7 +170,7 @@ apart =
 
 -- the truth of a temporal predicate as a filter
 pub predicate-truth : (cs : List Column) (o : Op) (t u : Tree) → isTemporal o ≡ true → truthOn cs (dyadic o t u) ≡ temporalTruth cs o t u
-unfolding truthOn
+unfolding truthOn byOperator
 predicate-truth cs o t u e = let h = apart o e in rw (h .0, h .1, h .2)
 
 -- AND and OR of filters whose truths are alike
@@ -183,7 +182,7 @@ joined false false r r' e f g = absurd (false≢true e)
 
 -- One, some or all of a filter's temporal predicates replaced by their converses, operands exchanged: the truth stays on every row.
 pub turned-truth : (cs : List Column) {t t' : Tree} → Turned t t' → truthOn cs t ≡ truthOn cs t'
-unfolding truthOn
+unfolding truthOn byOperator
 turned-truth cs (keep t) = refl
 turned-truth cs (turn o t u e) =
     predicate-truth cs o t u e ∙ turned-predicate cs t u o e ∙ sym (predicate-truth cs (converse o) u t (converse-temporal o e))

@@ -5,42 +5,56 @@ use mathlib.Core.List.{List, [], _∷_}
 use mathlib.Core.Bool.{Bool, true, false}
 use lib.ListN.{getD}
 use lib.Dec.{eqb}
-use Rattle.prelude.specs.Choice.{pick, both}
+use Rattle.prelude.specs.Choice.{pick, either, negated}
 use Rattle.order.specs.Order.{below}
 use Rattle.op.specs.declared.Op.{Op}
-use Rattle.op.specs.declared.Op.the-variants.{IsNull, Eq, Neq, Lt, Gt, Lte}
+use Rattle.op.specs.declared.Op.the-variants.{IsNull, Eq, Neq, Lt, Gt, Lte, Gte}
 use Rattle.op.specs.Op.{opNumber, oneOf}
-use Rattle.tree.specs.Tree.{Tree, Trees, none, _then_, null, unbounded, bool, num, str, date, timestamp, spatial, id, monadic, dyadic, function, array, interval}
-use Rattle.tree.specs.Placed.{isInterval}
+use Rattle.tree.specs.Kinds.{BOOL}
+use Rattle.tree.specs.Tree.{Tree, null, unbounded, bool, num, str, date, timestamp, spatial, id, monadic, dyadic, function, array, interval, kindOf}
+use Rattle.tree.specs.Tests.{fieldsOf, everywhere, byOperator, isId, isInterval, endsOf, columnsOf}
 use Rattle.literal.specs.Literal as literal
 use Rattle.sql.specs.Condition as sql
 use Rattle.sql.specs.Translators.{translate}
-use Rattle.gpkg.specs.Text.{endsOf, columnsOf}
-use Rattle.row.specs.Row.{Value, val, Column, Found, absent, has, look}
+use Rattle.row.specs.Row.{val, Column, Found, absent, has}
 use Rattle.row.specs.Row as row
 use Rattle.truth.specs.declared.Truth.{Truth}
-use Rattle.truth.specs.declared.Truth.the-variants.{True, False, Unknown, Missing}
+use Rattle.truth.specs.declared.Truth.the-variants.{Unknown}
 use Rattle.truth.specs.Lex.{LT, GT, LE, GE, EQ, NE}
-use Rattle.truth.specs.Grammar.{not3, and3, or3, truthOf, compared, nullity}
+use Rattle.truth.specs.Grammar.{Atom, column, text, none, value, not3, and3, or3, truthOf, compared, nullity}
+use Rattle.time.specs.Operators.{entry}
 use Rattle.time.specs.Filter.{isNeg, isAnd, isOr, compares}
+
+-- what stands for a tree in a comparison: a column, the string that lowering writes, quotation marks left off, or NULL
+unfoldable pub treeAtom : Tree → Atom
+treeAtom null = none
+treeAtom unbounded = text literal.openEnd
+treeAtom (bool b) = none
+treeAtom (num m s) = none
+treeAtom (str f s) = text s
+treeAtom (date y m d) = text (literal.date y m d)
+treeAtom (timestamp y m d h i s) = text (literal.timestamp y m d h i s)
+treeAtom (spatial n s) = none
+treeAtom (id s) = column s
+treeAtom (monadic o t) = none
+treeAtom (dyadic o t u) = none
+treeAtom (function n ts) = none
+treeAtom (array ts) = none
+treeAtom (interval t u) = none
 
 -- An end's value on a row is its column's value there, or the string that lowering writes for a date, timestamp or open end (or a
 -- string that is compared), quotation marks left off. Null has the value NULL.
 unfoldable pub valueOn : List Column → Tree → Found
-valueOn cs null = has row.null
-valueOn cs unbounded = has (val literal.openEnd)
-valueOn cs (bool b) = has row.null
-valueOn cs (num m s) = has row.null
-valueOn cs (str f s) = has (val s)
-valueOn cs (date y m d) = has (val (literal.date y m d))
-valueOn cs (timestamp y m d h i s) = has (val (literal.timestamp y m d h i s))
-valueOn cs (spatial n s) = has row.null
-valueOn cs (id s) = look s cs
-valueOn cs (monadic o t) = has row.null
-valueOn cs (dyadic o t u) = has row.null
-valueOn cs (function n ts) = has row.null
-valueOn cs (array ts) = has row.null
-valueOn cs (interval t u) = has row.null
+valueOn cs t = value cs (treeAtom t)
+
+-- a name is, byte for byte, one of the row's
+abbrev pub found : Found → Bool
+found absent = false
+found (has v) = true
+
+-- a row holds the columns of a tree if the name of every Id in it is one of the row's (all that is no Id has its value without a row)
+unfoldable pub holds : List Column → Tree → Bool
+holds cs = everywhere (λ n. found (valueOn cs n))
 
 abbrev pub signOf : sql.Sign → ℕ
 signOf sql.lt = LT
@@ -68,33 +82,27 @@ temporalTruth cs o t u =
 
 -- the sign of an operator of 8 to 13
 unfoldable pub comparison : Op → ℕ
-comparison o =
-    pick (oneOf o (Eq ∷ [])) EQ
-    (pick (oneOf o (Neq ∷ [])) NE
-    (pick (oneOf o (Lt ∷ [])) LT
-    (pick (oneOf o (Gt ∷ [])) GT
-    (pick (oneOf o (Lte ∷ [])) LE GE))))
+comparison = entry ((Eq, EQ) ∷ (Neq, NE) ∷ (Lt, LT) ∷ (Gt, GT) ∷ (Lte, LE) ∷ (Gte, GE) ∷ []) EQ
+
+-- a filter without an operator: Bool is what it says, Null is unknown
+abbrev pub constant : Tree → Truth
+constant t = pick (eqb (kindOf t) BOOL) (truthOf (eqb (getD (fieldsOf t) 0 0) 1)) Unknown
+
+-- by the operator of a node and the truths of its operands: NOT, or IS NULL and IS NOT NULL of a column
+abbrev pub monadicTruth : List Column → Op → Tree → Truth → Truth
+monadicTruth cs o t a =
+    pick (isNeg o) (not3 a)
+    (pick (oneOf o (IsNull ∷ [])) (nullity (valueOn cs t)) (not3 (nullity (valueOn cs t))))
+
+-- AND, OR, a comparison, or a temporal predicate
+abbrev pub dyadicTruth : List Column → Op → Tree → Tree → Truth → Truth → Truth
+dyadicTruth cs o t u a b =
+    pick (isAnd o) (and3 a b)
+    (pick (isOr o) (or3 a b)
+    (pick (compares o) (compared (comparison o) (valueOn cs t) (valueOn cs u)) (temporalTruth cs o t u)))
 
 unfoldable pub truthOn : List Column → Tree → Truth
-truthOn cs null = Unknown
-truthOn cs unbounded = Unknown
-truthOn cs (bool b) = truthOf b
-truthOn cs (num m s) = Unknown
-truthOn cs (str f s) = Unknown
-truthOn cs (date y m d) = Unknown
-truthOn cs (timestamp y m d h i s) = Unknown
-truthOn cs (spatial n s) = Unknown
-truthOn cs (id s) = Unknown
-truthOn cs (monadic o t) =
-    pick (isNeg o) (not3 (truthOn cs t))
-    (pick (oneOf o (IsNull ∷ [])) (nullity (valueOn cs t)) (not3 (nullity (valueOn cs t))))
-truthOn cs (dyadic o t u) =
-    pick (isAnd o) (and3 (truthOn cs t) (truthOn cs u))
-    (pick (isOr o) (or3 (truthOn cs t) (truthOn cs u))
-    (pick (compares o) (compared (comparison o) (valueOn cs t) (valueOn cs u)) (temporalTruth cs o t u)))
-truthOn cs (function n ts) = Unknown
-truthOn cs (array ts) = Unknown
-truthOn cs (interval t u) = Unknown
+truthOn cs = byOperator constant (monadicTruth cs) (dyadicTruth cs)
 
 -- an end is non-null if it is neither Null nor a column that is NULL there
 unfoldable pub isValue : Found → Bool
@@ -106,26 +114,8 @@ abbrev pub nonNull : List Column → Tree → Bool
 nonNull cs t = isValue (valueOn cs t)
 
 -- none of the columns of a tree is NULL on the row, which holds them
-unfoldable mutual
-  pub columnsNonNull : List Column → Tree → Bool
-  columnsNonNull cs null = true
-  columnsNonNull cs unbounded = true
-  columnsNonNull cs (bool b) = true
-  columnsNonNull cs (num m s) = true
-  columnsNonNull cs (str f s) = true
-  columnsNonNull cs (date y m d) = true
-  columnsNonNull cs (timestamp y m d h i s) = true
-  columnsNonNull cs (spatial n s) = true
-  columnsNonNull cs (id s) = isValue (look s cs)
-  columnsNonNull cs (monadic o t) = columnsNonNull cs t
-  columnsNonNull cs (dyadic o t u) = both (columnsNonNull cs t) (columnsNonNull cs u)
-  columnsNonNull cs (function n ts) = allNonNull cs ts
-  columnsNonNull cs (array ts) = allNonNull cs ts
-  columnsNonNull cs (interval t u) = both (columnsNonNull cs t) (columnsNonNull cs u)
-
-  pub allNonNull : List Column → Trees → Bool
-  allNonNull cs none = true
-  allNonNull cs (t then ts) = both (columnsNonNull cs t) (allNonNull cs ts)
+unfoldable pub columnsNonNull : List Column → Tree → Bool
+columnsNonNull cs = everywhere (λ n. either (negated (isId n)) (nonNull cs n))
 
 -- both ends are non-null, and the start lies below the end by the order of byte strings
 unfoldable pub liesBelow : Found → Found → Bool

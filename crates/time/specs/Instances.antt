@@ -1,13 +1,14 @@
 -- The theorems of demands 2 and 3 at work on bytes: a filter, a row, the answer, for each of them. So none of their hypotheses is empty:
 -- settings, trees and rows that meet them are computed here. (Examples.antt has the cases outside.)
-use Prim.Native.Nat.{ℕ, _<_}
+use Prim.Native.Nat.{ℕ}
 use mathlib.Core.Path.{_≡_, refl, _∙_}
-use mathlib.Core.List.{List, [], _∷_}
-use mathlib.Core.Bool.{Bool, true, false}
+use mathlib.Core.List.{List, [], _∷_, _++_}
+use mathlib.Core.Bool.{true}
 use native.Mathlib.Omega.{arith}
 use lib.Dec.{ltb}
-use lib.ListN.{length, replicate}
+use lib.ListN.{replicate}
 use borrow.Author.Tests.{ltb-true}
+use Rattle.prelude.specs.Bytes.{bytes}
 use Rattle.prelude.specs.Choice.{all}
 use Rattle.prelude.specs.ChoiceLaws.{both-true}
 use Rattle.op.specs.declared.Op.{Op}
@@ -19,15 +20,14 @@ use Rattle.tree.specs.Accepted.{accepted}
 use Rattle.tree.specs.ByteLaws.{Bytes}
 use Rattle.gpkg.specs.Lowered.{lowering}
 use Rattle.row.specs.Row.{Column, val, rowOf, columns}
-use Rattle.truth.specs.declared.Reading.{Reading}
 use Rattle.truth.specs.declared.Reading.the-variants.{True as SaysTrue, False as SaysFalse, Unknown as SaysUnknown}
 use Rattle.truth.specs.Grammar.{truthOf}
 use Rattle.truth.specs.Reading.{answered, readingOf}
 use Rattle.time.specs.Accepted.{Lowers, IsRow}
-use Rattle.time.specs.Claims.{Opposite, ExactlyOne}
-use Rattle.time.specs.Converse.{Turned, turn, thirteen}
-use Rattle.time.specs.Filter.{timeFilter, isOperand, holds}
-use Rattle.time.specs.FilterTruth.{truthOn, columnsNonNull, proper}
+use Rattle.time.specs.Claims.{Alike, Opposite, ExactlyOne}
+use Rattle.time.specs.Converse.{turn, thirteen}
+use Rattle.time.specs.Filter.{timeFilter, isOperand}
+use Rattle.time.specs.FilterTruth.{holds, truthOn, columnsNonNull, proper}
 use Rattle.time.specs.Ogc.{ten, instants, ogcOperand, ogcOn}
 use Rattle.time.specs.OperatorLaws.{AllOf, done, _also_, among}
 use Rattle.time.specs.ReadsTruth.{reads-truth}
@@ -40,6 +40,7 @@ use Rattle.op.specs.Op as op-op
 use Rattle.op.specs.Spelling as op-spelling
 use Rattle.tree.specs.Tree as tree-tree
 use Rattle.tree.specs.Parse as tree-parse
+use Rattle.tree.specs.Tests as tree-tests
 use Rattle.tree.specs.Placed as tree-placed
 use Rattle.tree.specs.Accepted as tree-accepted
 use Rattle.literal.specs.Literal as literal-literal
@@ -64,7 +65,7 @@ bytes-by [] e = tt
 bytes-by (b ∷ s) e = let h = both-true (ltb b 256) (all (λ b. ltb b 256) s) e in (ltb-true b 256 (h .0), bytes-by s (h .1))
 
 abbrev settings : Settings
-settings = record { precision = 7; ci = 78 ∷ 67 ∷ []; ai = 78 ∷ 65 ∷ []; cai = 78 ∷ 67 ∷ 65 ∷ [] }
+settings = record { precision = 7; ci = bytes "NC"; ai = bytes "NA"; cai = bytes "NCA" }
 
 abbrev buffer : List ℕ
 buffer = replicate 100 0
@@ -76,35 +77,42 @@ lowers-by t b r l =
     record { settings = encodeSettings settings; tree = encode t; buffer = buffer; bytes = bytes-by (encode t) b; holds = settings; read = r; lowered = l }
 
 abbrev a : Tree
-a = id (97 ∷ [])
+a = id (bytes "a")
 
 abbrev b : Tree
-b = id (98 ∷ [])
+b = id (bytes "b")
 
 abbrev c : Tree
-c = id (99 ∷ [])
+c = id (bytes "c")
 
 abbrev d : Tree
-d = id (100 ∷ [])
+d = id (bytes "d")
 
 abbrev day : ℕ → row-row.Value
 day n = val (literal-literal.date 2024 1 n)
 
 -- sheet N's row: a 2024-01-02, b NULL, c 2024-01-01; as bytes, and its columns, the last one first
 abbrev rowN : List ℕ
-rowN = 15 ∷ 0 ∷ 0 ∷ 0 ∷ 200 ∷ 0 ∷ 1 ∷ 97 ∷ 1 ∷ 50 ∷ 48 ∷ 50 ∷ 52 ∷ 45 ∷ 48 ∷ 49 ∷ 45 ∷ 48 ∷ 50 ∷ 5 ∷ 0 ∷ 0 ∷ 0 ∷ 200 ∷ 0 ∷ 1 ∷ 98 ∷ 0 ∷ 15 ∷ 0 ∷ 0 ∷ 0 ∷ 200 ∷ 0 ∷ 1 ∷ 99 ∷ 1 ∷ 50 ∷ 48 ∷ 50 ∷ 52 ∷ 45 ∷ 48 ∷ 49 ∷ 45 ∷ 48 ∷ 49 ∷ []
+rowN =
+    15 ∷ 0 ∷ 0 ∷ 0 ∷ 200 ∷ 0 ∷ 1 ∷ (bytes "a" ++ (1 ∷ (bytes "2024-01-02"
+    ++ (5 ∷ 0 ∷ 0 ∷ 0 ∷ 200 ∷ 0 ∷ 1 ∷ (bytes "b" ++ (0
+    ∷ 15 ∷ 0 ∷ 0 ∷ 0 ∷ 200 ∷ 0 ∷ 1 ∷ (bytes "c" ++ (1 ∷ bytes "2024-01-01"))))))))
 
 abbrev columnsN : List Column
-columnsN = record { called = 99 ∷ []; holds = day 1 } ∷ record { called = 98 ∷ []; holds = row-row.null } ∷ record { called = 97 ∷ []; holds = day 2 } ∷ []
+columnsN = record { called = bytes "c"; holds = day 1 } ∷ record { called = bytes "b"; holds = row-row.null } ∷ record { called = bytes "a"; holds = day 2 } ∷ []
 
 -- a to d, the first to the fourth of January 2024
 abbrev rowD : List ℕ
-rowD = 15 ∷ 0 ∷ 0 ∷ 0 ∷ 200 ∷ 0 ∷ 1 ∷ 97 ∷ 1 ∷ 50 ∷ 48 ∷ 50 ∷ 52 ∷ 45 ∷ 48 ∷ 49 ∷ 45 ∷ 48 ∷ 49 ∷ 15 ∷ 0 ∷ 0 ∷ 0 ∷ 200 ∷ 0 ∷ 1 ∷ 98 ∷ 1 ∷ 50 ∷ 48 ∷ 50 ∷ 52 ∷ 45 ∷ 48 ∷ 49 ∷ 45 ∷ 48 ∷ 50 ∷ 15 ∷ 0 ∷ 0 ∷ 0 ∷ 200 ∷ 0 ∷ 1 ∷ 99 ∷ 1 ∷ 50 ∷ 48 ∷ 50 ∷ 52 ∷ 45 ∷ 48 ∷ 49 ∷ 45 ∷ 48 ∷ 51 ∷ 15 ∷ 0 ∷ 0 ∷ 0 ∷ 200 ∷ 0 ∷ 1 ∷ 100 ∷ 1 ∷ 50 ∷ 48 ∷ 50 ∷ 52 ∷ 45 ∷ 48 ∷ 49 ∷ 45 ∷ 48 ∷ 52 ∷ []
+rowD =
+    15 ∷ 0 ∷ 0 ∷ 0 ∷ 200 ∷ 0 ∷ 1 ∷ (bytes "a" ++ (1 ∷ (bytes "2024-01-01"
+    ++ (15 ∷ 0 ∷ 0 ∷ 0 ∷ 200 ∷ 0 ∷ 1 ∷ (bytes "b" ++ (1 ∷ (bytes "2024-01-02"
+    ++ (15 ∷ 0 ∷ 0 ∷ 0 ∷ 200 ∷ 0 ∷ 1 ∷ (bytes "c" ++ (1 ∷ (bytes "2024-01-03"
+    ++ (15 ∷ 0 ∷ 0 ∷ 0 ∷ 200 ∷ 0 ∷ 1 ∷ (bytes "d" ++ (1 ∷ bytes "2024-01-04"))))))))))))))
 
 abbrev columnsD : List Column
 columnsD =
-    record { called = 100 ∷ []; holds = day 4 } ∷ record { called = 99 ∷ []; holds = day 3 } ∷ record { called = 98 ∷ []; holds = day 2 }
-    ∷ record { called = 97 ∷ []; holds = day 1 } ∷ []
+    record { called = bytes "d"; holds = day 4 } ∷ record { called = bytes "c"; holds = day 3 } ∷ record { called = bytes "b"; holds = day 2 }
+    ∷ record { called = bytes "a"; holds = day 1 } ∷ []
 
 -- the filters: sheet J, the same turned, its complement, and [a, c] against [b, d] under any operator
 abbrev apart : Tree
@@ -137,14 +145,14 @@ record Computed : Type 0 where
   unknown : answered (truthOn columnsN apart) ≡ SaysUnknown
   instant : isOperand a ≡ true
   operands : (isOperand (interval b c) ≡ true) × (isOperand (interval a c) ≡ true) × (isOperand (interval b d) ≡ true)
-  heldD : (holds columnsD a ≡ true) × (holds columnsD (interval b c) ≡ true) × (holds columnsD (interval a c) ≡ true) × (holds columnsD (interval b d) ≡ true)
+  heldD : (holds columnsD a ≡ true) × (holds columnsD (interval b c) ≡ true)
   no-null : (columnsNonNull columnsD a ≡ true) × (columnsNonNull columnsD (interval b c) ≡ true)
   below : (proper columnsD a c ≡ true) × (proper columnsD b d ≡ true)
   dates : (instants ten columnsD ≡ true) × (ogcOperand ten a ≡ true) × (ogcOperand ten (interval b c) ≡ true)
   holds-there : answered (truthOf (ogcOn ten columnsD TDisjoint a (interval b c))) ≡ SaysTrue
 
 computed : Computed
-unfolding prelude-choice.all prelude-choice.some prelude-choice.same record-record.frame record-record.recordOf charset-charset.letter charset-charset.digit charset-charset.nameStart charset-charset.nameByte charset-charset.upper charset-charset.reservedWords charset-charset.reserved charset-charset.name charset-charset.strByte charset-charset.spatialByte civil-civil.leap civil-civil.daysIn civil-civil.validDate civil-civil.validTime op-op.opAt op-op.isArithmetic op-op.isArray op-op.isComparison op-op.isXtdComparison op-op.isSpatial op-op.isTemporal op-op.isInstantOrInterval op-op.isNullable op-spelling.spelledAs tree-tree.twos tree-tree.dateBytes tree-tree.counted tree-tree.encodeSettings tree-tree.encode tree-parse.also tree-parse.cons tree-parse.end tree-parse.exactly tree-parse.many tree-parse.first tree-parse.second tree-parse.signed tree-parse.namedAt tree-parse.emptyBody tree-parse.boolBody tree-parse.numBody tree-parse.strBody tree-parse.dateBody tree-parse.timestampBody tree-parse.spatialBody tree-parse.takesOne tree-parse.takesTwo tree-parse.allowed tree-parse.operated tree-parse.readFunction tree-parse.choose tree-parse.kinds tree-parse.node tree-parse.parse tree-placed.isInterval tree-placed.count tree-placed.isPair tree-placed.isBetween tree-placed.operands tree-placed.placed tree-placed.inner tree-accepted.isFrame tree-accepted.settingsBody tree-accepted.isSettings tree-accepted.settings tree-accepted.accepted literal-literal.low literal-literal.digits literal-literal.decimal literal-literal.pointed literal-literal.plain literal-literal.sign literal-literal.numText literal-literal.quoted literal-literal.collate literal-literal.strText literal-literal.spatialText literal-literal.date literal-literal.clock literal-literal.timestamp literal-literal.openEnd sql-condition.print sql-condition.checkId sql-condition.checkIds sql-translators.tAfter sql-translators.tBefore sql-translators.tDisjoint sql-translators.tEquals sql-translators.tIntersects sql-translators.tContains sql-translators.tDuring sql-translators.tFinishedBy sql-translators.tFinishes sql-translators.tMeets sql-translators.tMetBy sql-translators.tOverlappedBy sql-translators.tOverlaps sql-translators.tStartedBy sql-translators.tStarts sql-translators.translate gpkg-text.isId gpkg-text.isLiteralOrId gpkg-text.isMonadic gpkg-text.isItems gpkg-text.startOf gpkg-text.stopOf gpkg-text.endsOf gpkg-text.joined gpkg-text.reducePrecision gpkg-text.monadicText gpkg-text.reduces gpkg-text.dyadicText gpkg-text.isLiteral gpkg-text.text gpkg-lowered.fitted gpkg-lowered.lowering gpkg-lowered.answer gpkg-lowered.leaves order-order.order order-order.below row-row.cellOf row-row.columnIn row-row.framed row-row.front row-row.clash row-row.joined row-row.rowFrom row-row.rowOf row-row.look truth-lex.run truth-lex.wordKind truth-lex.signKind truth-lex.signMore truth-lex.quoteKind truth-lex.lexeme truth-lex.cut truth-lex.tokensIn truth-lex.tokens truth-lex.kind truth-lex.body truth-lex.rest truth-grammar.value truth-grammar.holds truth-grammar.eval truth-grammar.atomOf truth-grammar.notNull truth-grammar.nullTest truth-grammar.fromAtom truth-grammar.simple truth-grammar.orE truth-reading.parse truth-reading.readingOf time-filter.comparable time-filter.isEnd time-filter.isOperand time-filter.timeFilter time-filter.holds time-filtertruth.valueOn time-filtertruth.condTruth time-filtertruth.temporalTruth time-filtertruth.comparison time-filtertruth.truthOn time-filtertruth.isValue time-filtertruth.liesBelow time-filtertruth.columnsNonNull time-converse.converse time-converse.thirteen time-ogc.earlier time-ogc.sameMoment time-ogc.ogc time-ogc.beginsDate time-ogc.goesOnTime time-ogc.isInstant time-ogc.fields time-ogc.instants time-ogc.isPoint time-ogc.isStart time-ogc.ogcOperand time-ogc.momentOn time-ogc.ogcOn
+unfolding prelude-choice.all prelude-choice.some prelude-choice.same record-record.frame record-record.recordOf charset-charset.letter charset-charset.digit charset-charset.nameStart charset-charset.nameByte charset-charset.upper charset-charset.reservedWords charset-charset.reserved charset-charset.name charset-charset.strByte charset-charset.spatialByte civil-civil.leap civil-civil.daysIn civil-civil.validDate civil-civil.validTime op-op.opAt op-op.isArithmetic op-op.isArray op-op.isComparison op-op.isXtdComparison op-op.isSpatial op-op.isTemporal op-op.isInstantOrInterval op-op.isNullable op-spelling.spelledAs tree-tree.twos tree-tree.dateBytes tree-tree.counted tree-tree.encodeSettings tree-tree.encode tree-parse.also tree-parse.cons tree-parse.end tree-parse.exactly tree-parse.many tree-tests.first tree-tests.second tree-parse.signed tree-parse.namedAt tree-parse.emptyBody tree-parse.boolBody tree-parse.numBody tree-parse.strBody tree-parse.dateBody tree-parse.timestampBody tree-parse.spatialBody tree-parse.takesOne tree-parse.takesTwo tree-parse.allowed tree-parse.operated tree-parse.readFunction tree-parse.choose tree-parse.kinds tree-parse.node tree-parse.parse tree-tests.isInterval tree-tests.count tree-tests.isPair tree-placed.isBetween tree-placed.operands tree-placed.placed tree-placed.noInterval tree-placed.inPlace tree-placed.inner tree-tests.everywhere tree-tests.everywhereIn tree-tests.byOperator tree-accepted.isFrame tree-accepted.settingsBody tree-accepted.isSettings tree-accepted.settings tree-accepted.accepted literal-literal.low literal-literal.digits literal-literal.decimal literal-literal.pointed literal-literal.plain literal-literal.sign literal-literal.numText literal-literal.quoted literal-literal.collate literal-literal.strText literal-literal.spatialText literal-literal.date literal-literal.clock literal-literal.timestamp literal-literal.openEnd sql-condition.print sql-condition.checkId sql-condition.checkIds sql-translators.tAfter sql-translators.tBefore sql-translators.tDisjoint sql-translators.tEquals sql-translators.tIntersects sql-translators.tContains sql-translators.tDuring sql-translators.tFinishedBy sql-translators.tFinishes sql-translators.tMeets sql-translators.tMetBy sql-translators.tOverlappedBy sql-translators.tOverlaps sql-translators.tStartedBy sql-translators.tStarts sql-translators.translate tree-tests.isId tree-tests.isLiteralOrId tree-tests.isMonadic tree-tests.isItems tree-tests.startOf tree-tests.stopOf tree-tests.endsOf gpkg-text.joined gpkg-text.reducePrecision gpkg-text.monadicText gpkg-text.reduces gpkg-text.dyadicText tree-tests.isLiteral gpkg-text.text gpkg-lowered.fitted gpkg-lowered.lowering gpkg-lowered.answer gpkg-lowered.leaves order-order.order order-order.below row-row.cellOf row-row.columnIn row-row.framed row-row.front row-row.clash row-row.joined row-row.rowFrom row-row.rowOf row-row.look truth-lex.run truth-lex.wordKind truth-lex.signKind truth-lex.signMore truth-lex.quoteKind truth-lex.lexeme truth-lex.cut truth-lex.tokensIn truth-lex.tokens truth-lex.kind truth-lex.body truth-lex.rest truth-grammar.value truth-grammar.holds truth-grammar.eval truth-grammar.atomOf truth-grammar.notNull truth-grammar.nullTest truth-grammar.fromAtom truth-grammar.simple truth-grammar.orE truth-reading.parse truth-reading.readingOf time-filter.comparable time-filter.isEnd time-filter.isOperand time-filter.timeFilter time-filtertruth.treeAtom time-filtertruth.holds time-filtertruth.valueOn time-filtertruth.condTruth time-filtertruth.temporalTruth time-filtertruth.comparison time-filtertruth.truthOn time-filtertruth.isValue time-filtertruth.liesBelow time-filtertruth.columnsNonNull time-converse.converse time-converse.thirteen time-ogc.earlier time-ogc.sameMoment time-ogc.ogc time-ogc.beginsDate time-ogc.goesOnTime time-ogc.isInstant time-ogc.fields time-ogc.instants time-ogc.isPoint time-ogc.isStart time-ogc.ogcOperand time-ogc.momentOn time-ogc.ogcOn
 computed =
     record {
       rowN-is = refl;
@@ -173,7 +181,7 @@ computed =
       unknown = refl;
       instant = refl;
       operands = (refl, refl, refl);
-      heldD = (refl, refl, refl, refl);
+      heldD = (refl, refl);
       no-null = (refl, refl);
       below = (refl, refl);
       dates = (refl, refl, refl);
@@ -191,7 +199,7 @@ pub reads-truth-instance : readingOf (sql apart) rowN ≡ SaysUnknown
 reads-truth-instance = reads-truth (computed .apart-lowers) (computed .apart-filter) is-rowN (computed .heldN) .0 ∙ computed .unknown
 
 -- converse-reads: the operands exchanged
-pub converse-instance : readingOf (sql apart) rowN ≡ readingOf (sql turned) rowN
+pub converse-instance : Alike SaysTrue SaysFalse SaysUnknown (readingOf (sql apart) rowN) (readingOf (sql turned) rowN)
 unfolding time-converse.converse prelude-choice.some
 converse-instance =
     converse-reads (turn TDisjoint a (interval b c) (computed .temporal)) (computed .apart-lowers) (computed .turned-lowers) (computed .apart-filter) is-rowN (computed .heldN)
@@ -199,7 +207,7 @@ converse-instance =
 -- complement-reads: on a row without NULL
 pub complement-instance : Opposite SaysTrue SaysFalse SaysUnknown (readingOf (sql apart) rowD) (readingOf (sql meeting) rowD)
 complement-instance =
-    complement-reads (computed .apart-lowers) (computed .meeting-lowers) (computed .instant) (computed .operands .0) is-rowD (computed .heldD .0) (computed .heldD .1)
+    complement-reads (computed .apart-lowers) (computed .meeting-lowers) (computed .instant) (computed .operands .0) is-rowD
     (computed .no-null .0) (computed .no-null .1)
 
 -- agrees-with-ogc: a lies before the interval from b to c, so they are disjoint
@@ -212,4 +220,4 @@ ogc-instance =
 pub exactly-one-instance : ExactlyOne SaysTrue SaysFalse (λ o. readingOf (sql (pair o)) rowD)
 exactly-one-instance =
     exactly-one-reads (λ o. sql (pair o)) (among (λ o. Lowers (pair o) (sql (pair o))) (computed .pairs-lower)) (computed .operands .1) (computed .operands .2) is-rowD
-    (computed .heldD .2) (computed .heldD .3) (computed .below .0) (computed .below .1)
+    (computed .below .0) (computed .below .1)

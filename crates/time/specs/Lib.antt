@@ -1,23 +1,26 @@
--- What a reader opens first: the definitions (Filter to Accepted), the theorems of demands 2 and 3 (ReadsTruth, Theorems), and computed
--- instances with the smallest cases outside each hypothesis (Examples). The rest are laws.
+-- What is to be believed.
+pub mod Operators
 pub mod Filter
 pub mod FilterTruth
 pub mod Converse
 pub mod Ogc
 pub mod Claims
 pub mod Accepted
+-- The theorems of demands 2 and 3, at work on bytes, and the smallest cases outside each hypothesis.
 pub mod ReadsTruth
 pub mod Theorems
 pub mod Instances
 pub mod Examples
+-- Laws.
 pub mod OperatorLaws
+pub mod FilterLaws
 pub mod TruthLaws
 pub mod ConverseLaws
 pub mod ComplementLaws
 pub mod ThirteenLaws
 pub mod InstantLaws
 pub mod OgcLaws
-pub mod ReadBack
-pub mod Atoms
-pub mod CondReads
-pub mod FilterReads
+pub mod ReadBackLaws
+pub mod AtomLaws
+pub mod CondLaws
+pub mod FilterReadsLaws

@@ -1,7 +1,7 @@
 -- A temporal predicate agrees with OGC 21-065r2 on a row of instants of one width: each end stands for a moment, bytes and moments are ordered
 -- alike, every guard passes, and so each condition of the fifteen translators comes to the formula over starts and ends.
 use Prim.Native.Nat.{ℕ, _-_}
-use mathlib.Core.Path.{_≡_, refl, ap, _∙_}
+use mathlib.Core.Path.{_≡_, refl, ap, _∙_, subst}
 use mathlib.Core.List.{List, [], _∷_}
 use mathlib.Core.Bool.{Bool, true, false, false≢true}
 use lib.Dec.{eqb}
@@ -13,22 +13,25 @@ use Rattle.order.specs.OrderLaws.{order-above}
 use Rattle.op.specs.declared.Op.{Op}
 use Rattle.op.specs.declared.Op.the-variants.{TAfter, TBefore, TContains, TDisjoint, TDuring, TEquals, TFinishedBy, TFinishes, TIntersects, TMeets, TMetBy, TOverlappedBy, TOverlaps, TStartedBy, TStarts}
 use Rattle.op.specs.Op.{opNumber, isTemporal, isInstantOrInterval}
-use Rattle.tree.specs.Tree.{Tree, null, unbounded, bool, num, str, date, timestamp, spatial, id, monadic, dyadic, function, array, interval}
-use Rattle.tree.specs.Placed.{isInterval, operands}
-use Rattle.tree.specs.Good.{Good}
+use Rattle.tree.specs.Kinds.{NULL, UNBOUNDED, DATE, TIMESTAMP, ID, INTERVAL}
+use Rattle.tree.specs.Tree.{Tree, null, date, timestamp, kindOf}
+use Rattle.tree.specs.Placed.{operands}
+use Rattle.tree.specs.Tests.{children, first, second, everywhere, isId, isInterval, startOf, stopOf, endsOf, columnsOf}
+use Rattle.tree.specs.TestsLaws.{one-of-all, OfKind, of-interval, interval-is}
+use Rattle.tree.specs.GoodWords.{Good}
 use Rattle.literal.specs.Literal as literal
 use Rattle.sql.specs.Condition.{Cond, test, lt, gt, eq, checkId, checkIds}
 use Rattle.sql.specs.Translators.{translate, tAfter, tBefore, tContains, tDisjoint, tDuring, tEquals, tFinishedBy, tFinishes, tIntersects, tMeets, tMetBy, tOverlappedBy, tOverlaps, tStartedBy, tStarts}
-use Rattle.gpkg.specs.Text.{startOf, stopOf, endsOf, columnsOf}
 use Rattle.row.specs.Row.{Value, val, Column, Found, has, look}
 use Rattle.row.specs.Row as row
 use Rattle.truth.specs.declared.Truth.{Truth}
 use Rattle.truth.specs.Lex.{LT, GT, EQ, NE}
-use Rattle.truth.specs.Grammar.{not3, and3, or3, truthOf, compared}
+use Rattle.truth.specs.Grammar.{value, not3, and3, or3, truthOf, compared}
 use Rattle.truth.specs.Grammar as grammar
-use Rattle.time.specs.Filter.{found, holds}
-use Rattle.time.specs.FilterTruth.{valueOn, condTruth, endValues, temporalTruth, isValue}
-use Rattle.time.specs.Ogc.{Moment, openStart, moment, earlier, sameMoment, ogc, Width, ten, nineteen, isInstant, fields, isInstantValue, instants, isTen, isPoint, isStart, ogcOperand, momentOf, momentOn, ogcOn}
+use Rattle.time.specs.Filter.{isEnd}
+use Rattle.time.specs.FilterLaws.{EndIs, null-end, open-end, date-end, timestamp-end, column-end, end-is}
+use Rattle.time.specs.FilterTruth.{found, holds, treeAtom, valueOn, condTruth, endValues, temporalTruth, isValue}
+use Rattle.time.specs.Ogc.{Moment, openStart, moment, earlier, sameMoment, ogc, Width, ten, nineteen, isInstant, fields, isInstantValue, instants, isPoint, isStart, ogcOperand, momentOf, momentOn, ogcOn}
 use Rattle.time.specs.OperatorLaws.{done, _also_, of-temporal}
 use Rattle.time.specs.TruthLaws.{and3-known, or3-known, not3-known, orders, gt-lt, guard, guard-passes, check-id, check-ids}
 use Rattle.time.specs.ComplementLaws.{ne-eq}
@@ -261,90 +264,72 @@ look-stands w s (c ∷ cs) e f =
     go true g k r = k
     go false g k r = r g
 
-date-stands : (w : Width) (y m d : ℕ) → validDate y m d ≡ true → isTen w ≡ true → Stands w (has (val (literal.date y m d))) (moment (y ∷ m ∷ d ∷ []))
+date-stands : (w : Width) (y m d : ℕ) → validDate y m d ≡ true → isStart w (date y m d) ≡ true → Stands w (has (val (literal.date y m d))) (moment (y ∷ m ∷ d ∷ []))
+unfolding isStart
 date-stands ten y m d e f =
     let k : Stands ten (has (val (literal.date y m d))) (moment (fields ten (literal.date y m d))) = at (date-instant y m d e) in
     rw (date-fields y m d e) at k
 date-stands nineteen y m d e f = absurd (false≢true f)
 
-timestamp-stands : (w : Width) (y m d h i s : ℕ) → validDate y m d ≡ true → validTime h i s ≡ true → negated (isTen w) ≡ true
+timestamp-stands : (w : Width) (y m d h i s : ℕ) → validDate y m d ≡ true → validTime h i s ≡ true → isStart w (timestamp y m d h i s) ≡ true
     → Stands w (has (val (literal.timestamp y m d h i s))) (moment (y ∷ m ∷ d ∷ h ∷ i ∷ s ∷ []))
+unfolding isStart
 timestamp-stands ten y m d h i s e f g = absurd (false≢true g)
 timestamp-stands nineteen y m d h i s e f g =
     let k : Stands nineteen (has (val (literal.timestamp y m d h i s))) (moment (fields nineteen (literal.timestamp y m d h i s))) =
     at (timestamp-instant y m d h i s e f) in
     rw (timestamp-fields y m d h i s e f) at k
 
+-- Null is no start
+null-starts : (w : Width) → isStart w null ≡ true → ⊥
+unfolding isStart
+null-starts ten f = false≢true f
+null-starts nineteen f = false≢true f
+
+-- a point is a start that is not open, and both are ends
+pub start-is-end : (w : Width) (t : Tree) → isStart w t ≡ true → isEnd t ≡ true
+unfolding isStart isEnd
+start-is-end ten t = one-of-all (ID ∷ DATE ∷ UNBOUNDED ∷ []) (ID ∷ DATE ∷ TIMESTAMP ∷ UNBOUNDED ∷ NULL ∷ []) (kindOf t) refl
+start-is-end nineteen t = one-of-all (ID ∷ TIMESTAMP ∷ UNBOUNDED ∷ []) (ID ∷ DATE ∷ TIMESTAMP ∷ UNBOUNDED ∷ NULL ∷ []) (kindOf t) refl
+
+pub point-start : (w : Width) (t : Tree) → isPoint w t ≡ true → isStart w t ≡ true
+unfolding isPoint isStart
+point-start ten t = one-of-all (ID ∷ DATE ∷ []) (ID ∷ DATE ∷ UNBOUNDED ∷ []) (kindOf t) refl
+point-start nineteen t = one-of-all (ID ∷ TIMESTAMP ∷ []) (ID ∷ TIMESTAMP ∷ UNBOUNDED ∷ []) (kindOf t) refl
+
 module _ (w : Width) (cs : List Column) (e : instants w cs ≡ true) where
   start-stands : (t : Tree) (n : ℕ) → Good t n → holds cs t ≡ true → isStart w t ≡ true → Stands w (valueOn cs t) (momentOn w cs t)
-  unfolding Good holds isStart valueOn momentOn
-  start-stands null k g p f = absurd (false≢true f)
-  start-stands unbounded k g p f = opens
-  start-stands (bool b) k g p f = absurd (false≢true f)
-  start-stands (num m s) k g p f = absurd (false≢true f)
-  start-stands (str l s) k g p f = absurd (false≢true f)
-  start-stands (date y m d) k g p f = date-stands w y m d (g .1) f
-  start-stands (timestamp y m d h i s) k g p f = timestamp-stands w y m d h i s (g .1) (g .2) f
-  start-stands (spatial n s) k g p f = absurd (false≢true f)
-  start-stands (id s) k g p f = look-stands w s cs e p
-  start-stands (monadic o t) k g p f = absurd (false≢true f)
-  start-stands (dyadic o t u) k g p f = absurd (false≢true f)
-  start-stands (function n ts) k g p f = absurd (false≢true f)
-  start-stands (array ts) k g p f = absurd (false≢true f)
-  start-stands (interval t u) k g p f = absurd (false≢true f)
+  unfolding Good holds everywhere valueOn treeAtom value momentOn isId
+  start-stands t n g p f = go t (end-is t (start-is-end w t f)) g p f
+    where
+      go : (t : Tree) → EndIs t → Good t n → holds cs t ≡ true → isStart w t ≡ true → Stands w (valueOn cs t) (momentOn w cs t)
+      go t null-end g p f = absurd (null-starts w f)
+      go t open-end g p f = opens
+      go t (date-end y m d) g p f = date-stands w y m d (g .1) f
+      go t (timestamp-end y m d h i s) g p f = timestamp-stands w y m d h i s (g .1) (g .2) f
+      go t (column-end s) g p f = look-stands w s cs e p
 
-  -- a point is a start that is not open
-  point-start : (t : Tree) → isPoint w t ≡ true → isStart w t ≡ true
-  unfolding isPoint isStart
-  point-start null f = absurd (false≢true f)
-  point-start unbounded f = absurd (false≢true f)
-  point-start (bool b) f = absurd (false≢true f)
-  point-start (num m s) f = absurd (false≢true f)
-  point-start (str l s) f = absurd (false≢true f)
-  point-start (date y m d) f = f
-  point-start (timestamp y m d h i s) f = f
-  point-start (spatial n s) f = absurd (false≢true f)
-  point-start (id s) f = f
-  point-start (monadic o t) f = absurd (false≢true f)
-  point-start (dyadic o t u) f = absurd (false≢true f)
-  point-start (function n ts) f = absurd (false≢true f)
-  point-start (array ts) f = absurd (false≢true f)
-  point-start (interval t u) f = absurd (false≢true f)
+  -- the ends of an interval
+  ends-stand : (t : Tree) (n : ℕ) → OfKind INTERVAL t → Good t n → holds cs t ≡ true → ogcOperand w t ≡ true
+      → Stands w (valueOn cs (startOf t)) (momentOn w cs (startOf t)) × Stands w (valueOn cs (stopOf t)) (momentOn w cs (stopOf t))
+  unfolding Good holds everywhere valueOn treeAtom value ogcOperand isInterval startOf stopOf first second
+  ends-stand t n (of-interval a b) g p f =
+      let h = both-true (holds cs a) (holds cs b) p in
+      let k = both-true (isStart w a) (isPoint w b) f in
+      (start-stands a (n - 1) (g .1) (h .0) (k .0), start-stands b (n - 1) (g .2) (h .1) (point-start w b (k .1)))
 
   first-stands : (t : Tree) (n : ℕ) → Good t n → holds cs t ≡ true → ogcOperand w t ≡ true → Stands w (valueOn cs (startOf t)) (momentOn w cs (startOf t))
-  unfolding Good holds ogcOperand isStart startOf
-  first-stands null k g p f = absurd (false≢true f)
-  first-stands unbounded k g p f = absurd (false≢true f)
-  first-stands (bool b) k g p f = absurd (false≢true f)
-  first-stands (num m s) k g p f = absurd (false≢true f)
-  first-stands (str l s) k g p f = absurd (false≢true f)
-  first-stands (date y m d) k g p f = start-stands (date y m d) k g p f
-  first-stands (timestamp y m d h i s) k g p f = start-stands (timestamp y m d h i s) k g p f
-  first-stands (spatial n s) k g p f = absurd (false≢true f)
-  first-stands (id s) k g p f = start-stands (id s) k g p f
-  first-stands (monadic o t) k g p f = absurd (false≢true f)
-  first-stands (dyadic o t u) k g p f = absurd (false≢true f)
-  first-stands (function n ts) k g p f = absurd (false≢true f)
-  first-stands (array ts) k g p f = absurd (false≢true f)
-  first-stands (interval t u) k g p f = start-stands t (k - 1) (g .1) (both-true (holds cs t) (holds cs u) p .0) (both-true (isStart w t) (isPoint w u) f .0)
+  unfolding ogcOperand startOf
+  first-stands t n g p f = go (isInterval t) refl f
+    where
+      go : (b : Bool) → isInterval t ≡ b → pick b (both (isStart w (startOf t)) (isPoint w (stopOf t))) (isPoint w t) ≡ true
+          → Stands w (valueOn cs (pick b (first (children t)) t)) (momentOn w cs (pick b (first (children t)) t))
+      go true i q = subst (λ (c : Bool). Stands w (valueOn cs (pick c (first (children t)) t)) (momentOn w cs (pick c (first (children t)) t))) i (ends-stand t n (interval-is t i) g p f .0)
+      go false i q = start-stands t n g p (point-start w t q)
 
   last-stands : (t : Tree) (n : ℕ) → Good t n → holds cs t ≡ true → ogcOperand w t ≡ true → isInterval t ≡ true
       → Stands w (valueOn cs (stopOf t)) (momentOn w cs (stopOf t))
-  unfolding Good holds ogcOperand isInterval stopOf
-  last-stands null k g p f q = absurd (false≢true q)
-  last-stands unbounded k g p f q = absurd (false≢true q)
-  last-stands (bool b) k g p f q = absurd (false≢true q)
-  last-stands (num m s) k g p f q = absurd (false≢true q)
-  last-stands (str l s) k g p f q = absurd (false≢true q)
-  last-stands (date y m d) k g p f q = absurd (false≢true q)
-  last-stands (timestamp y m d h i s) k g p f q = absurd (false≢true q)
-  last-stands (spatial n s) k g p f q = absurd (false≢true q)
-  last-stands (id s) k g p f q = absurd (false≢true q)
-  last-stands (monadic o t) k g p f q = absurd (false≢true q)
-  last-stands (dyadic o t u) k g p f q = absurd (false≢true q)
-  last-stands (function n ts) k g p f q = absurd (false≢true q)
-  last-stands (array ts) k g p f q = absurd (false≢true q)
-  last-stands (interval t u) k g p f q = start-stands u (k - 1) (g .2) (both-true (holds cs t) (holds cs u) p .1) (point-start u (both-true (isStart w t) (isPoint w u) f .1))
+  last-stands t n g p f i = ends-stand t n (interval-is t i) g p f .1
 
 -- the moment of an end that is chosen
 chosen : (w : Width) (cs : List Column) (b : Bool) (t u : Tree) → pick b (momentOn w cs t) (momentOn w cs u) ≡ momentOn w cs (pick b t u)

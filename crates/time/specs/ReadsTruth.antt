@@ -1,49 +1,47 @@
 -- Demand 2: the truth read from a time filter's text on a row holding its columns equals the three-valued definition over the tree.
--- The text reads back as the filter's condition (FilterReads.antt), within 34 of the 64 brackets, and no column of it is missing.
-use Prim.Native.Nat.{ℕ, zero, suc, _≤_, _<_}
-use mathlib.Core.Path.{_≡_, refl, sym, ap, _∙_, subst}
+-- The text reads back as the filter's condition (FilterReadsLaws.antt), within 34 of the 64 brackets, and no column of it is missing.
+use Prim.Native.Nat.{ℕ, zero, suc, _≤_}
+use mathlib.Core.Path.{_≡_, refl, sym, ap, _∙_}
 use mathlib.Core.List.{List, [], _∷_}
 use mathlib.Core.Bool.{Bool, true, false, false≢true}
-use mathlib.Core.Logic.{_⊎_, ⊎-elim}
 use native.Mathlib.Omega.{arith}
-use lib.Dec.{ltb}
+use lib.Dec.{eqb, ltb}
 use lib.ListN.{length, getD}
 use borrow.Author.Tests.{le-ltb, ltb-false}
-use Rattle.prelude.specs.Choice.{pick, both, either}
+use Rattle.prelude.specs.Choice.{pick}
 use Rattle.prelude.specs.ChoiceLaws.{both-true}
-use Rattle.refusal.specs.declared.Refusal.{Refusal}
 use Rattle.refusal.specs.declared.Refusal.the-variants.{TreeTooLong, BadOperand, TextTooLong, BufferTooShort}
 use Rattle.op.specs.Op.{opNumber, oneOf}
 use Rattle.op.specs.declared.Op.the-variants.{IsNull}
-use Rattle.tree.specs.Tree.{Tree, Trees, Settings, null, unbounded, bool, num, str, date, timestamp, spatial, id, monadic, dyadic, function, array, interval}
+use Rattle.tree.specs.Kinds.{BOOL}
+use Rattle.tree.specs.Tree.{Tree, Settings, null, kindOf}
 use Rattle.order.specs.Order.{order}
 use Rattle.tree.specs.Limits.{depthLimit, treeLimit}
-use Rattle.tree.specs.Parse.{Read, refused, got, also, parse}
-use Rattle.tree.specs.ParseLaws.{split, also-got, not-got, parse-good}
-use Rattle.tree.specs.Good.{Good}
-use Rattle.tree.specs.Placed.{placed, isInterval}
+use Rattle.tree.specs.Parse.{refused, got, also, parse}
+use Rattle.tree.specs.ParseLaws.{also-got, not-got, parse-good}
+use Rattle.tree.specs.GoodWords.{Good}
+use Rattle.tree.specs.Placed.{placed}
+use Rattle.tree.specs.Tests.{fieldsOf, everywhere, isInterval, startOf, stopOf, endsOf, columnsOf}
+use Rattle.tree.specs.TestsLaws.{everywhere-here, everywhere-start, everywhere-stop, by-operator}
 use Rattle.tree.specs.Accepted.{settings, accepted}
 use Rattle.sql.specs.Condition as sql
 use Rattle.sql.specs.Translators.{translate}
 use Rattle.gpkg.specs.Text as gpkg
-use Rattle.gpkg.specs.Text.{startOf, stopOf, endsOf, columnsOf}
 use Rattle.gpkg.specs.Lowered.{lengthLimit, fitted, lowering}
-use Rattle.row.specs.Row.{Column, Found, absent, has, val, look, rowOf, columns}
+use Rattle.row.specs.Row.{Column, Found, absent, has, val}
 use Rattle.row.specs.Row as row
 use Rattle.truth.specs.declared.Truth.{Truth}
 use Rattle.truth.specs.declared.Truth.the-variants.{True, False, Unknown, Missing}
-use Rattle.truth.specs.declared.Reading.{Reading}
-use Rattle.truth.specs.declared.Reading.the-variants.{Refused}
-use Rattle.truth.specs.Grammar.{not3, and3, or3, truthOf, compared, nullity, eval}
+use Rattle.truth.specs.Grammar.{value, not3, and3, or3, truthOf, compared, nullity}
 use Rattle.truth.specs.Grammar as grammar
 use Rattle.truth.specs.Lex.{kind}
-use Rattle.truth.specs.Reading.{textLimit, rowLimit, bracketLimit, answered, readingOf}
+use Rattle.truth.specs.Reading.{textLimit, rowLimit, answered, readingOf}
 use Rattle.truth.specs.Reading as reading
-use Rattle.time.specs.Filter.{isNeg, isAnd, isOr, compares, timeFilter, holds, found}
-use Rattle.time.specs.FilterTruth.{valueOn, signOf, condTruth, endValues, temporalTruth, comparison, truthOn}
+use Rattle.time.specs.Filter.{isNeg, isAnd, isOr, compares, timeFilter}
+use Rattle.time.specs.FilterTruth.{treeAtom, valueOn, found, holds, signOf, condTruth, endValues, temporalTruth, comparison, constant, monadicTruth, dyadicTruth, truthOn}
 use Rattle.time.specs.Accepted.{Lowers, IsRow}
-use Rattle.time.specs.ReadBack.{Prints, parses-back, lift}
-use Rattle.time.specs.FilterReads.{filterAst, filter-eval, filter-shown, room, deeper}
+use Rattle.time.specs.ReadBackLaws.{Prints, parses-back}
+use Rattle.time.specs.FilterReadsLaws.{filterAst, filter-eval, filter-shown, deeper}
 
 -- What an accepted filter is.
 pub record Parts (t : Tree) (x : List ℕ) : Type 0 where
@@ -161,60 +159,21 @@ known-cond v h (sql.or c d) = known-or (condTruth v c) (condTruth v d) (known-co
 known-cond v h (sql.not c) = known-not (condTruth v c) (known-cond v h c)
 known-cond v h (sql.brackets c) = known-cond v h c
 
--- a value on a row that holds the tree's columns
+-- a value on a row that holds the tree's columns, and those of its ends
 value-found : (cs : List Column) (t : Tree) → holds cs t ≡ true → found (valueOn cs t) ≡ true
-unfolding holds valueOn
-value-found cs null e = refl
-value-found cs unbounded e = refl
-value-found cs (bool b) e = refl
-value-found cs (num m s) e = refl
-value-found cs (str f s) e = refl
-value-found cs (date y m d) e = refl
-value-found cs (timestamp y m d h i s) e = refl
-value-found cs (spatial n s) e = refl
-value-found cs (id s) e = e
-value-found cs (monadic o t) e = refl
-value-found cs (dyadic o t u) e = refl
-value-found cs (function n ts) e = refl
-value-found cs (array ts) e = refl
-value-found cs (interval t u) e = refl
+unfolding holds
+value-found cs = everywhere-here (λ n. found (valueOn cs n))
 
 start-held : (cs : List Column) (t : Tree) → holds cs t ≡ true → holds cs (startOf t) ≡ true
-unfolding holds startOf
-start-held cs null e = e
-start-held cs unbounded e = e
-start-held cs (bool b) e = e
-start-held cs (num m s) e = e
-start-held cs (str f s) e = e
-start-held cs (date y m d) e = e
-start-held cs (timestamp y m d h i s) e = e
-start-held cs (spatial n s) e = e
-start-held cs (id s) e = e
-start-held cs (monadic o t) e = e
-start-held cs (dyadic o t u) e = e
-start-held cs (function n ts) e = e
-start-held cs (array ts) e = e
-start-held cs (interval t u) e = both-true (holds cs t) (holds cs u) e .0
+unfolding holds valueOn treeAtom value
+start-held cs = everywhere-start (λ n. found (valueOn cs n)) refl
 
 stop-held : (cs : List Column) (t : Tree) → holds cs t ≡ true → holds cs (stopOf t) ≡ true
-unfolding holds stopOf
-stop-held cs null e = refl
-stop-held cs unbounded e = refl
-stop-held cs (bool b) e = refl
-stop-held cs (num m s) e = refl
-stop-held cs (str f s) e = refl
-stop-held cs (date y m d) e = refl
-stop-held cs (timestamp y m d h i s) e = refl
-stop-held cs (spatial n s) e = refl
-stop-held cs (id s) e = refl
-stop-held cs (monadic o t) e = refl
-stop-held cs (dyadic o t u) e = refl
-stop-held cs (function n ts) e = refl
-stop-held cs (array ts) e = refl
-stop-held cs (interval t u) e = both-true (holds cs t) (holds cs u) e .1
+unfolding holds valueOn treeAtom value
+stop-held cs = everywhere-stop (λ n. found (valueOn cs n)) refl
 
 ends-found : (cs : List Column) (t u : Tree) → holds cs t ≡ true → holds cs u ≡ true → (j : ℕ) → found (endValues cs t u j) ≡ true
-unfolding endsOf valueOn
+unfolding endsOf valueOn treeAtom value
 ends-found cs t u e f zero = value-found cs (startOf t) (start-held cs t e)
 ends-found cs t u e f (suc zero) = value-found cs (stopOf t) (stop-held cs t e)
 ends-found cs t u e f (suc (suc zero)) = value-found cs (startOf u) (start-held cs u f)
@@ -225,29 +184,22 @@ pick-known : (b : Bool) (p q : Truth) → known p ≡ true → known q ≡ true 
 pick-known true p q e f = e
 pick-known false p q e f = f
 
+known-constant : (t : Tree) → known (constant t) ≡ true
+known-constant t = pick-known (eqb (kindOf t) BOOL) _ _ (known-bool (eqb (getD (fieldsOf t) 0 0) 1)) refl
+
 pub truth-known : (cs : List Column) (t : Tree) → holds cs t ≡ true → known (truthOn cs t) ≡ true
-unfolding truthOn temporalTruth holds
-truth-known cs null e = refl
-truth-known cs unbounded e = refl
-truth-known cs (bool b) e = known-bool b
-truth-known cs (num m s) e = refl
-truth-known cs (str f s) e = refl
-truth-known cs (date y m d) e = refl
-truth-known cs (timestamp y m d h i s) e = refl
-truth-known cs (spatial n s) e = refl
-truth-known cs (id s) e = refl
-truth-known cs (monadic o t) e =
-    pick-known (isNeg o) _ _ (known-not (truthOn cs t) (truth-known cs t e))
-    (pick-known (oneOf o (IsNull ∷ [])) _ _ (known-null (valueOn cs t) (value-found cs t e)) (known-not (nullity (valueOn cs t)) (known-null (valueOn cs t) (value-found cs t e))))
-truth-known cs (dyadic o t u) e =
+unfolding truthOn temporalTruth holds everywhere valueOn treeAtom value
+truth-known cs =
+    by-operator constant (monadicTruth cs) (dyadicTruth cs) (λ t a. holds cs t ≡ true → known a ≡ true) (λ t e. known-constant t)
+    (λ o t a f e.
+    pick-known (isNeg o) _ _ (known-not a (f e))
+    (pick-known (oneOf o (IsNull ∷ [])) _ _ (known-null (valueOn cs t) (value-found cs t e)) (known-not (nullity (valueOn cs t)) (known-null (valueOn cs t) (value-found cs t e)))))
+    (λ o t u a b f g e.
     let h = both-true (holds cs t) (holds cs u) e in
-    pick-known (isAnd o) _ _ (known-and (truthOn cs t) (truthOn cs u) (truth-known cs t (h .0)) (truth-known cs u (h .1)))
-    (pick-known (isOr o) _ _ (known-or (truthOn cs t) (truthOn cs u) (truth-known cs t (h .0)) (truth-known cs u (h .1)))
+    pick-known (isAnd o) _ _ (known-and a b (f (h .0)) (g (h .1)))
+    (pick-known (isOr o) _ _ (known-or a b (f (h .0)) (g (h .1)))
     (pick-known (compares o) _ _ (known-compared (comparison o) (valueOn cs t) (valueOn cs u) (value-found cs t (h .0)) (value-found cs u (h .1)))
-    (known-cond (endValues cs t u) (ends-found cs t u (h .0) (h .1)) (translate (opNumber o) (isInterval t) (isInterval u) (columnsOf t u)))))
-truth-known cs (function n ts) e = refl
-truth-known cs (array ts) e = refl
-truth-known cs (interval t u) e = refl
+    (known-cond (endValues cs t u) (ends-found cs t u (h .0) (h .1)) (translate (opNumber o) (isInterval t) (isInterval u) (columnsOf t u))))))
 
 -- The theorem.
 
@@ -259,10 +211,15 @@ up : {l : ℕ} {s : List ℕ} {x : grammar.Ast} (n : ℕ) {d : ℕ} → Prints d
 up zero p = p
 up (suc n) p = deeper (up n p)
 
-pub reads-truth : {t : Tree} {x row : List ℕ} {cs : List Column} → Lowers t x → timeFilter t ≡ true → IsRow row cs → holds cs t ≡ true
-    → (readingOf x row ≡ answered (truthOn cs t)) × (known (truthOn cs t) ≡ true)
+-- on any row
+pub reads-as : {t : Tree} {x row : List ℕ} {cs : List Column} → Lowers t x → timeFilter t ≡ true → IsRow row cs → readingOf x row ≡ answered (truthOn cs t)
 unfolding readingOf kind
-reads-truth {t} {x} {row} {cs} L f R h =
+reads-as {t} {x} {row} {cs} L f R =
     let p = parts L in
     let q : reading.parse x ≡ grammar.got (filterAst t) [] = parses-back 3 x (filterAst t) (omega arith) (rw (p .text-is) (up 30 (filter-shown (p .with) depthLimit t f (p .good)))) in
-    (rw (le-ltb textLimit (length x) (p .short), le-ltb rowLimit (length row) (R .short), R .reads, q) (ap answered (filter-eval cs t)), truth-known cs t h)
+    rw (le-ltb textLimit (length x) (p .short), le-ltb rowLimit (length row) (R .short), R .reads, q) (ap answered (filter-eval cs t))
+
+-- on a row that holds its columns no name is missing, so that the answer is true, false or unknown
+pub reads-truth : {t : Tree} {x row : List ℕ} {cs : List Column} → Lowers t x → timeFilter t ≡ true → IsRow row cs → holds cs t ≡ true
+    → (readingOf x row ≡ answered (truthOn cs t)) × (known (truthOn cs t) ≡ true)
+reads-truth {cs = cs} L f R h = (reads-as L f R, truth-known cs _ h)

@@ -16,10 +16,9 @@ use Rattle.op.specs.declared.Op.the-variants.{TAfter, TBefore, TContains, TDuri
 use Rattle.op.specs.Op.{opNumber, oneOf}
 use Rattle.op.specs.OpLaws.{every-op, alike}
 use Rattle.tree.specs.Tree.{Tree, interval}
-use Rattle.tree.specs.Placed.{isInterval}
+use Rattle.tree.specs.Tests.{first, second, isInterval, startOf, stopOf, endsOf, columnsOf}
 use Rattle.sql.specs.Condition as sql
 use Rattle.sql.specs.Translators.{translate, tAfter, tBefore, tContains, tDuring, tEquals, tFinishedBy, tFinishes, tMeets, tMetBy, tOverlappedBy, tOverlaps, tStartedBy, tStarts}
-use Rattle.gpkg.specs.Text.{startOf, stopOf, endsOf, columnsOf}
 use Rattle.row.specs.Row.{val, Column, Found, absent, has}
 use Rattle.row.specs.Row as row
 use Rattle.truth.specs.declared.Truth.{Truth}
@@ -249,7 +248,7 @@ carried h good bad f g e x = record {
 -- Two intervals whose four ends are non-null, each start below its end.
 pub exactly-one : (cs : List Column) (a b c d : Tree) → proper cs a b ≡ true → proper cs c d ≡ true
     → ExactlyOne True False (λ o. temporalTruth cs o (interval a b) (interval c d))
-unfolding temporalTruth isInterval endsOf startOf stopOf
+unfolding temporalTruth isInterval endsOf startOf stopOf first second
 exactly-one cs a b c d p q =
     let h = ends-below (valueOn cs a) (valueOn cs b) p in
     let k = ends-below (valueOn cs c) (valueOn cs d) q in

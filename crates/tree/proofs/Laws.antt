@@ -1,6 +1,6 @@
 -- Laws of the definitions that the proofs of the code cite. Each is over plain lists and numbers.
 use mathlib.Core.Path.{_≡_, refl, ap, sym, _∙_, subst}
-use mathlib.Core.List.{List, [], _∷_}
+use mathlib.Core.List.{List}
 use mathlib.Core.Bool.{Bool, true, false}
 use Prim.Native.Nat.{ℕ, zero, suc, _+_, _-_, _≤_, _<_}
 use native.Mathlib.Omega.{arith}
@@ -8,20 +8,20 @@ use lib.IntN.{ℤ, pos, negsuc, natAbs, _-ℤ_}
 use mir.Syntax.{w64}
 use mir.Val.{SFits, toZ}
 use mir.Facts.{toZ-pos}
-use lib.ListN.{length, getD, take, drop, length-drop, List·getD-eq-default}
-use lib.Seq.{take-all, drop-drop}
+use lib.ListN.{length, getD, take, drop, length-drop}
+use lib.Seq.{take-all}
 use lib.Dec.{ltb, leb, eqb}
-use borrow.Author.Tests.{ltb-true, ltb-false, le-ltb, lt-ltb, le-leb, lt-leb, eq-eqb, ne-eqb}
-use Rattle.prelude.specs.Choice.{pick, both, either, negated, some}
-use Rattle.tree.specs.Accepted.{settingsBody}
+use borrow.Author.Tests.{ltb-true, ltb-false, le-ltb, lt-ltb, le-leb, lt-leb, eq-eqb}
+use Rattle.prelude.specs.Choice.{pick, some}
+use Rattle.tree.specs.Accepted.{precisionAt, ciAt, aiAt, caiAt, settingsBody}
 use Rattle.tree.specs.Limits.{mantissaLimit, precisionLimit}
-use Rattle.record.specs.Record.{le16, le32}
+use Rattle.record.specs.Record.{le16}
 use Rattle.charset.specs.Charset.{name}
 use Rattle.civil.specs.Civil.{validDate, validTime}
 use Rattle.op.specs.declared.Op.{Op}
 use Rattle.op.specs.Op.{opNumber}
 use Rattle.tree.specs.Placed.{isBetween}
-use Rattle.tree.specs.Parse.{signed, le64, past, namedAt, timestampBody, takesOne}
+use Rattle.tree.specs.Parse.{signed, past, namedAt, timestampBody, takesOne}
 
 -- The bytes from `at` on, as the code's `&s[at..]` has them.
 abbrev pub tail : ℕ → List ℕ → List ℕ
@@ -29,19 +29,6 @@ tail at s = take (length s - at) (drop at s)
 
 pub tail-is : (at : ℕ) (s : List ℕ) → tail at s ≡ drop at s
 tail-is at s = take-all (length s - at) (drop at s) (omega (arith, length-drop at s))
-
--- a byte past the end counts as 0
-pub past-end : (s : List ℕ) (at k : ℕ) → length s ≤ at → getD s (at + k) 0 ≡ 0
-past-end s at k h = let l : length s ≤ at + k = omega arith in List·getD-eq-default s 0 l
-
-pub word-past : (s : List ℕ) (at : ℕ) → length s ≤ at → le16 s at ≡ 0
-word-past s at h = omega (arith, List·getD-eq-default s 0 h, past-end s at 1 h)
-
-pub dword-past : (s : List ℕ) (at : ℕ) → length s ≤ at + 2 → le32 s at ≡ le16 s at
-dword-past s at h = omega (arith, word-past s (at + 2) h)
-
-pub qword-past : (s : List ℕ) (at : ℕ) → length s ≤ at + 4 → le64 s at ≡ le32 s at
-qword-past s at h = omega (arith, word-past s (at + 4) h, word-past s (at + 4 + 2) (omega arith))
 
 -- Two's complement, as the code computes it.
 
@@ -132,17 +119,34 @@ pub between-number : (o : Op) → isBetween o ≡ betweenNumber (opNumber o)
 unfolding isBetween some
 between-number o = refl
 
--- The settings, name by name: a, b, d are the length bytes that the code has read.
+-- The settings, name by name: p is the precision byte that the code has read, ai and cai are where it has found the second and the third name.
 
-module _ (s : List ℕ) (p a b d : ℕ) (ep : p ≡ getD s 6 0) (low : p ≤ precisionLimit) (ci : namedAt s 7 ≡ true) (ea : a ≡ getD s 7 0) where
-  pub settings-ai : namedAt s (8 + a) ≡ false → settingsBody s ≡ false
-  unfolding settingsBody
-  settings-ai h = simp (← ep, le-leb p precisionLimit low, ci, ← ea, h)
+pub cai-is : (s : List ℕ) (ai d : ℕ) → ai ≡ aiAt s → d ≡ getD s ai 0 → ai + 1 + d ≡ caiAt s
+cai-is s ai d e f = let g : getD s ai 0 ≡ getD s (aiAt s) 0 = ap (λ (i : ℕ). getD s i 0) e in omega arith
 
-  pub settings-cai : namedAt s (8 + a) ≡ true → b ≡ getD s (8 + a) 0 → namedAt s (8 + a + 1 + b) ≡ false → settingsBody s ≡ false
+module _ (s : List ℕ) (p : ℕ) (ep : p ≡ getD s precisionAt 0) where
+  pub settings-precision : precisionLimit < p → settingsBody s ≡ false
   unfolding settingsBody
-  settings-cai h eb k = simp (← ep, le-leb p precisionLimit low, ci, ← ea, h, ← eb, k)
+  settings-precision h = simp (← ep, lt-leb p precisionLimit h)
 
-  pub settings-end : namedAt s (8 + a) ≡ true → b ≡ getD s (8 + a) 0 → namedAt s (8 + a + 1 + b) ≡ true → d ≡ getD s (8 + a + 1 + b) 0 → eqb (8 + a + 1 + b + 1 + d) (length s) ≡ settingsBody s
-  unfolding settingsBody
-  settings-end h eb k ed = simp (← ep, le-leb p precisionLimit low, ci, ← ea, h, ← eb, k, ← ed)
+  module _ (low : p ≤ precisionLimit) where
+    pub settings-ci : namedAt s (ciAt s) ≡ false → settingsBody s ≡ false
+    unfolding settingsBody
+    settings-ci h = simp (← ep, le-leb p precisionLimit low, h)
+
+    module _ (ci : namedAt s (ciAt s) ≡ true) (ai : ℕ) (ea : ai ≡ aiAt s) where
+      pub settings-ai : namedAt s ai ≡ false → settingsBody s ≡ false
+      unfolding settingsBody
+      settings-ai h = simp (← ep, le-leb p precisionLimit low, ci, ap (namedAt s) (sym ea) ∙ h)
+
+      module _ (named : namedAt s ai ≡ true) (cai : ℕ) (ec : cai ≡ caiAt s) where
+        pub settings-cai : namedAt s cai ≡ false → settingsBody s ≡ false
+        unfolding settingsBody
+        settings-cai h = simp (← ep, le-leb p precisionLimit low, ci, ap (namedAt s) (sym ea) ∙ named, ap (namedAt s) (sym ec) ∙ h)
+
+        pub settings-end : (d : ℕ) → namedAt s cai ≡ true → d ≡ getD s cai 0 → eqb (cai + 1 + d) (length s) ≡ settingsBody s
+        unfolding settingsBody
+        settings-end d h ed =
+            let g : getD s cai 0 ≡ getD s (caiAt s) 0 = ap (λ (i : ℕ). getD s i 0) ec in
+            let e : cai + 1 + d ≡ past s (caiAt s) = omega arith in
+            ap (λ (i : ℕ). eqb i (length s)) e ∙ simp (← ep, le-leb p precisionLimit low, ci, ap (namedAt s) (sym ea) ∙ named, ap (namedAt s) (sym ec) ∙ h)

@@ -1,4 +1,4 @@
--- Laws of the walk's answers (specs/Walk.antt) that the proof of the cycle cites: what the record at the front, one record, two records and records
+-- Laws of the walk's answers (specs/WalkWords.antt) that the proof of the cycle cites: what the record at the front, one record, two records and records
 -- to the end answer for the whole, and what each kind makes of the answers below it. Each is over plain lists and numbers.
 use mathlib.Core.Path.{_≡_, refl, ap, sym, _∙_}
 use mathlib.Core.List.{List, [], _∷_}
@@ -8,7 +8,7 @@ use native.Mathlib.Omega.{arith}
 use lib.ListN.{length, getD, take, drop, length-drop}
 use lib.Seq.{drop-drop}
 use lib.Dec.{ltb, leb, eqb}
-use borrow.Author.Tests.{ltb-true, ltb-false, le-ltb, lt-ltb, eq-eqb, ne-eqb, leb-true}
+use borrow.Author.Tests.{ltb-false, le-ltb, lt-ltb, ne-eqb, leb-true}
 use Rattle.prelude.specs.Choice.{pick, both, either, negated}
 use Rattle.refusal.specs.declared.Refusal.{Refusal}
 use Rattle.refusal.specs.declared.Refusal.the-variants.{BadSettings, TreeTooLong, BadFrame, TooDeep, BadKindOrOperator, BadField, BadOperand}
@@ -26,20 +26,18 @@ use Rattle.tree.specs.declared.Shape.{Shape}
 use Rattle.tree.specs.declared.Shape.the-variants.{Interval, Pair, Other, Misplaced}
 use Rattle.tree.specs.declared.One.{One}
 use Rattle.tree.specs.declared.One.the-variants.{OneBad, OneIs}
-use Rattle.tree.specs.declared.Two.{Two}
 use Rattle.tree.specs.declared.Two.the-variants.{TwoBad, TwoAre}
 use Rattle.tree.specs.declared.Items.{Items}
 use Rattle.tree.specs.declared.Items.the-variants.{ItemsBad, ItemsAre}
-use Rattle.tree.specs.declared.First.{First}
 use Rattle.tree.specs.declared.First.the-variants.{Stop, Next}
-use Rattle.tree.specs.declared.Taken.{Taken}
 use Rattle.tree.specs.declared.Taken.the-variants.{Takes, Refuses}
-use Rattle.tree.specs.Tree.{Tree, Trees, Settings, null, unbounded, bool, num, str, date, timestamp, spatial, id, monadic, dyadic, function, array, interval, none, _then_}
-use Rattle.tree.specs.Parse.{Read, refused, got, also, Body, cons, end, exactly, many, items, first, second, nameAt, past, namedAt, emptyBody, boolBody, numBody, strBody, dateBody, timestampBody, spatialBody, leaf, mantissa, takesOne, takesTwo, allowed, operated, readMonadic, readDyadic, readFunction, readArray, readInterval, choose, kinds, readKind, node, parse}
-use Rattle.tree.specs.Placed.{isInterval, count, isPair, isBetween, operands, alone, inner, inners, placed}
-use Rattle.tree.specs.Accepted.{settings, isSettings, accepted}
+use Rattle.tree.specs.Tree.{Tree, Trees, null, unbounded, bool, num, str, date, timestamp, spatial, id, monadic, dyadic, function, array, interval, none, _then_}
+use Rattle.tree.specs.Parse.{Read, refused, got, also, Body, cons, end, exactly, many, items, nameAt, past, namedAt, emptyBody, boolBody, numBody, strBody, dateBody, timestampBody, spatialBody, leaf, mantissa, takesOne, takesTwo, allowed, operated, readMonadic, readDyadic, readFunction, choose, kinds, readKind, node, parse}
+use Rattle.tree.specs.Placed.{isBetween, operands, noInterval, inPlace, inner, inners, placed}
+use Rattle.tree.specs.Tests.{first, second, count, everywhere, everywhereIn, byOperator, isInterval, isItems, isPair}
+use Rattle.tree.specs.Accepted.{settings, isSettings, accepted, verdict}
 use Rattle.tree.specs.Limits.{depthLimit, treeLimit}
-use Rattle.tree.specs.Walk.{verdict, shapeOf, seen, seenOne, seenTwo, seenAll, ended, framed, firstOf, takenBy, taken, plainShape, pairShape, intervalShape, soundShape, fits, orMisplaced, leafOne, monadicOne, dyadicOne, functionOne, arrayOne, intervalOne}
+use Rattle.tree.specs.WalkWords.{shapeOf, seen, seenOne, seenTwo, seenAll, ended, framed, firstOf, takenBy, taken, plainShape, pairShape, intervalShape, soundShape, fits, orMisplaced, leafOne, monadicOne, dyadicOne, functionOne, arrayOne, intervalOne}
 use Rattle.tree.specs.ParseLaws.{frame-whole, both-true}
 use Rattle.tree.proofs.Laws.{tail, tail-is}
 
@@ -168,7 +166,7 @@ module _ (body : Body) (s : List ℕ) where
 
 -- Shapes.
 
-pub plain-is : (t : Tree) → plainShape (shapeOf t) ≡ alone t (inner t)
+pub plain-is : (t : Tree) → plainShape (shapeOf t) ≡ both (negated (isInterval t)) (inner t)
 unfolding shapeOf
 plain-is t = go (inner t) (isInterval t) (isPair t)
   where
@@ -244,11 +242,14 @@ grown p c (ItemsBad e) = ItemsBad e
 grown p c (ItemsAre q d) = ItemsAre (both p q) (c + d)
 
 grow-then : (p : Bool) (c : ℕ) (t : Tree) (r : Read Trees) → grown p c (seenAll (also r (λ ts. got (t then ts)))) ≡ grown (both p (plainShape (shapeOf t))) (c + 1) (seenAll r)
-unfolding seenAll also inners count
+unfolding seenAll also inner inners noInterval everywhereIn count
 grow-then p c t (refused e) = refl
 grow-then p c t (got ts) =
     let n : c + suc (count ts) ≡ c + 1 + count ts = omega arith in
-    let q : both p (both (alone t (inner t)) (inners ts)) ≡ both (both p (plainShape (shapeOf t))) (inners ts) = regroup p (alone t (inner t)) (inners ts) ∙ ap (λ (b : Bool). both (both p b) (inners ts)) (sym (plain-is t)) in
+    let one : Bool = both (negated (isInterval t)) (inner t) in
+    let q : both p (inners (t then ts)) ≡ both (both p (plainShape (shapeOf t))) (inners ts) =
+    ap (both p) (sym (parts (negated (isInterval t)) (noInterval ts) (inner t) (everywhereIn inPlace ts)))
+    ∙ regroup p one (inners ts) ∙ ap (λ (b : Bool). both (both p b) (inners ts)) (sym (plain-is t)) in
     cc
   where
     regroup : (a b d : Bool) → both a (both b d) ≡ both (both a b) d
@@ -288,7 +289,7 @@ module _ (body : Body) (s : List ℕ) (at f : ℕ) (p : Bool) (c : ℕ) where
       ∙ ap (λ (l : List ℕ). grown q (c + 1) (seenAll (many body (f - 1) l))) (drop-drop n at s)
 
   pub many-end : length s ≤ at → grown p c (seenAll (many body f (drop at s))) ≡ ItemsAre p c
-  unfolding seenAll inners count
+  unfolding seenAll inners noInterval everywhereIn count
   many-end l =
       let d = length-drop at s in
       let n : c + 0 ≡ c = omega arith in
@@ -351,31 +352,42 @@ taken-long test s p h = go (ltb (length s) 2) refl h
     go false e q = ltb-false (length s) 2 e
 
 seen-monadic : (o : Op) (r : Read Trees) → seen (also r (λ ts. got (monadic o (first ts)))) ≡ monadicOne (seenOne r)
-unfolding seen seenOne also shapeOf inner isInterval isPair
+unfolding seen seenOne also shapeOf inner inners everywhere inPlace byOperator isInterval isItems isPair
 seen-monadic o (refused e) = refl
 seen-monadic o (got ts) = ap (λ (b : Bool). OneIs (orMisplaced b Other)) (sym (plain-is (first ts)))
 
 seen-dyadic : (o : Op) (r : Read Trees) → seen (also r (λ ts. got (dyadic o (first ts) (second ts)))) ≡ dyadicOne o (seenTwo r)
-unfolding seen seenTwo also shapeOf inner isInterval isPair
+unfolding seen seenTwo also shapeOf inner inners everywhere inPlace byOperator isInterval isItems isPair
 seen-dyadic o (refused e) = refl
 seen-dyadic o (got ts) = ap (λ (b : Bool). OneIs (orMisplaced b Other)) (sym (fits-is o (first ts) (second ts)))
 
 seen-function : (n : List ℕ) (r : Read Trees) → seen (also r (λ ts. got (function n ts))) ≡ functionOne (seenAll r)
-unfolding seen seenAll also shapeOf inner isInterval isPair
+unfolding seen seenAll also shapeOf inner inners everywhere inPlace byOperator isInterval isItems isPair
 seen-function n (refused e) = refl
 seen-function n (got ts) = refl
 
 pub seen-array : (r : Read Trees) → seen (also r (λ ts. got (array ts))) ≡ arrayOne (seenAll r)
-unfolding seen seenAll also shapeOf inner isInterval isPair
+unfolding seen seenAll also shapeOf inner inners everywhere inPlace byOperator isInterval isItems isPair
 seen-array (refused e) = refl
 seen-array (got ts) = refl
 
+-- two ends that may stand where no Interval may
+two-plain : (a b x y : Bool) → both (both a (both b true)) (both x y) ≡ both (both a x) (both b y)
+two-plain false b x y = refl
+two-plain true false false y = refl
+two-plain true false true y = refl
+two-plain true true x y = refl
+
 pub seen-interval : (r : Read Trees) → seen (also r (λ ts. got (interval (first ts) (second ts)))) ≡ intervalOne (seenTwo r)
-unfolding seen seenTwo also shapeOf inner isInterval isPair
+unfolding seen seenTwo also shapeOf inner everywhere inPlace byOperator noInterval isInterval isItems isPair
 seen-interval (refused e) = refl
 seen-interval (got ts) =
-    ap (λ (b : Bool). OneIs (orMisplaced (both b (alone (second ts) (inner (second ts)))) Interval)) (sym (plain-is (first ts)))
-    ∙ ap (λ (b : Bool). OneIs (orMisplaced (both (plainShape (shapeOf (first ts))) b) Interval)) (sym (plain-is (second ts)))
+    let t : Tree = first ts in
+    let u : Tree = second ts in
+    ap (λ (b : Bool). OneIs (orMisplaced b Interval))
+    (two-plain (negated (isInterval t)) (negated (isInterval u)) (inner t) (inner u)
+    ∙ ap (λ (b : Bool). both b (both (negated (isInterval u)) (inner u))) (sym (plain-is t))
+    ∙ ap (λ (b : Bool). both (plainShape (shapeOf t)) b) (sym (plain-is u)))
 
 module _ (below : Body) (s : List ℕ) where
   pub monadic-stop : (e : Refusal) → taken takesOne s ≡ Refuses e → seen (readMonadic below s) ≡ OneBad e
@@ -432,39 +444,39 @@ leaf-seen right make s b h e = ap leafOne e ∙ go (right s)
 
 module _ (levels k : ℕ) (s : List ℕ) (b : Bool) (h : levels ≡ 0 → ⊥) where
   pub node-null : k ≡ 0 → b ≡ eqb (length s) 0 → leafOne b ≡ seen (node levels k s)
-  unfolding choose kinds shapeOf inner isInterval isPair emptyBody
+  unfolding choose kinds shapeOf inner everywhere inPlace byOperator noInterval isInterval isItems isPair emptyBody
   node-null e q = leaf-seen emptyBody (λ s. null) s b refl q ∙ sym (node-as levels k 0 s h e)
 
   pub node-unbounded : k ≡ 1 → b ≡ eqb (length s) 0 → leafOne b ≡ seen (node levels k s)
-  unfolding choose kinds shapeOf inner isInterval isPair emptyBody
+  unfolding choose kinds shapeOf inner everywhere inPlace byOperator noInterval isInterval isItems isPair emptyBody
   node-unbounded e q = leaf-seen emptyBody (λ s. unbounded) s b refl q ∙ sym (node-as levels k 1 s h e)
 
   pub node-bool : k ≡ 2 → b ≡ boolBody s → leafOne b ≡ seen (node levels k s)
-  unfolding choose kinds shapeOf inner isInterval isPair
+  unfolding choose kinds shapeOf inner everywhere inPlace byOperator noInterval isInterval isItems isPair
   node-bool e q = leaf-seen boolBody (λ s. bool (eqb (getD s 0 0) 1)) s b refl q ∙ sym (node-as levels k 2 s h e)
 
   pub node-num : k ≡ 3 → b ≡ numBody s → leafOne b ≡ seen (node levels k s)
-  unfolding choose kinds shapeOf inner isInterval isPair
+  unfolding choose kinds shapeOf inner everywhere inPlace byOperator noInterval isInterval isItems isPair
   node-num e q = leaf-seen numBody (λ s. num (mantissa s 0) (getD s 8 0)) s b refl q ∙ sym (node-as levels k 3 s h e)
 
   pub node-str : k ≡ 4 → b ≡ strBody s → leafOne b ≡ seen (node levels k s)
-  unfolding choose kinds shapeOf inner isInterval isPair
+  unfolding choose kinds shapeOf inner everywhere inPlace byOperator noInterval isInterval isItems isPair
   node-str e q = leaf-seen strBody (λ s. str (getD s 0 0) (drop 1 s)) s b refl q ∙ sym (node-as levels k 4 s h e)
 
   pub node-date : k ≡ 5 → b ≡ dateBody s → leafOne b ≡ seen (node levels k s)
-  unfolding choose kinds shapeOf inner isInterval isPair
+  unfolding choose kinds shapeOf inner everywhere inPlace byOperator noInterval isInterval isItems isPair
   node-date e q = leaf-seen dateBody (λ s. date (le16 s 0) (getD s 2 0) (getD s 3 0)) s b refl q ∙ sym (node-as levels k 5 s h e)
 
   pub node-timestamp : k ≡ 6 → b ≡ timestampBody s → leafOne b ≡ seen (node levels k s)
-  unfolding choose kinds shapeOf inner isInterval isPair
+  unfolding choose kinds shapeOf inner everywhere inPlace byOperator noInterval isInterval isItems isPair
   node-timestamp e q = leaf-seen timestampBody (λ s. timestamp (le16 s 0) (getD s 2 0) (getD s 3 0) (getD s 4 0) (getD s 5 0) (getD s 6 0)) s b refl q ∙ sym (node-as levels k 6 s h e)
 
   pub node-spatial : k ≡ 7 → b ≡ spatialBody s → leafOne b ≡ seen (node levels k s)
-  unfolding choose kinds shapeOf inner isInterval isPair
+  unfolding choose kinds shapeOf inner everywhere inPlace byOperator noInterval isInterval isItems isPair
   node-spatial e q = leaf-seen spatialBody (λ s. spatial (le32 s 0) (drop 4 s)) s b refl q ∙ sym (node-as levels k 7 s h e)
 
   pub node-id : k ≡ 8 → b ≡ name s → leafOne b ≡ seen (node levels k s)
-  unfolding choose kinds shapeOf inner isInterval isPair
+  unfolding choose kinds shapeOf inner everywhere inPlace byOperator noInterval isInterval isItems isPair
   node-id e q = leaf-seen name (λ s. id s) s b refl q ∙ sym (node-as levels k 8 s h e)
 
 -- `rest` as a `match` leaves it: none of the kinds

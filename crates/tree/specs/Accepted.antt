@@ -1,7 +1,7 @@
 -- The settings with refusal 1, and what is accepted, with refusals 1 to 7 in order: document 01, "Records" and "What a caller hears".
 use Prim.Native.Nat.{ℕ}
 use mathlib.Core.List.{List}
-use mathlib.Core.Bool.{Bool, true, false}
+use mathlib.Core.Bool.{Bool, false}
 use lib.ListN.{length, getD}
 use lib.Dec.{ltb, leb, eqb}
 use Rattle.prelude.specs.Choice.{pick, both}
@@ -9,6 +9,8 @@ use Rattle.refusal.specs.declared.Refusal.the-variants.{BadSettings, TreeTooLon
 use Rattle.record.specs.declared.Frame.{Frame}
 use Rattle.record.specs.declared.Frame.the-variants.{Broken, Whole}
 use Rattle.record.specs.Record.{frame}
+use Rattle.tree.specs.declared.Checked.{Checked}
+use Rattle.tree.specs.declared.Checked.the-variants.{Valid, Refused}
 use Rattle.tree.specs.Limits.{treeLimit, precisionLimit}
 use Rattle.tree.specs.Tree.{Tree, Settings, settingsKind}
 use Rattle.tree.specs.Parse.{Read, refused, got, also, nameAt, namedAt, past, parse}
@@ -19,7 +21,10 @@ unfoldable pub isFrame : ℕ → Frame → Bool
 isFrame n Broken = false
 isFrame n (Whole k e) = both (eqb k settingsKind) (eqb e n)
 
--- where the three names begin, with their length bytes
+-- where the precision byte stands, and where the three names begin, with their length bytes
+abbrev pub precisionAt : ℕ
+precisionAt = 6
+
 abbrev pub ciAt : List ℕ → ℕ
 ciAt s = 7
 
@@ -29,10 +34,14 @@ aiAt s = past s (ciAt s)
 abbrev pub caiAt : List ℕ → ℕ
 caiAt s = past s (aiAt s)
 
+-- what the settings hold, as far as some bytes hold it
+abbrev pub settingsIn : List ℕ → Settings
+settingsIn s = record { precision = getD s precisionAt 0; ci = nameAt s (ciAt s); ai = nameAt s (aiAt s); cai = nameAt s (caiAt s) }
+
 -- a precision byte 0 to 15, then three names, and nothing after them
 unfoldable pub settingsBody : List ℕ → Bool
 settingsBody s =
-    both (leb (getD s 6 0) precisionLimit)
+    both (leb (getD s precisionAt 0) precisionLimit)
     (both (namedAt s (ciAt s))
     (both (namedAt s (aiAt s))
     (both (namedAt s (caiAt s)) (eqb (past s (caiAt s)) (length s)))))
@@ -41,9 +50,7 @@ unfoldable pub isSettings : List ℕ → Bool
 isSettings s = both (isFrame (length s) (frame s)) (settingsBody s)
 
 unfoldable pub settings : List ℕ → Read Settings
-settings s =
-    pick (isSettings s) (got (record { precision = getD s 6 0; ci = nameAt s (ciAt s); ai = nameAt s (aiAt s); cai = nameAt s (caiAt s) }))
-    (refused BadSettings)
+settings s = pick (isSettings s) (got (settingsIn s)) (refused BadSettings)
 
 -- 1 comes first, then 2, then 3 to 6, only then 7
 unfoldable pub accepted : List ℕ → List ℕ → Read (Settings × Tree)
@@ -51,3 +58,8 @@ accepted c s =
     also (settings c) (λ g.
     pick (ltb treeLimit (length s)) (refused TreeTooLong)
     (also (parse s) (λ t. pick (placed t) (got (g, t)) (refused BadOperand))))
+
+-- What a caller hears of settings and a tree: that they are accepted, or the refusal.
+unfoldable pub verdict : {A : Type 0} → Read A → Checked
+verdict (refused n) = Refused n
+verdict (got a) = Valid

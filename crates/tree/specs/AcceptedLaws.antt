@@ -1,31 +1,28 @@
 -- Laws of specs/Accepted.antt: what an accepted pair of settings and tree is, taken apart and put together again, and that the settings, too, are
 -- written as they were read.
 use mathlib.Core.Path.{_≡_, refl, ap, sym, _∙_}
-use mathlib.Core.Logic.{_⊎_, inl, inr, ⊎-elim}
-use mathlib.Core.List.{List, [], _∷_, _++_, append-assoc, append-nil}
-use mathlib.Core.Bool.{Bool, true, false}
-use Prim.Native.Nat.{ℕ, zero, suc, _+_, _-_, _≤_, _<_}
+use mathlib.Core.Logic.{_⊎_, ⊎-elim}
+use mathlib.Core.List.{List, [], _∷_, _++_, append-nil}
+use mathlib.Core.Bool.{Bool, true}
+use Prim.Native.Nat.{ℕ, _+_, _-_, _≤_}
 use native.Mathlib.Omega.{arith}
 use lib.ListN.{length, getD, take, drop, length-drop, take-append-drop, drop-of-length-le}
 use lib.Seq.{length-take-le, drop-drop, take-all}
 use lib.Dec.{ltb, leb, eqb}
 use borrow.Author.Tests.{ltb-false, le-ltb, eqb-true, leb-true}
 use Rattle.prelude.specs.Choice.{pick, both}
-use Rattle.refusal.specs.declared.Refusal.{Refusal}
 use Rattle.refusal.specs.declared.Refusal.the-variants.{BadSettings, TreeTooLong, BadOperand}
 use Rattle.record.specs.declared.Frame.{Frame}
 use Rattle.record.specs.declared.Frame.the-variants.{Broken, Whole}
 use Rattle.record.specs.Record.{frame, recordOf}
 use Rattle.charset.specs.Charset.{name}
-use Rattle.tree.specs.declared.Checked.{Checked}
-use Rattle.tree.specs.declared.Checked.the-variants.{Valid, Refused}
+use Rattle.tree.specs.declared.Checked.the-variants.{Valid}
 use Rattle.tree.specs.Limits.{treeLimit, depthLimit, precisionLimit}
 use Rattle.tree.specs.Tree.{Tree, Settings, settingsKind, encode, encodeSettings, counted}
 use Rattle.tree.specs.Parse.{Read, refused, got, also, nameAt, past, namedAt, parse}
 use Rattle.tree.specs.Placed.{placed}
-use Rattle.tree.specs.Accepted.{isFrame, ciAt, aiAt, caiAt, settingsBody, isSettings, settings, accepted}
-use Rattle.tree.specs.Walk.{verdict}
-use Rattle.tree.specs.Good.{Good}
+use Rattle.tree.specs.Accepted.{settingsIn, isFrame, ciAt, aiAt, caiAt, settingsBody, isSettings, settings, accepted, verdict}
+use Rattle.tree.specs.GoodWords.{Good}
 use Rattle.tree.specs.ByteLaws.{Bytes, reads-drop}
 use Rattle.tree.specs.ParseLaws.{split, both-true, not-got, also-got, frame-record}
 use Rattle.tree.specs.EncodeLaws.{encode-parse}
@@ -122,7 +119,7 @@ unfolding settings isSettings encodeSettings
 settings-encode c g h e =
     ⊎-elim
     (λ w. let p = both-true (isFrame (length c) (frame c)) (settingsBody c) (w .0) in
-    let k : Settings = record { precision = getD c 6 0; ci = nameAt c (ciAt c); ai = nameAt c (aiAt c); cai = nameAt c (caiAt c) } in
+    let k : Settings = settingsIn c in
     let z : k ≡ g = cc (w .1) in
     let f : frame c ≡ Whole settingsKind (length c) = frame-is (length c) (frame c) (p .0) in
     let n : length c ≤ length c = omega arith in
@@ -134,4 +131,4 @@ settings-encode c g h e =
     ∙ ap (λ (l : List ℕ). recordOf settingsKind l) (b ∙ names-bytes c (p .1))
     ∙ ap (λ (x : Settings). encodeSettings x) z)
     (λ w. not-got BadSettings g (w .1))
-    (split (isSettings c) (got (record { precision = getD c 6 0; ci = nameAt c (ciAt c); ai = nameAt c (aiAt c); cai = nameAt c (caiAt c) })) (refused BadSettings) (got g) e)
+    (split (isSettings c) (got (settingsIn c)) (refused BadSettings) (got g) e)

@@ -4,17 +4,16 @@ use mathlib.Core.List.{List, [], _∷_, _++_}
 use mathlib.Core.Bool.{Bool, true, false}
 use Prim.Native.Nat.{ℕ, zero, suc, _+_, _-_, _*_, _/_, _%_, _≤_, _<_}
 use native.Mathlib.Omega.{arith}
-use native.Mathlib.Numerals.{add-one}
-use lib.ListN.{length, getD, take, drop, length-drop, drop-of-length-le}
+use lib.ListN.{length, getD, take, drop, drop-of-length-le}
 use lib.Seq.{drop-cons}
 use lib.Arith.{digits-div, digits-mod}
 use lib.IntN.{ℤ, pos, negsuc, natAbs}
 use lib.Dec.{ltb}
-use borrow.Author.Tests.{ltb-true, ltb-false, lt-ltb, le-ltb}
+use borrow.Author.Tests.{lt-ltb, le-ltb}
 use Rattle.prelude.specs.Choice.{pick}
-use Rattle.record.specs.Record.{le16, le32, le}
+use Rattle.record.specs.Record.{le, le64}
 use Rattle.tree.specs.Tree.{twos}
-use Rattle.tree.specs.Parse.{le64, signed}
+use Rattle.tree.specs.Parse.{signed}
 
 -- every element is a byte
 abbrev pub Bytes : List ℕ → Type 0

@@ -1,31 +1,29 @@
 -- Laws of parse, second half: a good tree that is written is parsed back to it. By induction on the tree: its record has a kind and a body,
 -- and the reader of records, given the kind and the body, gives the tree.
-use mathlib.Core.Path.{_≡_, refl, ap, sym, _∙_, subst}
+use mathlib.Core.Path.{_≡_, refl, ap, sym, _∙_}
 use mathlib.Core.List.{List, [], _∷_, _++_, append-nil}
 use mathlib.Core.Bool.{Bool, true, false}
-use Prim.Native.Nat.{ℕ, zero, suc, _+_, _-_, _*_, _/_, _%_, _≤_, _<_}
+use Prim.Native.Nat.{ℕ, zero, suc, _+_, _-_, _≤_, _<_}
 use native.Mathlib.Omega.{arith}
 use lib.IntN.{ℤ, natAbs}
 use lib.ListN.{length, getD, take, drop, length-append}
 use lib.Seq.{take-at, drop-at, drop-drop}
-use lib.Dec.{ltb, leb, eqb}
-use borrow.Author.Tests.{le-ltb, lt-ltb, le-leb, eq-eqb, leb-true}
-use Rattle.refusal.specs.declared.Refusal.the-variants.{BadField}
+use lib.Dec.{leb, eqb}
+use borrow.Author.Tests.{le-ltb, le-leb}
 use Rattle.record.specs.declared.Frame.{Frame}
-use Rattle.record.specs.declared.Frame.the-variants.{Broken, Whole}
+use Rattle.record.specs.declared.Frame.the-variants.{Whole}
 use Rattle.record.specs.Record.{le16, le32, frame, le, recordOf}
 use Rattle.prelude.specs.Choice.{pick, both, between, all}
-use Rattle.charset.specs.Charset.{name, nameLimit, strByte, spatialByte}
+use Rattle.charset.specs.Charset.{name, strByte, spatialByte}
 use Rattle.civil.specs.Civil.{validDate, validTime, daysIn, yearLimit}
 use Rattle.op.specs.declared.Op.{Op}
-use Rattle.op.specs.declared.Named.{Named}
-use Rattle.op.specs.declared.Named.the-variants.{Is, NoOp}
-use Rattle.op.specs.Op.{opNumber, opOf}
+use Rattle.op.specs.Op.{opNumber}
 use Rattle.op.specs.OpLaws.{number-of, number-below}
 use Rattle.tree.specs.Limits.{depthLimit, mantissaLimit, scaleLimit, flagsLimit, textLimit}
 use Rattle.tree.specs.Tree.{Tree, Trees, null, unbounded, bool, num, str, date, timestamp, spatial, id, monadic, dyadic, function, array, interval, none, _then_, twos, dateBytes, counted, encode, encodes}
-use Rattle.tree.specs.Parse.{Read, refused, got, also, Body, cons, end, exactly, many, first, second, le64, signed, mantissa, nameAt, past, namedAt, emptyBody, boolBody, numBody, strBody, dateBody, timestampBody, spatialBody, leaf, takesOne, takesTwo, allowed, operated, readMonadic, readDyadic, readFunction, readArray, readInterval, choose, kinds, readKind, node, parse}
-use Rattle.tree.specs.Good.{Good, AllGood}
+use Rattle.tree.specs.Parse.{Read, got, also, Body, cons, end, exactly, many, signed, mantissa, past, namedAt, emptyBody, boolBody, numBody, strBody, dateBody, timestampBody, spatialBody, leaf, takesOne, takesTwo, allowed, operated, readFunction, choose, kinds, readKind, node, parse}
+use Rattle.tree.specs.Tests.{first, second}
+use Rattle.tree.specs.GoodWords.{Good, AllGood}
 use Rattle.tree.specs.ByteLaws.{le16-le, le32-le, le64-le, signed-twos, twos-low}
 use Rattle.tree.specs.ParseLaws.{both-true, within}
 

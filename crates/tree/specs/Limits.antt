@@ -1,13 +1,21 @@
--- The limits of a tree and of the settings: document 01, "Records" and "What a caller hears". A name's limit stands in crate charset, the years in crate civil.
+-- The limits of a tree, of its text and of the settings: document 01, "Records" and "What a caller hears". A name's limit stands in crate charset,
+-- the years in crate civil.
 use Prim.Native.Nat.{ℕ}
 
--- bytes of a tree
-abbrev pub treeLimit : ℕ
-treeLimit = 32768
+-- What a call allows: the bytes of a tree, its levels, the root being 1, and the bytes of the SQL text.
+pub record Limits : Type 0 where
+  pub tree : ℕ
+  pub depth : ℕ
+  pub text : ℕ
 
--- levels, the root being 1
+abbrev pub limits : Limits
+limits = record { tree = 32768; depth = 32; text = 65535 }
+
+abbrev pub treeLimit : ℕ
+treeLimit = limits .tree
+
 abbrev pub depthLimit : ℕ
-depthLimit = 32
+depthLimit = limits .depth
 
 -- a mantissa lies from −(10^15 − 1) to 10^15 − 1
 abbrev pub mantissaLimit : ℕ

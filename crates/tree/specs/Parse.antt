@@ -1,7 +1,7 @@
 -- What bytes mean as a tree, with refusals 3 to 6 in reading order: document 01, "Records" and "What a caller hears".
-use Prim.Native.Nat.{ℕ, zero, suc, _+_, _-_, _*_}
+use Prim.Native.Nat.{ℕ, zero, suc, _+_, _-_}
 use mathlib.Core.List.{List, [], _∷_}
-use mathlib.Core.Bool.{Bool, true, false}
+use mathlib.Core.Bool.{Bool}
 use lib.IntN.{ℤ, pos, negsuc, natAbs}
 use lib.ListN.{length, getD, take, drop}
 use lib.Dec.{ltb, leb, eqb}
@@ -10,7 +10,7 @@ use Rattle.refusal.specs.declared.Refusal.{Refusal}
 use Rattle.refusal.specs.declared.Refusal.the-variants.{BadFrame, TooDeep, BadKindOrOperator, BadField}
 use Rattle.record.specs.declared.Frame.{Frame}
 use Rattle.record.specs.declared.Frame.the-variants.{Broken, Whole}
-use Rattle.record.specs.Record.{le16, le32, frame}
+use Rattle.record.specs.Record.{le16, le32, le64, frame}
 use Rattle.charset.specs.Charset.{name, strByte, spatialByte}
 use Rattle.civil.specs.Civil.{validDate, validTime}
 use Rattle.op.specs.declared.Op.{Op}
@@ -19,7 +19,9 @@ use Rattle.op.specs.declared.Named.{Named}
 use Rattle.op.specs.declared.Named.the-variants.{Is, NoOp}
 use Rattle.op.specs.Op.{opOf, oneOf}
 use Rattle.tree.specs.Limits.{depthLimit, mantissaLimit, scaleLimit, flagsLimit, textLimit}
+use Rattle.tree.specs.Tests.{first, second}
 use Rattle.tree.specs.Tree.{Tree, Trees, null, unbounded, bool, num, str, date, timestamp, spatial, id, monadic, dyadic, function, array, interval, none, _then_}
+use Rattle.tree.specs.Kinds.{NULL, UNBOUNDED, BOOL, NUM, STR, DATE, TIMESTAMP, SPATIAL, ID, MONADIC, DYADIC, FUNCTION, ARRAY, INTERVAL}
 
 -- what reading gives: a refusal, or a value
 pub data Read (A : Type 0) : Type 0 where
@@ -63,19 +65,7 @@ many body (suc fuel) (x ∷ s) = cons body (x ∷ s) (frame (x ∷ s)) (λ rest.
 abbrev pub items : Body → List ℕ → Read Trees
 items body s = many body (length s) s
 
-unfoldable pub first : Trees → Tree
-first none = null
-first (t then ts) = t
-
-unfoldable pub second : Trees → Tree
-second none = null
-second (t then ts) = first ts
-
 -- Fields.
-
--- eight bytes at i, the low one first
-abbrev pub le64 : List ℕ → ℕ → ℕ
-le64 s i = le32 s i + le32 s (i + 4) * 4294967296
 
 -- two's complement of 64 bits: below 2^63 the number itself, else the number less 2^64
 unfoldable pub signed : ℕ → ℤ
@@ -88,7 +78,7 @@ mantissa s i = signed (le64 s i)
 abbrev pub dateAt : List ℕ → Bool
 dateAt s = validDate (le16 s 0) (getD s 2 0) (getD s 3 0)
 
--- the name behind the length byte at i, as far as there are bytes; and where it ends
+-- the name after the length byte at i, as far as there are bytes; and where it ends
 abbrev pub nameAt : List ℕ → ℕ → List ℕ
 nameAt s i = take (getD s i 0) (drop (i + 1) s)
 
@@ -177,20 +167,20 @@ choose k s (r ∷ rs) = pick (eqb k (r .kind)) (r .read s) (choose k s rs)
 -- the table of kinds
 unfoldable pub kinds : Body → List Row
 kinds below =
-    row 0 (leaf emptyBody (λ s. null))
-    ∷ row 1 (leaf emptyBody (λ s. unbounded))
-    ∷ row 2 (leaf boolBody (λ s. bool (eqb (getD s 0 0) 1)))
-    ∷ row 3 (leaf numBody (λ s. num (mantissa s 0) (getD s 8 0)))
-    ∷ row 4 (leaf strBody (λ s. str (getD s 0 0) (drop 1 s)))
-    ∷ row 5 (leaf dateBody (λ s. date (le16 s 0) (getD s 2 0) (getD s 3 0)))
-    ∷ row 6 (leaf timestampBody (λ s. timestamp (le16 s 0) (getD s 2 0) (getD s 3 0) (getD s 4 0) (getD s 5 0) (getD s 6 0)))
-    ∷ row 7 (leaf spatialBody (λ s. spatial (le32 s 0) (drop 4 s)))
-    ∷ row 8 (leaf name (λ s. id s))
-    ∷ row 9 (readMonadic below)
-    ∷ row 10 (readDyadic below)
-    ∷ row 11 (readFunction below)
-    ∷ row 12 (readArray below)
-    ∷ row 13 (readInterval below)
+    row NULL (leaf emptyBody (λ s. null))
+    ∷ row UNBOUNDED (leaf emptyBody (λ s. unbounded))
+    ∷ row BOOL (leaf boolBody (λ s. bool (eqb (getD s 0 0) 1)))
+    ∷ row NUM (leaf numBody (λ s. num (mantissa s 0) (getD s 8 0)))
+    ∷ row STR (leaf strBody (λ s. str (getD s 0 0) (drop 1 s)))
+    ∷ row DATE (leaf dateBody (λ s. date (le16 s 0) (getD s 2 0) (getD s 3 0)))
+    ∷ row TIMESTAMP (leaf timestampBody (λ s. timestamp (le16 s 0) (getD s 2 0) (getD s 3 0) (getD s 4 0) (getD s 5 0) (getD s 6 0)))
+    ∷ row SPATIAL (leaf spatialBody (λ s. spatial (le32 s 0) (drop 4 s)))
+    ∷ row ID (leaf name (λ s. id s))
+    ∷ row MONADIC (readMonadic below)
+    ∷ row DYADIC (readDyadic below)
+    ∷ row FUNCTION (readFunction below)
+    ∷ row ARRAY (readArray below)
+    ∷ row INTERVAL (readInterval below)
     ∷ []
 
 abbrev pub readKind : Body → Body

@@ -2,20 +2,20 @@
 -- records by its frames, each kind by its row of the table.
 use mathlib.Core.Path.{_≡_, refl, ap, sym, _∙_, subst}
 use mathlib.Core.Logic.{_⊎_, inl, inr, ⊎-elim}
-use mathlib.Core.List.{List, [], _∷_, _++_, append-nil, append-assoc}
+use mathlib.Core.List.{List, [], _∷_, _++_, append-nil}
 use mathlib.Core.Bool.{Bool, true, false}
-use Prim.Native.Nat.{ℕ, zero, suc, _+_, _-_, _*_, _/_, _%_, _≤_, _<_}
+use Prim.Native.Nat.{ℕ, zero, suc, _+_, _-_, _≤_, _<_}
 use native.Mathlib.Omega.{arith}
-use lib.IntN.{ℤ, natAbs}
+use lib.IntN.{natAbs}
 use lib.ListN.{length, getD, take, drop, length-drop, take-append-drop, drop-of-length-le}
 use lib.Seq.{length-take-le, drop-drop}
 use lib.Dec.{ltb, leb, eqb}
-use borrow.Author.Tests.{ltb-true, ltb-false, eqb-true, eqb-false, leb-true}
+use borrow.Author.Tests.{ltb-false, eqb-true, leb-true}
 use Rattle.refusal.specs.declared.Refusal.{Refusal}
 use Rattle.refusal.specs.declared.Refusal.the-variants.{BadFrame, TooDeep, BadKindOrOperator, BadField}
 use Rattle.record.specs.declared.Frame.{Frame}
 use Rattle.record.specs.declared.Frame.the-variants.{Broken, Whole}
-use Rattle.record.specs.Record.{le16, le32, frame, le, recordOf}
+use Rattle.record.specs.Record.{le16, le32, frame, le, recordOf, le64}
 use Rattle.prelude.specs.Choice.{pick, both, between, all}
 use Rattle.charset.specs.Charset.{name, strByte, spatialByte}
 use Rattle.civil.specs.Civil.{validDate, validTime}
@@ -23,13 +23,13 @@ use Rattle.op.specs.declared.Op.{Op}
 use Rattle.op.specs.declared.Named.{Named}
 use Rattle.op.specs.declared.Named.the-variants.{Is, NoOp}
 use Rattle.op.specs.Op.{opNumber, opOf}
-use Rattle.op.specs.OpLaws.{number-of, of-number}
+use Rattle.op.specs.OpLaws.{of-number}
 use Rattle.tree.specs.Limits.{depthLimit, mantissaLimit, scaleLimit, flagsLimit, textLimit}
 use Rattle.tree.specs.Tree.{Tree, Trees, null, unbounded, bool, num, str, date, timestamp, spatial, id, monadic, dyadic, function, array, interval, none, _then_, twos, dateBytes, counted, encode, encodes}
-use Rattle.tree.specs.Parse.{Read, refused, got, also, Body, cons, end, exactly, many, items, first, second, le64, signed, mantissa, nameAt, past, namedAt, emptyBody, boolBody, numBody, strBody, dateBody, timestampBody, spatialBody, leaf, takesOne, takesTwo, allowed, operated, readMonadic, readDyadic, readFunction, readArray, readInterval, Row, row, choose, kinds, readKind, node, parse}
-use Rattle.tree.specs.Placed.{count}
-use Rattle.tree.specs.Good.{Good, AllGood}
-use Rattle.tree.specs.ByteLaws.{Bytes, bytes-drop, bytes-take, byte-at, reads, value, reads-drop, le-at, reads-all, twos-signed}
+use Rattle.tree.specs.Parse.{Read, refused, got, also, Body, cons, end, exactly, many, items, mantissa, nameAt, past, namedAt, emptyBody, boolBody, numBody, strBody, dateBody, timestampBody, spatialBody, leaf, takesOne, takesTwo, allowed, operated, readMonadic, readDyadic, readFunction, readArray, readInterval, Row, row, choose, kinds, node, parse}
+use Rattle.tree.specs.Tests.{first, second, count}
+use Rattle.tree.specs.GoodWords.{Good, AllGood}
+use Rattle.tree.specs.ByteLaws.{Bytes, bytes-drop, bytes-take, byte-at, reads-drop, le-at, reads-all, twos-signed}
 
 -- Taking a reading apart.
 

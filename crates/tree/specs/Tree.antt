@@ -8,6 +8,7 @@ use Rattle.prelude.specs.Choice.{pick}
 use Rattle.record.specs.Record.{le, recordOf}
 use Rattle.op.specs.declared.Op.{Op}
 use Rattle.op.specs.Op.{opNumber}
+use Rattle.tree.specs.Kinds.{NULL, UNBOUNDED, BOOL, NUM, STR, DATE, TIMESTAMP, SPATIAL, ID, MONADIC, DYADIC, FUNCTION, ARRAY, INTERVAL}
 
 infixr 60 _then_
 mutual
@@ -37,6 +38,23 @@ mutual
     none : Trees
     _then_ : Tree → Trees → Trees
 
+-- a tree's kind
+abbrev pub kindOf : Tree → ℕ
+kindOf null = NULL
+kindOf unbounded = UNBOUNDED
+kindOf (bool b) = BOOL
+kindOf (num m s) = NUM
+kindOf (str f s) = STR
+kindOf (date y m d) = DATE
+kindOf (timestamp y m d h i s) = TIMESTAMP
+kindOf (spatial n s) = SPATIAL
+kindOf (id s) = ID
+kindOf (monadic o t) = MONADIC
+kindOf (dyadic o t u) = DYADIC
+kindOf (function n ts) = FUNCTION
+kindOf (array ts) = ARRAY
+kindOf (interval t u) = INTERVAL
+
 -- an integer in 8 bytes, as the number whose two's complement it is: −(n + 1) is 2^64 − 1 − n
 unfoldable pub twos : ℤ → ℕ
 twos (pos n) = n
@@ -45,27 +63,27 @@ twos (negsuc n) = 18446744073709551615 - n
 unfoldable pub dateBytes : ℕ → ℕ → ℕ → List ℕ
 dateBytes y m d = le 2 y ++ (m ∷ (d ∷ []))
 
--- a name behind its length byte
+-- a name after its length byte
 unfoldable pub counted : List ℕ → List ℕ
 counted n = length n ∷ n
 
 -- How a tree is written: each kind's number and its body.
 unfoldable mutual
   pub encode : Tree → List ℕ
-  encode null = recordOf 0 []
-  encode unbounded = recordOf 1 []
-  encode (bool b) = recordOf 2 (pick b 1 0 ∷ [])
-  encode (num m s) = recordOf 3 (le 8 (twos m) ++ (s ∷ []))
-  encode (str f s) = recordOf 4 (f ∷ s)
-  encode (date y m d) = recordOf 5 (dateBytes y m d)
-  encode (timestamp y m d h i s) = recordOf 6 (dateBytes y m d ++ (h ∷ (i ∷ (s ∷ []))))
-  encode (spatial n s) = recordOf 7 (le 4 n ++ s)
-  encode (id s) = recordOf 8 s
-  encode (monadic o t) = recordOf 9 (le 2 (opNumber o) ++ encode t)
-  encode (dyadic o t u) = recordOf 10 (le 2 (opNumber o) ++ (encode t ++ encode u))
-  encode (function n ts) = recordOf 11 (counted n ++ encodes ts)
-  encode (array ts) = recordOf 12 (encodes ts)
-  encode (interval t u) = recordOf 13 (encode t ++ encode u)
+  encode null = recordOf NULL []
+  encode unbounded = recordOf UNBOUNDED []
+  encode (bool b) = recordOf BOOL (pick b 1 0 ∷ [])
+  encode (num m s) = recordOf NUM (le 8 (twos m) ++ (s ∷ []))
+  encode (str f s) = recordOf STR (f ∷ s)
+  encode (date y m d) = recordOf DATE (dateBytes y m d)
+  encode (timestamp y m d h i s) = recordOf TIMESTAMP (dateBytes y m d ++ (h ∷ (i ∷ (s ∷ []))))
+  encode (spatial n s) = recordOf SPATIAL (le 4 n ++ s)
+  encode (id s) = recordOf ID s
+  encode (monadic o t) = recordOf MONADIC (le 2 (opNumber o) ++ encode t)
+  encode (dyadic o t u) = recordOf DYADIC (le 2 (opNumber o) ++ (encode t ++ encode u))
+  encode (function n ts) = recordOf FUNCTION (counted n ++ encodes ts)
+  encode (array ts) = recordOf ARRAY (encodes ts)
+  encode (interval t u) = recordOf INTERVAL (encode t ++ encode u)
 
   pub encodes : Trees → List ℕ
   encodes none = []

@@ -1,20 +1,64 @@
 ghost use mathlib.Core.Path.{_≡_};
 ghost use mathlib.Core.Bool.{true};
-ghost use Prim.Native.Nat.{_+_, _-_, _*_, _≤_, _<_};
+ghost use Prim.Native.Nat.{_+_, _-_, _<_};
 ghost use lib.IntN.{natAbs};
 ghost use lib.Dec.{leb};
-ghost use lib.ListN.{length, getD, take, drop};
 ghost use Rattle.prelude.specs.Choice.{pick, both};
-ghost use Rattle.record.specs.Record.{le16, le32};
 ghost use Rattle.tree.specs.Limits.{mantissaLimit};
-ghost use Rattle.tree.specs.Parse.{le64, signed, mantissa, namedAt, emptyBody, boolBody, numBody, strBody, dateBody, timestampBody, spatialBody, takesOne, takesTwo, readMonadic, readDyadic, readFunction, node, exactly, items};
+ghost use Rattle.tree.specs.Parse.{signed, mantissa, namedAt, boolBody, numBody, strBody, dateBody, timestampBody, spatialBody, takesOne, takesTwo, readMonadic, readDyadic, readFunction, node, exactly, items};
 ghost use Rattle.tree.specs.Placed.{isBetween};
-ghost use Rattle.tree.specs.Accepted.{settingsBody, isSettings, accepted};
-ghost use Rattle.tree.specs.Walk.{verdict, seen, seenOne, seenTwo, seenAll, firstOf, taken, plainShape, pairShape, intervalShape, soundShape, fits, orMisplaced, leafOne, monadicOne, dyadicOne, functionOne, arrayOne, intervalOne};
+ghost use Rattle.tree.specs.Accepted.{aiAt, caiAt, settingsBody, isSettings, accepted, verdict};
+ghost use Rattle.tree.specs.WalkWords.{seen, seenOne, seenTwo, seenAll, firstOf, taken, plainShape, pairShape, intervalShape, soundShape, fits, orMisplaced, leafOne, monadicOne, dyadicOne, functionOne, arrayOne, intervalOne};
 use op::Named;
 use op::Op;
 use record::Frame;
 use refusal::Refusal;
+
+// The kinds of a record.
+pub const NULL: usize = 0;
+
+pub const UNBOUNDED: usize = 1;
+
+pub const BOOL: usize = 2;
+
+pub const NUM: usize = 3;
+
+pub const STR: usize = 4;
+
+pub const DATE: usize = 5;
+
+pub const TIMESTAMP: usize = 6;
+
+pub const SPATIAL: usize = 7;
+
+pub const ID: usize = 8;
+
+pub const MONADIC: usize = 9;
+
+pub const DYADIC: usize = 10;
+
+pub const FUNCTION: usize = 11;
+
+pub const ARRAY: usize = 12;
+
+pub const INTERVAL: usize = 13;
+
+// The operators that the kinds and refusal 7 single out, by number.
+const MINUS: usize = 1;
+
+const NEG: usize = 7;
+
+const CASE_I: usize = 16;
+
+const ACCENT_I: usize = 17;
+
+const IS_BETWEEN: usize = 47;
+
+const IS_NOT_BETWEEN: usize = 48;
+
+const IS_NULL: usize = 51;
+
+const IS_NOT_NULL: usize = 52;
 
 // Document 01's limits.
 const TREE_LIMIT: usize = 32768;
@@ -32,6 +76,11 @@ const TEXT_LIMIT: usize = 4096;
 const PRECISION_LIMIT: usize = 15;
 
 const SETTINGS_KIND: usize = 100;
+
+// Where the settings' precision byte stands, and where the first of their names begins, with its length byte.
+pub const PRECISION_AT: usize = 6;
+
+pub const CI_AT: usize = 7;
 
 // What a caller hears of settings and a tree.
 pub enum Checked {
@@ -82,110 +131,6 @@ fn wide(x: u8) -> usize
     x as usize
 }
 
-fn word_in(s: &[u8], at: usize) -> usize
-    requires { ⌜ at + 2 ≤ length (now s) ⌝ }
-    ensures { λ r. ⌜ (r ≡ le16 (now (s .entry)) at) × (r < 65536) ⌝ }
-{
-    wide(s[at]) + wide(s[at + 1]) * 256
-}
-
-fn dword_in(s: &[u8], at: usize) -> usize
-    requires { ⌜ at + 4 ≤ length (now s) ⌝ }
-    ensures { λ r. ⌜ (r ≡ le32 (now (s .entry)) at) × (r < 4294967296) ⌝ }
-{
-    word_in(s, at) + word_in(s, at + 2) * 65536
-}
-
-fn qword_in(s: &[u8], at: usize) -> usize
-    requires { ⌜ at + 8 ≤ length (now s) ⌝ }
-    ensures { λ r. ⌜ (r ≡ le64 (now (s .entry)) at) × (r < 18446744073709551616) ⌝ }
-{
-    dword_in(s, at) + dword_in(s, at + 4) * 4294967296
-}
-
-// The reads below take any place: a byte past the end counts as 0.
-
-pub fn byte_at(s: &[u8], at: usize) -> usize
-    ensures { λ r. ⌜ (r ≡ getD (now (s .entry)) at 0) × (r < 256) ⌝ }
-{
-    if at < s.len() { wide(s[at]) } else { 0 }
-}
-
-// n bytes from `at` lie in `len` bytes. No sum is made, so `at` may be any number.
-fn lies(len: usize, at: usize, n: usize) -> bool
-    ensures { λ r. ⌜ (r ≡ true → at + n ≤ len) ⌝ }
-{
-    if len < n {
-        return false;
-    }
-    if len - n < at {
-        return false;
-    }
-    true
-}
-
-// A word of which a part may lie past the end.
-fn word_past(s: &[u8], at: usize) -> usize
-    ensures { λ r. ⌜ (r ≡ le16 (now (s .entry)) at) × (r < 65536) ⌝ }
-{
-    if at < s.len() {
-        byte_at(s, at) + byte_at(s, at + 1) * 256
-    } else {
-        0
-    }
-}
-
-pub fn word_at(s: &[u8], at: usize) -> usize
-    ensures { λ r. ⌜ (r ≡ le16 (now (s .entry)) at) × (r < 65536) ⌝ }
-{
-    if lies(s.len(), at, 2) {
-        return word_in(s, at);
-    }
-    word_past(s, at)
-}
-
-fn dword_past(s: &[u8], at: usize) -> usize
-    ensures { λ r. ⌜ (r ≡ le32 (now (s .entry)) at) × (r < 4294967296) ⌝ }
-{
-    if s.len() < 2 {
-        return word_past(s, at);
-    }
-    if s.len() - 2 < at {
-        return word_past(s, at);
-    }
-    word_past(s, at) + word_past(s, at + 2) * 65536
-}
-
-pub fn dword_at(s: &[u8], at: usize) -> usize
-    ensures { λ r. ⌜ (r ≡ le32 (now (s .entry)) at) × (r < 4294967296) ⌝ }
-{
-    if lies(s.len(), at, 4) {
-        return dword_in(s, at);
-    }
-    dword_past(s, at)
-}
-
-fn qword_past(s: &[u8], at: usize) -> usize
-    ensures { λ r. ⌜ (r ≡ le64 (now (s .entry)) at) × (r < 18446744073709551616) ⌝ }
-{
-    if s.len() < 4 {
-        return dword_past(s, at);
-    }
-    if s.len() - 4 < at {
-        return dword_past(s, at);
-    }
-    dword_past(s, at) + dword_past(s, at + 4) * 4294967296
-}
-
-fn qword_at(s: &[u8], at: usize) -> usize
-    ensures { λ r. ⌜ (r ≡ le64 (now (s .entry)) at) × (r < 18446744073709551616) ⌝ }
-{
-    if lies(s.len(), at, 8) {
-        return qword_in(s, at);
-    }
-    qword_past(s, at)
-}
-
 // Two's complement without a wrapping step: n less 2^64 is −1 less what n lacks of 2^64 − 1, and that fits.
 fn signed_of(n: usize) -> i64
     ensures { λ r. ⌜ r ≡ signed n ⌝ }
@@ -201,7 +146,7 @@ fn signed_of(n: usize) -> i64
 pub fn mantissa_at(s: &[u8], at: usize) -> i64
     ensures { λ r. ⌜ r ≡ mantissa (now (s .entry)) at ⌝ }
 {
-    signed_of(qword_at(s, at))
+    signed_of(record::qword_at(s, at))
 }
 
 // A length byte at i and as many bytes after it that are a name.
@@ -239,7 +184,7 @@ fn num_body(s: &[u8]) -> bool
     ensures { λ r. ⌜ r ≡ numBody (now (s .entry)) ⌝ }
 {
     if s.len() == 9 {
-        if within_limit(qword_in(s, 0)) {
+        if within_limit(record::qword_at(s, 0)) {
             return wide(s[8]) <= SCALE_LIMIT;
         }
     }
@@ -263,7 +208,7 @@ fn date_body(s: &[u8]) -> bool
     ensures { λ r. ⌜ r ≡ dateBody (now (s .entry)) ⌝ }
 {
     if s.len() == 4 {
-        civil::valid_date(word_in(s, 0), wide(s[2]), wide(s[3]))
+        civil::valid_date(record::word_at(s, 0), wide(s[2]), wide(s[3]))
     } else {
         false
     }
@@ -273,7 +218,7 @@ fn timestamp_body(s: &[u8]) -> bool
     ensures { λ r. ⌜ r ≡ timestampBody (now (s .entry)) ⌝ }
 {
     if s.len() == 7 {
-        if civil::valid_date(word_in(s, 0), wide(s[2]), wide(s[3])) {
+        if civil::valid_date(record::word_at(s, 0), wide(s[2]), wide(s[3])) {
             return civil::valid_time(wide(s[4]), wide(s[5]), wide(s[6]));
         }
     }
@@ -295,22 +240,22 @@ fn takes_one(o: Op) -> bool
     ensures { λ r. ⌜ r ≡ takesOne o ⌝ }
 {
     let n = op::op_number(o);
-    if n == 1 {
+    if n == MINUS {
         return true;
     }
-    if n == 7 {
+    if n == NEG {
         return true;
     }
-    if n == 16 {
+    if n == CASE_I {
         return true;
     }
-    if n == 17 {
+    if n == ACCENT_I {
         return true;
     }
-    if n == 51 {
+    if n == IS_NULL {
         return true;
     }
-    if n == 52 {
+    if n == IS_NOT_NULL {
         return true;
     }
     false
@@ -321,7 +266,7 @@ fn takes_two(o: Op) -> bool
     ensures { λ r. ⌜ r ≡ takesTwo o ⌝ }
 {
     if takes_one(o) {
-        op::op_number(o) == 1
+        op::op_number(o) == MINUS
     } else {
         true
     }
@@ -331,10 +276,10 @@ fn is_between(o: Op) -> bool
     ensures { λ r. ⌜ r ≡ isBetween o ⌝ }
 {
     let n = op::op_number(o);
-    if n == 47 {
+    if n == IS_BETWEEN {
         return true;
     }
-    if n == 48 {
+    if n == IS_NOT_BETWEEN {
         return true;
     }
     false
@@ -353,7 +298,7 @@ fn operator_in(two: bool, s: &[u8]) -> Taken
     if s.len() < 2 {
         return Taken::Refuses(Refusal::BadField);
     }
-    match op::op_of(word_in(s, 0)) {
+    match op::op_of(record::word_at(s, 0)) {
         Named::NoOp => Taken::Refuses(Refusal::BadKindOrOperator),
         Named::Is(o) => {
             if takes(two, o) {
@@ -523,7 +468,7 @@ fn check_dyadic(s: &[u8], levels: usize) -> One
     }
 }
 
-// A name behind its length byte, and records to the end.
+// A name after its length byte, and records to the end.
 fn check_function(s: &[u8], levels: usize) -> One
     ensures { λ r. ⌜ r ≡ seen (readFunction (node levels) (now (s .entry))) ⌝ }
 {
@@ -543,20 +488,20 @@ fn check_node(kind: usize, s: &[u8], levels: usize) -> One
         return One::OneBad(Refusal::TooDeep);
     }
     match kind {
-        0 => leaf_one(s.len() == 0),
-        1 => leaf_one(s.len() == 0),
-        2 => leaf_one(bool_body(s)),
-        3 => leaf_one(num_body(s)),
-        4 => leaf_one(str_body(s)),
-        5 => leaf_one(date_body(s)),
-        6 => leaf_one(timestamp_body(s)),
-        7 => leaf_one(spatial_body(s)),
-        8 => leaf_one(charset::is_name(s)),
-        9 => check_monadic(s, levels - 1),
-        10 => check_dyadic(s, levels - 1),
-        11 => check_function(s, levels - 1),
-        12 => array_one(check_many(s, levels - 1)),
-        13 => interval_one(check_two(s, levels - 1)),
+        NULL => leaf_one(s.len() == 0),
+        UNBOUNDED => leaf_one(s.len() == 0),
+        BOOL => leaf_one(bool_body(s)),
+        NUM => leaf_one(num_body(s)),
+        STR => leaf_one(str_body(s)),
+        DATE => leaf_one(date_body(s)),
+        TIMESTAMP => leaf_one(timestamp_body(s)),
+        SPATIAL => leaf_one(spatial_body(s)),
+        ID => leaf_one(charset::is_name(s)),
+        MONADIC => check_monadic(s, levels - 1),
+        DYADIC => check_dyadic(s, levels - 1),
+        FUNCTION => check_function(s, levels - 1),
+        ARRAY => array_one(check_many(s, levels - 1)),
+        INTERVAL => interval_one(check_two(s, levels - 1)),
         _ => One::OneBad(Refusal::BadKindOrOperator),
     }
 }
@@ -566,7 +511,7 @@ fn check_first(s: &[u8], levels: usize) -> First
 {
     match record::frame_at(s) {
         Frame::Broken => First::Stop(Refusal::BadFrame),
-        Frame::Whole { kind, end } => match check_node(kind, &s[6..end], levels) {
+        Frame::Whole { kind, end } => match check_node(kind, &s[record::BODY..end], levels) {
             One::OneBad(e) => First::Stop(e),
             One::OneIs(a) => First::Next(end, a),
         },
@@ -622,20 +567,32 @@ fn check_many(s: &[u8], levels: usize) -> Items
     Items::ItemsAre { plain, count }
 }
 
+// Where the second and the third name begin.
+pub fn ai_at(s: &[u8]) -> usize
+    ensures { λ r. ⌜ (r ≡ aiAt (now (s .entry))) × (r < 264) ⌝ }
+{
+    CI_AT + 1 + record::byte_at(s, CI_AT)
+}
+
+pub fn cai_at(s: &[u8]) -> usize
+    ensures { λ r. ⌜ (r ≡ caiAt (now (s .entry))) × (r < 520) ⌝ }
+{
+    let ai = ai_at(s);
+    ai + 1 + record::byte_at(s, ai)
+}
+
 // Past the frame: a precision, three names, and nothing more.
 fn settings_body(s: &[u8]) -> bool
-    requires { ⌜ 6 ≤ length (now s) ⌝ }
     ensures { λ r. ⌜ r ≡ settingsBody (now (s .entry)) ⌝ }
 {
-    if PRECISION_LIMIT < byte_at(s, 6) {
+    if PRECISION_LIMIT < record::byte_at(s, PRECISION_AT) {
         return false;
     }
-    if named_at(s, 7) {
-        let ai = 8 + byte_at(s, 7);
-        if named_at(s, ai) {
-            let cai = ai + 1 + byte_at(s, ai);
+    if named_at(s, CI_AT) {
+        if named_at(s, ai_at(s)) {
+            let cai = cai_at(s);
             if named_at(s, cai) {
-                return cai + 1 + byte_at(s, cai) == s.len();
+                return cai + 1 + record::byte_at(s, cai) == s.len();
             }
         }
     }

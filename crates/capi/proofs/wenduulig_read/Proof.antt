@@ -1,6 +1,5 @@
 -- `capi::wenduulig_read` meets its contract: the number of what `truth::read` answers.
 use mathlib.Core.Path.{_≡_, sym, ap, _∙_}
-use lib.IntN.{ℤ}
 use Rattle.truth.specs.declared.Reading.{Reading}
 use Rattle.truth.specs.Reading.{heard}
 use Rattle.capi.specs.Numbers.{readingNumber}

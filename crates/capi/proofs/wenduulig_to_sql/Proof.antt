@@ -1,5 +1,4 @@
 -- `capi::wenduulig_to_sql` meets its contract: the number of what `gpkg::to_sql` answers, and the buffer as that leaves it.
-use Prim.Native.Nat.{ℕ, _≤_}
 use mathlib.Core.Path.{_≡_, sym, ap, _∙_}
 use Rattle.gpkg.specs.declared.Lowered.{Lowered}
 use Rattle.gpkg.specs.Lowered.{heard}

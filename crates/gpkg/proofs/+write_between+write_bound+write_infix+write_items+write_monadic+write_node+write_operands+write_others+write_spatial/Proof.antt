@@ -11,7 +11,8 @@ use Rattle.tree.specs.Tree.{Tree, Trees, encode, encodes}
 use Rattle.record.specs.Record.{le16}
 use Rattle.sql.specs.Template.{fill, spelt}
 use Rattle.gpkg.specs.Lays.{Lays}
-use Rattle.gpkg.specs.Plan.{settingsIn, sound, sounds, slot, nodeEnds}
+use Rattle.gpkg.specs.Plan.{sound, sounds, slot, nodeEnds}
+use Rattle.tree.specs.Accepted.{settingsIn}
 use Rattle.gpkg.proofs.Walk.{Come, come-start, come-next, come-end, leaf-step, high-text, six, fourteen, listed, node-of, node-piece, name-piece, plain-step, node-step, name-step, monadic-node, monadic-step, from-bounds, all-filled, items-fall, items-short, infix-step, two-node, temporal-node, node-ends, not-temporal, bounds-range, bound-null, bound-item, between-step, spatial-step}
 use borrow.Author.Tests.{not-true, not-false}
 use Rattle.gpkg.proofs.LaysLaws.{lays-past}
@@ -75,7 +76,7 @@ use Rattle.gpkg.proofs.rest.Reads as rest-reads
 use Rattle.gpkg.proofs.template_of.Reads as template-of-reads
 use Rattle.gpkg.proofs.temporal_ends.Reads as temporal-ends-reads
 use Rattle.gpkg.proofs.within.Reads as within-reads
-use Rattle.tree.proofs.word_at.Reads as word-at-reads
+use Rattle.record.proofs.word_at.Reads as word-at-reads
 use Rattle.gpkg.proofs.+write_between+write_bound+write_infix+write_items+write_monadic+write_node+write_operands+write_others+write_spatial.{
   statement,
 }

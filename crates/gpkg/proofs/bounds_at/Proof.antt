@@ -7,7 +7,7 @@ use Rattle.gpkg.proofs.bounds_at.Tie as tie
 use Rattle.gpkg.proofs.bounds_at.Reads as reads
 use Rattle.gpkg.proofs.bounds_at.Lts as lts
 use Rattle.gpkg.proofs.least.Reads as least-reads
-use Rattle.tree.proofs.word_at.Reads as word-at-reads
+use Rattle.record.proofs.word_at.Reads as word-at-reads
 
 add-word-at : tie.Need-add-word-at
 add-word-at c = search needs

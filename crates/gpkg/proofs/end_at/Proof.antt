@@ -7,7 +7,7 @@ use Rattle.gpkg.proofs.end_at.Statement.{statement}
 use Rattle.gpkg.proofs.end_at.Tie as tie
 use Rattle.gpkg.proofs.end_at.Reads as reads
 use Rattle.gpkg.proofs.end_at.Lts as lts
-use Rattle.tree.proofs.word_at.Reads as word-at-reads
+use Rattle.record.proofs.word_at.Reads as word-at-reads
 
 sub-if1 : tie.Need-sub-if1
 sub-if1 c = search needs

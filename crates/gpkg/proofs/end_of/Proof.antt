@@ -8,7 +8,7 @@ use Rattle.gpkg.proofs.end_of.Statement.{statement}
 use Rattle.gpkg.proofs.end_of.Tie as tie
 use Rattle.gpkg.proofs.end_of.Reads as reads
 use Rattle.gpkg.proofs.end_of.Lts as lts
-use Rattle.tree.proofs.dword_at.Reads as dword-at-reads
+use Rattle.record.proofs.dword_at.Reads as dword-at-reads
 
 sub-left : tie.Need-sub-left
 sub-left c = search needs

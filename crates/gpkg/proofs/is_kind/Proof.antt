@@ -8,7 +8,7 @@ use Rattle.gpkg.proofs.is_kind.Statement.{statement}
 use Rattle.gpkg.proofs.is_kind.Tie as tie
 use Rattle.gpkg.proofs.is_kind.Reads as reads
 use Rattle.gpkg.proofs.is_kind.Lts as lts
-use Rattle.tree.proofs.word_at.Reads as word-at-reads
+use Rattle.record.proofs.word_at.Reads as word-at-reads
 
 word-at-requires : tie.Need-word-at-requires
 word-at-requires c κs = search needs

@@ -11,7 +11,7 @@ use Rattle.gpkg.proofs.is_literal.Tie as tie
 use Rattle.gpkg.proofs.is_literal.Reads as reads
 use Rattle.gpkg.proofs.is_literal.Lts as lts
 use Rattle.gpkg.proofs.end_of.Reads as end-of-reads
-use Rattle.tree.proofs.word_at.Reads as word-at-reads
+use Rattle.record.proofs.word_at.Reads as word-at-reads
 
 abbrev Inv-loop : tie.InvT-loop
 Inv-loop s p₀ p = (t : Tree) → s ≡ encode t → Left s p t

@@ -9,7 +9,7 @@ use Rattle.gpkg.proofs.is_literal_or_id.Reads as reads
 use Rattle.gpkg.proofs.is_literal_or_id.Lts as lts
 use Rattle.gpkg.proofs.is_literal.Reads as is-literal-reads
 use Rattle.gpkg.proofs.within.Reads as within-reads
-use Rattle.tree.proofs.word_at.Reads as word-at-reads
+use Rattle.record.proofs.word_at.Reads as word-at-reads
 
 word-at-requires : tie.Need-word-at-requires
 word-at-requires c κs = search needs

@@ -12,7 +12,7 @@ use Rattle.gpkg.proofs.items_at.Tie as tie
 use Rattle.gpkg.proofs.items_at.Reads as reads
 use Rattle.gpkg.proofs.items_at.Lts as lts
 use Rattle.gpkg.proofs.least.Reads as least-reads
-use Rattle.tree.proofs.byte_at.Reads as byte-at-reads
+use Rattle.record.proofs.byte_at.Reads as byte-at-reads
 
 returns : tie.Need-returns
 returns c = rw (c .if1 .taken) (omega arith, omega arith, omega arith)

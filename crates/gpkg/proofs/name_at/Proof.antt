@@ -11,7 +11,7 @@ use Rattle.gpkg.proofs.name_at.Tie as tie
 use Rattle.gpkg.proofs.name_at.Reads as reads
 use Rattle.gpkg.proofs.name_at.Lts as lts
 use Rattle.gpkg.proofs.least.Reads as least-reads
-use Rattle.tree.proofs.byte_at.Reads as byte-at-reads
+use Rattle.record.proofs.byte_at.Reads as byte-at-reads
 
 add-a : tie.Need-add-a
 add-a c = search needs

@@ -12,7 +12,7 @@ use Rattle.gpkg.proofs.name_of.Tie as tie
 use Rattle.gpkg.proofs.name_of.Reads as reads
 use Rattle.gpkg.proofs.name_of.Lts as lts
 use Rattle.gpkg.proofs.name_at.Reads as name-at-reads
-use Rattle.tree.proofs.byte_at.Reads as byte-at-reads
+use Rattle.record.proofs.byte_at.Reads as byte-at-reads
 
 name-at-requires : tie.Need-name-at-requires
 name-at-requires c κs = search needs

@@ -10,7 +10,7 @@ use Rattle.gpkg.proofs.operand_at.Reads as reads
 use Rattle.gpkg.proofs.operand_at.Lts as lts
 use Rattle.gpkg.proofs.end_at.Reads as end-at-reads
 use Rattle.gpkg.proofs.end_of.Reads as end-of-reads
-use Rattle.tree.proofs.word_at.Reads as word-at-reads
+use Rattle.record.proofs.word_at.Reads as word-at-reads
 
 sub-if1 : tie.Need-sub-if1
 sub-if1 c = search needs

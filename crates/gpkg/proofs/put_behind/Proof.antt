@@ -2,7 +2,7 @@
 use Rattle.literal.specs.Literal.{collate}
 use mathlib.Core.Path.{sym, _∙_}
 use Rattle.op.specs.Spelling.{word}
-use Rattle.gpkg.specs.Plan.{settingsIn}
+use Rattle.tree.specs.Accepted.{settingsIn}
 use Rattle.gpkg.proofs.Nodes.{behind-nullable, behind-sign, behind-collate}
 use Rattle.gpkg.proofs.LaysLaws.{lays-of, lays-then}
 use borrow.Author.Needs.{needs}

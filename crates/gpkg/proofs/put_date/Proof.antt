@@ -15,8 +15,8 @@ use Rattle.gpkg.proofs.put_date.Lts as lts
 use Rattle.gpkg.proofs.ended.Reads as ended-reads
 use Rattle.literal.proofs.date_len.Reads as date-len-reads
 use Rattle.literal.proofs.put_date.Reads as put-date-reads
-use Rattle.tree.proofs.byte_at.Reads as byte-at-reads
-use Rattle.tree.proofs.word_at.Reads as word-at-reads
+use Rattle.record.proofs.byte_at.Reads as byte-at-reads
+use Rattle.record.proofs.word_at.Reads as word-at-reads
 
 word-at-requires : tie.Need-word-at-requires
 word-at-requires c κs = search needs

@@ -7,7 +7,8 @@ use denote.Ref.{now}
 use borrow.Author.Tests.{ne-eqb}
 use Rattle.gpkg.proofs.LaysLaws.{lays-of}
 use Rattle.gpkg.proofs.Leaves.{str-collated}
-use Rattle.gpkg.specs.Plan.{leafText, settingsIn}
+use Rattle.gpkg.specs.Plan.{leafText}
+use Rattle.tree.specs.Accepted.{settingsIn}
 use Rattle.literal.specs.Literal.{boolText}
 use Rattle.record.specs.Record.{le16}
 use lib.Dec.{eqb}
@@ -25,8 +26,8 @@ use Rattle.gpkg.proofs.put_spatial.Reads as put-spatial-reads
 use Rattle.gpkg.proofs.put_str.Reads as put-str-reads
 use Rattle.gpkg.proofs.put_timestamp.Reads as put-timestamp-reads
 use Rattle.gpkg.proofs.rest.Reads as rest-reads
-use Rattle.tree.proofs.byte_at.Reads as byte-at-reads
-use Rattle.tree.proofs.word_at.Reads as word-at-reads
+use Rattle.record.proofs.byte_at.Reads as byte-at-reads
+use Rattle.record.proofs.word_at.Reads as word-at-reads
 
 word-at-requires : tie.Need-word-at-requires
 word-at-requires c κs = search needs

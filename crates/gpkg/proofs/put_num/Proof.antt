@@ -16,7 +16,7 @@ use Rattle.gpkg.proofs.put_num.Lts as lts
 use Rattle.gpkg.proofs.ended.Reads as ended-reads
 use Rattle.literal.proofs.num_len.Reads as num-len-reads
 use Rattle.literal.proofs.put_num.Reads as put-num-reads
-use Rattle.tree.proofs.byte_at.Reads as byte-at-reads
+use Rattle.record.proofs.byte_at.Reads as byte-at-reads
 use Rattle.tree.proofs.mantissa_at.Reads as mantissa-at-reads
 
 mantissa-at-requires : tie.Need-mantissa-at-requires

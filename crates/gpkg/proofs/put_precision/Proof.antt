@@ -12,7 +12,7 @@ use Rattle.gpkg.proofs.put_precision.Reads as reads
 use Rattle.gpkg.proofs.put_precision.Lts as lts
 use Rattle.gpkg.proofs.put.Reads as put-reads
 use Rattle.gpkg.proofs.put_decimal.Reads as put-decimal-reads
-use Rattle.tree.proofs.byte_at.Reads as byte-at-reads
+use Rattle.record.proofs.byte_at.Reads as byte-at-reads
 
 slice-aggregate-put : tie.Need-slice-aggregate-put
 slice-aggregate-put c = search needs

@@ -17,7 +17,7 @@ use Rattle.gpkg.proofs.ended.Reads as ended-reads
 use Rattle.gpkg.proofs.rest.Reads as rest-reads
 use Rattle.literal.proofs.decimal_len.Reads as decimal-len-reads
 use Rattle.literal.proofs.put_spatial.Reads as put-spatial-reads
-use Rattle.tree.proofs.dword_at.Reads as dword-at-reads
+use Rattle.record.proofs.dword_at.Reads as dword-at-reads
 
 rest-requires : tie.Need-rest-requires
 rest-requires c κs = search needs

@@ -7,7 +7,8 @@ use lib.ListN.{length, getD, drop}
 use denote.Ref.{now}
 use borrow.Author.Tests.{eq-eqb, ne-eqb}
 use Rattle.gpkg.proofs.LaysLaws.{lays-placed, counted-twice, lays-of}
-use Rattle.gpkg.specs.Plan.{collation, settingsIn}
+use Rattle.gpkg.specs.Plan.{collation}
+use Rattle.tree.specs.Accepted.{settingsIn}
 use Rattle.literal.specs.Literal.{quoted, collate}
 use Rattle.literal.specs.LiteralLaws.{length-quoted, length-collate}
 use lib.ListN.{length-append}
@@ -21,7 +22,7 @@ use Rattle.gpkg.proofs.name_of.Reads as name-of-reads
 use Rattle.gpkg.proofs.rest.Reads as rest-reads
 use Rattle.literal.proofs.put_collated.Reads as put-collated-reads
 use Rattle.literal.proofs.put_quoted.Reads as put-quoted-reads
-use Rattle.tree.proofs.byte_at.Reads as byte-at-reads
+use Rattle.record.proofs.byte_at.Reads as byte-at-reads
 
 rest-requires : tie.Need-rest-requires
 rest-requires c κs = search needs

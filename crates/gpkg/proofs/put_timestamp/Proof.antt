@@ -15,8 +15,8 @@ use Rattle.gpkg.proofs.put_timestamp.Lts as lts
 use Rattle.gpkg.proofs.ended.Reads as ended-reads
 use Rattle.literal.proofs.timestamp_len.Reads as timestamp-len-reads
 use Rattle.literal.proofs.put_timestamp.Reads as put-timestamp-reads
-use Rattle.tree.proofs.byte_at.Reads as byte-at-reads
-use Rattle.tree.proofs.word_at.Reads as word-at-reads
+use Rattle.record.proofs.byte_at.Reads as byte-at-reads
+use Rattle.record.proofs.word_at.Reads as word-at-reads
 
 word-at-requires : tie.Need-word-at-requires
 word-at-requires c κs = search needs

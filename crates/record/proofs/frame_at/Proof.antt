@@ -4,9 +4,6 @@ use borrow.Author.Tests.{lt-ltb, le-ltb}
 use Rattle.record.specs.Record.{frame}
 use Rattle.record.proofs.frame_at.Statement.{statement}
 use Rattle.record.proofs.frame_at.Tie as tie
-use Rattle.record.proofs.frame_at.Reads as reads
-use Rattle.record.proofs.frame_at.Lts as lts
-use Rattle.record.proofs.word_in.Reads as word-in-reads
 
 returns : tie.Need-returns
 unfolding frame

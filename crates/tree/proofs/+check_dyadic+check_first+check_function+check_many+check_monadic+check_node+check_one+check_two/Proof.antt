@@ -1,14 +1,12 @@
 -- The proof of the cycle of calls. The measure is the levels left, and a place in the round. Each return cites the law of its case.
 use native.Mathlib.Omega.{arith}
 use mathlib.Core.Path.{_≡_, refl, sym, ap, _∙_}
-use mathlib.Core.Bool.{Bool}
 use Prim.Native.Nat.{_+_, _-_, _*_, _≤_}
 use lib.ListN.{length, drop}
-use Rattle.prelude.specs.Choice.{both}
 use Rattle.tree.proofs.WalkLaws as walk
 use Rattle.tree.proofs.WalkLaws.{grown}
 use Rattle.tree.specs.Parse.{many, items, node, choose, kinds}
-use Rattle.tree.specs.Walk.{seenAll, monadicOne, dyadicOne, functionOne, arrayOne, intervalOne}
+use Rattle.tree.specs.WalkWords.{seenAll, monadicOne, dyadicOne, functionOne, arrayOne, intervalOne}
 use borrow.Author.Needs.{needs}
 use Prim.Native.Nat.{ℕ, _<_}
 use borrow.Fn.Kinds.{In}

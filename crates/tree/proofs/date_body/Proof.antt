@@ -5,8 +5,8 @@ use borrow.Author.Needs.{needs}
 use Rattle.tree.proofs.date_body.Statement.{statement}
 use Rattle.tree.proofs.date_body.Tie as tie
 
-word-in-requires : tie.Need-word-in-requires
-word-in-requires c κs = search needs
+word-at-requires : tie.Need-word-at-requires
+word-at-requires c κs = search needs
 
 shared-slice-read-wide : tie.Need-shared-slice-read-wide
 shared-slice-read-wide c = search needs
@@ -25,7 +25,7 @@ valid-date-requires c κs = search needs
 
 returns : tie.Need-returns
 unfolding dateBody
-returns c = simp (eq-eqb _ _ (c .before .before .before .before .before .before .if1 .taken), c .valid-date .ensures, c .before .wide2 .ensures .0, c .before .before .before .wide .ensures .0, c .before .before .before .before .before .word-in .ensures .0)
+returns c = simp (eq-eqb _ _ (c .before .before .before .before .before .before .if1 .taken), c .valid-date .ensures, c .before .wide2 .ensures .0, c .before .before .before .wide .ensures .0, c .before .before .before .before .before .word-at .ensures .0)
 
 returns-2 : tie.Need-returns-2
 unfolding dateBody
@@ -35,7 +35,7 @@ pub date-body-spec : {M : Type 1} → statement M
 date-body-spec =
     tie.close
     (tie.spec
-    word-in-requires
+    word-at-requires
     shared-slice-read-wide
     wide-requires
     shared-slice-read-wide-2

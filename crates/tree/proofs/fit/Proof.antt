@@ -1,5 +1,5 @@
 -- `tree::fit` meets its contract: the tests on the way are those of `fits`.
-use Rattle.tree.specs.Walk.{fits}
+use Rattle.tree.specs.WalkWords.{fits}
 use borrow.Author.Needs.{needs}
 use Rattle.tree.proofs.fit.Statement.{statement}
 use Rattle.tree.proofs.fit.Tie as tie

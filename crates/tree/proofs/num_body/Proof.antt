@@ -5,8 +5,8 @@ use borrow.Author.Needs.{needs}
 use Rattle.tree.proofs.num_body.Statement.{statement}
 use Rattle.tree.proofs.num_body.Tie as tie
 
-qword-in-requires : tie.Need-qword-in-requires
-qword-in-requires c κs = search needs
+qword-at-requires : tie.Need-qword-at-requires
+qword-at-requires c κs = search needs
 
 within-limit-requires : tie.Need-within-limit-requires
 within-limit-requires c κs = search needs
@@ -19,11 +19,11 @@ wide-requires c κs = search needs
 
 returns : tie.Need-returns
 unfolding numBody
-returns c = simp (eq-eqb _ _ (c .before .before .before .before .before .if1 .taken), ← c .before .before .before .before .qword-in .ensures .0, ← c .before .before .before .within-limit .ensures, c .before .before .if2 .taken, c .wide .ensures .0)
+returns c = simp (eq-eqb _ _ (c .before .before .before .before .before .if1 .taken), ← c .before .before .before .before .qword-at .ensures .0, ← c .before .before .before .within-limit .ensures, c .before .before .if2 .taken, c .wide .ensures .0)
 
 returns-2 : tie.Need-returns-2
 unfolding numBody
-returns-2 c = simp (eq-eqb _ _ (c .before .before .before .if1 .taken), ← c .before .before .qword-in .ensures .0, ← c .before .within-limit .ensures, c .if2 .left)
+returns-2 c = simp (eq-eqb _ _ (c .before .before .before .if1 .taken), ← c .before .before .qword-at .ensures .0, ← c .before .within-limit .ensures, c .if2 .left)
 
 returns-3 : tie.Need-returns-3
 unfolding numBody
@@ -33,7 +33,7 @@ pub num-body-spec : {M : Type 1} → statement M
 num-body-spec =
     tie.close
     (tie.spec
-    qword-in-requires
+    qword-at-requires
     within-limit-requires
     shared-slice-read-wide
     wide-requires

@@ -1,6 +1,6 @@
 -- `tree::operator_in` meets its contract: a body too short for an operator is refused before the operator is looked at.
 use borrow.Author.Tests.{lt-ltb, le-ltb}
-use Rattle.tree.specs.Walk.{taken, takenBy}
+use Rattle.tree.specs.WalkWords.{taken, takenBy}
 use borrow.Author.Needs.{needs}
 use Rattle.tree.proofs.operator_in.Statement.{statement}
 use Rattle.tree.proofs.operator_in.Tie as tie
@@ -9,8 +9,8 @@ returns : tie.Need-returns
 unfolding taken
 returns c = simp (lt-ltb _ _ (c .if1 .taken))
 
-word-in-requires : tie.Need-word-in-requires
-word-in-requires c κs = search needs
+word-at-requires : tie.Need-word-at-requires
+word-at-requires c κs = search needs
 
 op-of-requires : tie.Need-op-of-requires
 op-of-requires c κs = search needs
@@ -26,22 +26,22 @@ takes-requires c κs = search needs
 
 returns-2 : tie.Need-returns-2
 unfolding taken takenBy
-returns-2 c = simp (le-ltb _ _ (c .before .before .before .before .if1 .left), ← c .before .before .before .word-in .ensures .0, ← c .before .before .op-of .ensures, c .enum-told .given .1)
+returns-2 c = simp (le-ltb _ _ (c .before .before .before .before .if1 .left), ← c .before .before .before .word-at .ensures .0, ← c .before .before .op-of .ensures, c .enum-told .given .1)
 
 returns-3 : tie.Need-returns-3
 unfolding taken takenBy
-returns-3 c = simp (le-ltb _ _ (c .before .before .before .before .before .before .before .if1 .left), ← c .before .before .before .before .before .before .word-in .ensures .0, ← c .before .before .before .before .before .op-of .ensures, c .before .before .before .o .given .1, ← c .before .takes .ensures, c .if2 .taken)
+returns-3 c = simp (le-ltb _ _ (c .before .before .before .before .before .before .before .if1 .left), ← c .before .before .before .before .before .before .word-at .ensures .0, ← c .before .before .before .before .before .op-of .ensures, c .before .before .before .o .given .1, ← c .before .takes .ensures, c .if2 .taken)
 
 returns-4 : tie.Need-returns-4
 unfolding taken takenBy
-returns-4 c = simp (le-ltb _ _ (c .before .before .before .before .before .before .before .if1 .left), ← c .before .before .before .before .before .before .word-in .ensures .0, ← c .before .before .before .before .before .op-of .ensures, c .before .before .before .o .given .1, ← c .before .takes .ensures, c .if2 .left)
+returns-4 c = simp (le-ltb _ _ (c .before .before .before .before .before .before .before .if1 .left), ← c .before .before .before .before .before .before .word-at .ensures .0, ← c .before .before .before .before .before .op-of .ensures, c .before .before .before .o .given .1, ← c .before .takes .ensures, c .if2 .left)
 
 pub operator-in-spec : {M : Type 1} → statement M
 operator-in-spec =
     tie.close
     (tie.spec
     returns
-    word-in-requires
+    word-at-requires
     op-of-requires
     enum-told
     enum-known-o

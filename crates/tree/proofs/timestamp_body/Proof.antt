@@ -7,8 +7,8 @@ use borrow.Author.Needs.{needs}
 use Rattle.tree.proofs.timestamp_body.Statement.{statement}
 use Rattle.tree.proofs.timestamp_body.Tie as tie
 
-word-in-requires : tie.Need-word-in-requires
-word-in-requires c κs = search needs
+word-at-requires : tie.Need-word-at-requires
+word-at-requires c κs = search needs
 
 shared-slice-read-wide : tie.Need-shared-slice-read-wide
 shared-slice-read-wide c = search needs
@@ -47,11 +47,11 @@ valid-time-requires : tie.Need-valid-time-requires
 valid-time-requires c κs = search needs
 
 returns : tie.Need-returns
-returns c = c .valid-time .ensures ∙ laws.timestamp-is (c .before .before .before .before .before .before .before .before .before .before .before .before .before .before .before .before .args .s .now) _ _ _ _ _ _ (c .before .before .before .before .before .before .before .before .before .before .before .before .before .before .if1 .taken) (c .before .before .before .before .before .before .before .before .before .before .before .before .before .word-in .ensures .0) (c .before .before .before .before .before .before .before .before .before .before .before .wide .ensures .0) (c .before .before .before .before .before .before .before .before .before .wide2 .ensures .0) (c .before .before .before .before .before .wide3 .ensures .0) (c .before .before .before .wide4 .ensures .0) (c .before .wide5 .ensures .0) (sym (c .before .before .before .before .before .before .before .before .valid-date .ensures) ∙ c .before .before .before .before .before .before .before .if2 .taken)
+returns c = c .valid-time .ensures ∙ laws.timestamp-is (c .before .before .before .before .before .before .before .before .before .before .before .before .before .before .before .before .args .s .now) _ _ _ _ _ _ (c .before .before .before .before .before .before .before .before .before .before .before .before .before .before .if1 .taken) (c .before .before .before .before .before .before .before .before .before .before .before .before .before .word-at .ensures .0) (c .before .before .before .before .before .before .before .before .before .before .before .wide .ensures .0) (c .before .before .before .before .before .before .before .before .before .wide2 .ensures .0) (c .before .before .before .before .before .wide3 .ensures .0) (c .before .before .before .wide4 .ensures .0) (c .before .wide5 .ensures .0) (sym (c .before .before .before .before .before .before .before .before .valid-date .ensures) ∙ c .before .before .before .before .before .before .before .if2 .taken)
 
 returns-2 : tie.Need-returns-2
 unfolding timestampBody
-returns-2 c = simp (eq-eqb _ _ (c .before .before .before .before .before .before .before .if1 .taken), ← c .before .before .before .before .before .before .word-in .ensures .0, ← c .before .before .before .before .wide .ensures .0, ← c .before .before .wide2 .ensures .0, ← c .before .valid-date .ensures, c .if2 .left)
+returns-2 c = simp (eq-eqb _ _ (c .before .before .before .before .before .before .before .if1 .taken), ← c .before .before .before .before .before .before .word-at .ensures .0, ← c .before .before .before .before .wide .ensures .0, ← c .before .before .wide2 .ensures .0, ← c .before .valid-date .ensures, c .if2 .left)
 
 returns-3 : tie.Need-returns-3
 unfolding timestampBody
@@ -61,7 +61,7 @@ pub timestamp-body-spec : {M : Type 1} → statement M
 timestamp-body-spec =
     tie.close
     (tie.spec
-    word-in-requires
+    word-at-requires
     shared-slice-read-wide
     wide-requires
     shared-slice-read-wide-2

@@ -1,27 +1,27 @@
 -- What is printed as a condition reads back as that condition. `Prints d l s x` says that the text s is made as the grammar wants it at the
 -- level l (0 test, 1 NOT, 2 AND, 3 OR), with at most d brackets inside one another; by induction on it the grammar reads s as x.
-use Prim.Native.Nat.{ℕ, zero, suc, _+_, _-_, _*_, _≤_, _<_}
-use mathlib.Core.Path.{_≡_, refl, sym, ap, _∙_, subst}
+use Prim.Native.Nat.{ℕ, zero, suc, _+_, _-_, _*_, _≤_}
+use mathlib.Core.Path.{_≡_, refl, sym, ap, _∙_}
 use mathlib.Core.List.{List, [], _∷_, _++_, append-assoc, append-nil}
-use mathlib.Core.Bool.{Bool, true, false}
+use mathlib.Core.Bool.{false}
 use native.Mathlib.Omega.{arith}
-use lib.Dec.{eqb}
-use lib.ListN.{length, getD, take, drop, length-append}
+use lib.ListN.{length, length-append}
 use borrow.Author.Tests.{eq-eqb, ne-eqb}
+use Rattle.prelude.specs.Bytes.{bytes}
 use Rattle.truth.specs.Lex.{AND, OR, NOT, OPEN, CLOSE, LT, NE, Token, tokens, tokensIn, kind, rest, lexeme, run, wordKind, signKind, signMore}
 use Rattle.truth.specs.LexLaws.{tokens-space, tokens-one}
-use Rattle.truth.specs.Grammar.{Ast, neg, conj, disj, Parsed, got, bad, then, simple, close, orE, orMore, andE, andMore, notE, test}
+use Rattle.truth.specs.Grammar.{Ast, neg, conj, disj, got, simple, orE, orMore, andE, andMore, notE, test}
 use Rattle.truth.specs.Reading.{parse, bracketLimit}
 use Rattle.prelude.specs.Choice.{same, between}
 use Rattle.charset.specs.Charset.{letter, digit, nameStart, nameByte, upper}
 
--- what may stand behind a word: nothing, a space or a closing bracket
+-- what may stand after a word: nothing, a space or a closing bracket
 pub data Break : List ℕ → Type 0 where
   at-end : Break []
   at-space : (k : List ℕ) → Break (32 ∷ k)
   at-close : (k : List ℕ) → Break (41 ∷ k)
 
--- and behind a test: no sign of comparison either
+-- and after a test: no sign of comparison either
 pub record Boundary (k : List ℕ) : Type 0 where
   pub breaks : Break k
   pub calm : between LT (kind (tokens k)) NE ≡ false
@@ -38,23 +38,23 @@ close-token : (k : List ℕ) → tokens (41 ∷ k) ≡ tok CLOSE (41 ∷ []) ∷
 unfolding lexeme nameStart letter signKind signMore
 close-token k = tokens-one 41 k CLOSE 0 refl refl
 
-and-token : (k : List ℕ) → tokens (32 ∷ 65 ∷ 78 ∷ 68 ∷ 32 ∷ k) ≡ tok AND (65 ∷ 78 ∷ 68 ∷ []) ∷ tokens k
+and-token : (k : List ℕ) → tokens (bytes " AND " ++ k) ≡ tok AND (bytes "AND") ∷ tokens k
 unfolding lexeme nameStart nameByte letter digit run wordKind upper same
-and-token k = tokens-space _ ∙ tokens-one 65 (78 ∷ 68 ∷ 32 ∷ k) AND 2 refl refl ∙ ap (λ l. tok AND (65 ∷ 78 ∷ 68 ∷ []) ∷ l) (tokens-space k)
+and-token k = tokens-space _ ∙ tokens-one 65 (bytes "ND " ++ k) AND 2 refl refl ∙ ap (λ l. tok AND (bytes "AND") ∷ l) (tokens-space k)
 
-or-token : (k : List ℕ) → tokens (32 ∷ 79 ∷ 82 ∷ 32 ∷ k) ≡ tok OR (79 ∷ 82 ∷ []) ∷ tokens k
+or-token : (k : List ℕ) → tokens (bytes " OR " ++ k) ≡ tok OR (bytes "OR") ∷ tokens k
 unfolding lexeme nameStart nameByte letter digit run wordKind upper same
-or-token k = tokens-space _ ∙ tokens-one 79 (82 ∷ 32 ∷ k) OR 1 refl refl ∙ ap (λ l. tok OR (79 ∷ 82 ∷ []) ∷ l) (tokens-space k)
+or-token k = tokens-space _ ∙ tokens-one 79 (bytes "R " ++ k) OR 1 refl refl ∙ ap (λ l. tok OR (bytes "OR") ∷ l) (tokens-space k)
 
-not-open-tokens : (k : List ℕ) → tokens (78 ∷ 79 ∷ 84 ∷ 40 ∷ k) ≡ tok NOT (78 ∷ 79 ∷ 84 ∷ []) ∷ (tok OPEN (40 ∷ []) ∷ tokens k)
+not-open-tokens : (k : List ℕ) → tokens (bytes "NOT(" ++ k) ≡ tok NOT (bytes "NOT") ∷ (tok OPEN (40 ∷ []) ∷ tokens k)
 unfolding lexeme nameStart nameByte letter digit run wordKind upper same
-not-open-tokens k = tokens-one 78 (79 ∷ 84 ∷ 40 ∷ k) NOT 2 refl refl ∙ ap (λ l. tok NOT (78 ∷ 79 ∷ 84 ∷ []) ∷ l) (open-token k)
+not-open-tokens k = tokens-one 78 (bytes "OT(" ++ k) NOT 2 refl refl ∙ ap (λ l. tok NOT (bytes "NOT") ∷ l) (open-token k)
 
-not-token : (k : List ℕ) → tokens (78 ∷ 79 ∷ 84 ∷ 32 ∷ k) ≡ tok NOT (78 ∷ 79 ∷ 84 ∷ []) ∷ tokens k
+not-token : (k : List ℕ) → tokens (bytes "NOT " ++ k) ≡ tok NOT (bytes "NOT") ∷ tokens k
 unfolding lexeme nameStart nameByte letter digit run wordKind upper same
-not-token k = tokens-one 78 (79 ∷ 84 ∷ 32 ∷ k) NOT 2 refl refl ∙ ap (λ l. tok NOT (78 ∷ 79 ∷ 84 ∷ []) ∷ l) (tokens-space k)
+not-token k = tokens-one 78 (bytes "OT " ++ k) NOT 2 refl refl ∙ ap (λ l. tok NOT (bytes "NOT") ∷ l) (tokens-space k)
 
--- a test without brackets, whatever stands behind it
+-- a test without brackets, whatever stands after it
 pub record Item (s : List ℕ) (x : Ast) : Type 0 where
   pub no-not : (k : List ℕ) → Boundary k → kind (tokens (s ++ k)) ≡ NOT → ⊥
   pub no-open : (k : List ℕ) → Boundary k → kind (tokens (s ++ k)) ≡ OPEN → ⊥
@@ -64,12 +64,12 @@ pub data Prints : ℕ → ℕ → List ℕ → Ast → Type 0 where
   item : {d : ℕ} {s : List ℕ} {x : Ast} → Item s x → Prints d 0 s x
   lift : {d l m : ℕ} {s : List ℕ} {x : Ast} → l ≤ m → Prints d l s x → Prints d m s x
   bracket : {d l : ℕ} {s : List ℕ} {x : Ast} → l ≤ 3 → Prints d l s x → Prints (suc d) 0 (40 ∷ (s ++ (41 ∷ []))) x
-  not-bracket : {d l : ℕ} {s : List ℕ} {x : Ast} → l ≤ 3 → Prints d l s x → Prints (suc d) 1 (78 ∷ 79 ∷ 84 ∷ 40 ∷ (s ++ (41 ∷ []))) (neg x)
-  not-word : {d l : ℕ} {s : List ℕ} {x : Ast} → l ≤ 1 → Prints d l s x → Prints d 1 (78 ∷ 79 ∷ 84 ∷ 32 ∷ s) (neg x)
+  not-bracket : {d l : ℕ} {s : List ℕ} {x : Ast} → l ≤ 3 → Prints d l s x → Prints (suc d) 1 (bytes "NOT(" ++ (s ++ (41 ∷ []))) (neg x)
+  not-word : {d l : ℕ} {s : List ℕ} {x : Ast} → l ≤ 1 → Prints d l s x → Prints d 1 (bytes "NOT " ++ s) (neg x)
   and-join : {d l m : ℕ} {s t : List ℕ} {x y : Ast} → l ≤ 2 → m ≤ 1 → Prints d l s x → Prints d m t y
-      → Prints d 2 (s ++ (32 ∷ 65 ∷ 78 ∷ 68 ∷ 32 ∷ t)) (conj x y)
+      → Prints d 2 (s ++ (bytes " AND " ++ t)) (conj x y)
   or-join : {d l m : ℕ} {s t : List ℕ} {x y : Ast} → l ≤ 3 → m ≤ 2 → Prints d l s x → Prints d m t y
-      → Prints d 3 (s ++ (32 ∷ 79 ∷ 82 ∷ 32 ∷ t)) (disj x y)
+      → Prints d 3 (s ++ (bytes " OR " ++ t)) (disj x y)
 
 end-boundary : Boundary []
 unfolding kind tokens tokensIn
@@ -79,13 +79,13 @@ close-boundary : (k : List ℕ) → Boundary (41 ∷ k)
 unfolding kind
 close-boundary k = record { breaks = at-close k; calm = rw (close-token k) refl }
 
-and-boundary : (k : List ℕ) → Boundary (32 ∷ 65 ∷ 78 ∷ 68 ∷ 32 ∷ k)
+and-boundary : (k : List ℕ) → Boundary (bytes " AND " ++ k)
 unfolding kind
-and-boundary k = record { breaks = at-space (65 ∷ 78 ∷ 68 ∷ 32 ∷ k); calm = rw (and-token k) refl }
+and-boundary k = record { breaks = at-space (bytes "AND " ++ k); calm = rw (and-token k) refl }
 
-or-boundary : (k : List ℕ) → Boundary (32 ∷ 79 ∷ 82 ∷ 32 ∷ k)
+or-boundary : (k : List ℕ) → Boundary (bytes " OR " ++ k)
 unfolding kind
-or-boundary k = record { breaks = at-space (79 ∷ 82 ∷ 32 ∷ k); calm = rw (or-token k) refl }
+or-boundary k = record { breaks = at-space (bytes "OR " ++ k); calm = rw (or-token k) refl }
 
 -- Steps of the grammar.
 
@@ -119,7 +119,7 @@ test-pass : (n d : ℕ) (ts : List Token) → (kind ts ≡ OPEN → ⊥) → tes
 unfolding orE
 test-pass n d ts e = rw (ne-eqb (kind ts) OPEN e, test)
 
--- a bracket: what orE reads inside, and the closing bracket behind it
+-- a bracket: what orE reads inside, and the closing bracket after it
 test-open : (n d : ℕ) (x : Ast) (t c : Token) (ts r : List Token) → t .kind ≡ OPEN → c .kind ≡ CLOSE → orE n d ts ≡ got x (c ∷ r) → test (suc n) (suc d) (t ∷ ts) ≡ got x r
 unfolding orE kind rest
 test-open n d x t c ts r e f q =
@@ -198,7 +198,7 @@ inside d l s x b h k n q =
     let r = b .ors h (41 ∷ k) (close-boundary k) (λ e. omega arith) n q in
     r .2 ∙ (or-stop (r .0) d x (tokens (41 ∷ k)) (let w = r .1 in omega arith) (λ e. omega arith) ∙ ap (λ l. got x l) (close-token k))
 
--- the text of a bracket, with what stands behind it
+-- the text of a bracket, with what stands after it
 bracket-text : (s k : List ℕ) → (40 ∷ (s ++ (41 ∷ []))) ++ k ≡ 40 ∷ (s ++ (41 ∷ k))
 bracket-text s k = ap (λ l. 40 ∷ l) (append-assoc s (41 ∷ []) k)
 
@@ -219,79 +219,79 @@ bracket-back d l s x h b = from-nots (suc d) 0 (40 ∷ (s ++ (41 ∷ []))) x (λ
         let w = ap length (bracket-text s k) in
         rw e (not-pass n (suc d) (tok OPEN (40 ∷ []) ∷ tokens (s ++ (41 ∷ k))) (λ z. omega arith) ∙ bracket-test d l s x b h k n (omega arith))
 
-not-bracket-back : (d l : ℕ) (s : List ℕ) (x : Ast) → l ≤ 3 → Back d l s x → Back (suc d) 1 (78 ∷ 79 ∷ 84 ∷ 40 ∷ (s ++ (41 ∷ []))) (neg x)
+not-bracket-back : (d l : ℕ) (s : List ℕ) (x : Ast) → l ≤ 3 → Back d l s x → Back (suc d) 1 (bytes "NOT(" ++ (s ++ (41 ∷ []))) (neg x)
 unfolding kind
-not-bracket-back d l s x h b = from-nots (suc d) 1 (78 ∷ 79 ∷ 84 ∷ 40 ∷ (s ++ (41 ∷ []))) (neg x) (λ k c n q. go k n q)
+not-bracket-back d l s x h b = from-nots (suc d) 1 (bytes "NOT(" ++ (s ++ (41 ∷ []))) (neg x) (λ k c n q. go k n q)
   where
-    go : (k : List ℕ) (n : ℕ) → 4 * length ((78 ∷ 79 ∷ 84 ∷ 40 ∷ (s ++ (41 ∷ []))) ++ k) + 2 ≤ n
-        → notE n (suc d) (tokens ((78 ∷ 79 ∷ 84 ∷ 40 ∷ (s ++ (41 ∷ []))) ++ k)) ≡ got (neg x) (tokens k)
+    go : (k : List ℕ) (n : ℕ) → 4 * length ((bytes "NOT(" ++ (s ++ (41 ∷ []))) ++ k) + 2 ≤ n
+        → notE n (suc d) (tokens ((bytes "NOT(" ++ (s ++ (41 ∷ []))) ++ k)) ≡ got (neg x) (tokens k)
     go k zero q = absurd (omega arith)
     go k (suc zero) q = absurd (omega arith)
     go k (suc (suc n)) q =
-        let f : (78 ∷ 79 ∷ 84 ∷ 40 ∷ (s ++ (41 ∷ []))) ++ k ≡ 78 ∷ 79 ∷ 84 ∷ 40 ∷ (s ++ (41 ∷ k)) = ap (λ l. 78 ∷ 79 ∷ 84 ∷ 40 ∷ l) (append-assoc s (41 ∷ []) k) in
-        let e : tokens ((78 ∷ 79 ∷ 84 ∷ 40 ∷ (s ++ (41 ∷ []))) ++ k) ≡ tok NOT (78 ∷ 79 ∷ 84 ∷ []) ∷ (tok OPEN (40 ∷ []) ∷ tokens (s ++ (41 ∷ k))) = ap tokens f ∙ not-open-tokens (s ++ (41 ∷ k)) in
+        let f : (bytes "NOT(" ++ (s ++ (41 ∷ []))) ++ k ≡ bytes "NOT(" ++ (s ++ (41 ∷ k)) = ap (λ l. bytes "NOT(" ++ l) (append-assoc s (41 ∷ []) k) in
+        let e : tokens ((bytes "NOT(" ++ (s ++ (41 ∷ []))) ++ k) ≡ tok NOT (bytes "NOT") ∷ (tok OPEN (40 ∷ []) ∷ tokens (s ++ (41 ∷ k))) = ap tokens f ∙ not-open-tokens (s ++ (41 ∷ k)) in
         let w = ap length f in
         rw e
-        (not-go (suc n) (suc d) x (tok NOT (78 ∷ 79 ∷ 84 ∷ [])) (tok OPEN (40 ∷ []) ∷ tokens (s ++ (41 ∷ k))) (tokens k) refl
+        (not-go (suc n) (suc d) x (tok NOT (bytes "NOT")) (tok OPEN (40 ∷ []) ∷ tokens (s ++ (41 ∷ k))) (tokens k) refl
         (not-pass n (suc d) (tok OPEN (40 ∷ []) ∷ tokens (s ++ (41 ∷ k))) (λ z. omega arith) ∙ bracket-test d l s x b h k n (omega arith)))
 
-not-word-back : (d l : ℕ) (s : List ℕ) (x : Ast) → l ≤ 1 → Back d l s x → Back d 1 (78 ∷ 79 ∷ 84 ∷ 32 ∷ s) (neg x)
-not-word-back d l s x h b = from-nots d 1 (78 ∷ 79 ∷ 84 ∷ 32 ∷ s) (neg x) (λ k c n q. go k c n q)
+not-word-back : (d l : ℕ) (s : List ℕ) (x : Ast) → l ≤ 1 → Back d l s x → Back d 1 (bytes "NOT " ++ s) (neg x)
+not-word-back d l s x h b = from-nots d 1 (bytes "NOT " ++ s) (neg x) (λ k c n q. go k c n q)
   where
-    go : (k : List ℕ) → Boundary k → (n : ℕ) → 4 * length ((78 ∷ 79 ∷ 84 ∷ 32 ∷ s) ++ k) + 2 ≤ n → notE n d (tokens ((78 ∷ 79 ∷ 84 ∷ 32 ∷ s) ++ k)) ≡ got (neg x) (tokens k)
+    go : (k : List ℕ) → Boundary k → (n : ℕ) → 4 * length ((bytes "NOT " ++ s) ++ k) + 2 ≤ n → notE n d (tokens ((bytes "NOT " ++ s) ++ k)) ≡ got (neg x) (tokens k)
     go k c zero q = absurd (omega arith)
     go k c (suc n) q =
-        rw (not-token (s ++ k)) (not-go n d x (tok NOT (78 ∷ 79 ∷ 84 ∷ [])) (tokens (s ++ k)) (tokens k) refl (b .nots h k c n (omega arith)))
+        rw (not-token (s ++ k)) (not-go n d x (tok NOT (bytes "NOT")) (tokens (s ++ k)) (tokens k) refl (b .nots h k c n (omega arith)))
 
-and-back : (d l m : ℕ) (s t : List ℕ) (x y : Ast) → l ≤ 2 → m ≤ 1 → Back d l s x → Back d m t y → Back d 2 (s ++ (32 ∷ 65 ∷ 78 ∷ 68 ∷ 32 ∷ t)) (conj x y)
-and-back d l m s t x y h i a b = from-ands d (s ++ (32 ∷ 65 ∷ 78 ∷ 68 ∷ 32 ∷ t)) (conj x y) (λ k c n q. go k c n q)
+and-back : (d l m : ℕ) (s t : List ℕ) (x y : Ast) → l ≤ 2 → m ≤ 1 → Back d l s x → Back d m t y → Back d 2 (s ++ (bytes " AND " ++ t)) (conj x y)
+and-back d l m s t x y h i a b = from-ands d (s ++ (bytes " AND " ++ t)) (conj x y) (λ k c n q. go k c n q)
   where
-    go : (k : List ℕ) → Boundary k → (n : ℕ) → 4 * length ((s ++ (32 ∷ 65 ∷ 78 ∷ 68 ∷ 32 ∷ t)) ++ k) + 3 ≤ n
-        → (j : ℕ) × (4 * length k + 1 ≤ j) × (andE n d (tokens ((s ++ (32 ∷ 65 ∷ 78 ∷ 68 ∷ 32 ∷ t)) ++ k)) ≡ andMore j d (conj x y) (tokens k))
+    go : (k : List ℕ) → Boundary k → (n : ℕ) → 4 * length ((s ++ (bytes " AND " ++ t)) ++ k) + 3 ≤ n
+        → (j : ℕ) × (4 * length k + 1 ≤ j) × (andE n d (tokens ((s ++ (bytes " AND " ++ t)) ++ k)) ≡ andMore j d (conj x y) (tokens k))
     go k c n q =
-        let f : (s ++ (32 ∷ 65 ∷ 78 ∷ 68 ∷ 32 ∷ t)) ++ k ≡ s ++ (32 ∷ 65 ∷ 78 ∷ 68 ∷ 32 ∷ (t ++ k)) = append-assoc s (32 ∷ 65 ∷ 78 ∷ 68 ∷ 32 ∷ t) k in
+        let f : (s ++ (bytes " AND " ++ t)) ++ k ≡ s ++ (bytes " AND " ++ (t ++ k)) = append-assoc s (bytes " AND " ++ t) k in
         let w = ap length f in
-        let r = a .ands h (32 ∷ 65 ∷ 78 ∷ 68 ∷ 32 ∷ (t ++ k)) (and-boundary (t ++ k)) n (omega arith) in
+        let r = a .ands h (bytes " AND " ++ (t ++ k)) (and-boundary (t ++ k)) n (omega arith) in
         next (r .0) (r .1) (ap (λ l. andE n d (tokens l)) f ∙ r .2)
       where
-        next : (j : ℕ) → 4 * length (32 ∷ 65 ∷ 78 ∷ 68 ∷ 32 ∷ (t ++ k)) + 1 ≤ j
-            → andE n d (tokens ((s ++ (32 ∷ 65 ∷ 78 ∷ 68 ∷ 32 ∷ t)) ++ k)) ≡ andMore j d x (tokens (32 ∷ 65 ∷ 78 ∷ 68 ∷ 32 ∷ (t ++ k)))
-            → (j : ℕ) × (4 * length k + 1 ≤ j) × (andE n d (tokens ((s ++ (32 ∷ 65 ∷ 78 ∷ 68 ∷ 32 ∷ t)) ++ k)) ≡ andMore j d (conj x y) (tokens k))
+        next : (j : ℕ) → 4 * length (bytes " AND " ++ (t ++ k)) + 1 ≤ j
+            → andE n d (tokens ((s ++ (bytes " AND " ++ t)) ++ k)) ≡ andMore j d x (tokens (bytes " AND " ++ (t ++ k)))
+            → (j : ℕ) × (4 * length k + 1 ≤ j) × (andE n d (tokens ((s ++ (bytes " AND " ++ t)) ++ k)) ≡ andMore j d (conj x y) (tokens k))
         next zero g e = absurd (omega arith)
         next (suc j) g e = (
           j,
           omega (arith, length-append t k),
           e ∙ (ap (λ l. andMore (suc j) d x l) (and-token (t ++ k))
-              ∙ and-go j d x y (tok AND (65 ∷ 78 ∷ 68 ∷ [])) (tokens (t ++ k)) (tokens k) refl (b .nots i k c j (omega arith))),
+              ∙ and-go j d x y (tok AND (bytes "AND")) (tokens (t ++ k)) (tokens k) refl (b .nots i k c j (omega arith))),
         )
 
-or-kind : (k : List ℕ) → kind (tokens (32 ∷ 79 ∷ 82 ∷ 32 ∷ k)) ≡ OR
+or-kind : (k : List ℕ) → kind (tokens (bytes " OR " ++ k)) ≡ OR
 unfolding kind
 or-kind k = rw (or-token k) refl
 
-or-back : (d l m : ℕ) (s t : List ℕ) (x y : Ast) → l ≤ 3 → m ≤ 2 → Back d l s x → Back d m t y → Back d 3 (s ++ (32 ∷ 79 ∷ 82 ∷ 32 ∷ t)) (disj x y)
+or-back : (d l m : ℕ) (s t : List ℕ) (x y : Ast) → l ≤ 3 → m ≤ 2 → Back d l s x → Back d m t y → Back d 3 (s ++ (bytes " OR " ++ t)) (disj x y)
 or-back d l m s t x y h i a b =
     record { nots = λ h k c n q. absurd (omega arith); ands = λ h k c n q. absurd (omega arith); ors = λ h k c v n q. go k c v n q }
   where
-    go : (k : List ℕ) → Boundary k → (kind (tokens k) ≡ AND → ⊥) → (n : ℕ) → 4 * length ((s ++ (32 ∷ 79 ∷ 82 ∷ 32 ∷ t)) ++ k) + 4 ≤ n
-        → (j : ℕ) × (4 * length k + 1 ≤ j) × (orE n d (tokens ((s ++ (32 ∷ 79 ∷ 82 ∷ 32 ∷ t)) ++ k)) ≡ orMore j d (disj x y) (tokens k))
+    go : (k : List ℕ) → Boundary k → (kind (tokens k) ≡ AND → ⊥) → (n : ℕ) → 4 * length ((s ++ (bytes " OR " ++ t)) ++ k) + 4 ≤ n
+        → (j : ℕ) × (4 * length k + 1 ≤ j) × (orE n d (tokens ((s ++ (bytes " OR " ++ t)) ++ k)) ≡ orMore j d (disj x y) (tokens k))
     go k c v n q =
-        let f : (s ++ (32 ∷ 79 ∷ 82 ∷ 32 ∷ t)) ++ k ≡ s ++ (32 ∷ 79 ∷ 82 ∷ 32 ∷ (t ++ k)) = append-assoc s (32 ∷ 79 ∷ 82 ∷ 32 ∷ t) k in
+        let f : (s ++ (bytes " OR " ++ t)) ++ k ≡ s ++ (bytes " OR " ++ (t ++ k)) = append-assoc s (bytes " OR " ++ t) k in
         let w = ap length f in
         let z = or-kind (t ++ k) in
-        let r = a .ors h (32 ∷ 79 ∷ 82 ∷ 32 ∷ (t ++ k)) (or-boundary (t ++ k)) (λ e. omega arith) n (omega arith) in
+        let r = a .ors h (bytes " OR " ++ (t ++ k)) (or-boundary (t ++ k)) (λ e. omega arith) n (omega arith) in
         next (r .0) (r .1) (ap (λ l. orE n d (tokens l)) f ∙ r .2)
       where
-        next : (j : ℕ) → 4 * length (32 ∷ 79 ∷ 82 ∷ 32 ∷ (t ++ k)) + 1 ≤ j
-            → orE n d (tokens ((s ++ (32 ∷ 79 ∷ 82 ∷ 32 ∷ t)) ++ k)) ≡ orMore j d x (tokens (32 ∷ 79 ∷ 82 ∷ 32 ∷ (t ++ k)))
-            → (j : ℕ) × (4 * length k + 1 ≤ j) × (orE n d (tokens ((s ++ (32 ∷ 79 ∷ 82 ∷ 32 ∷ t)) ++ k)) ≡ orMore j d (disj x y) (tokens k))
+        next : (j : ℕ) → 4 * length (bytes " OR " ++ (t ++ k)) + 1 ≤ j
+            → orE n d (tokens ((s ++ (bytes " OR " ++ t)) ++ k)) ≡ orMore j d x (tokens (bytes " OR " ++ (t ++ k)))
+            → (j : ℕ) × (4 * length k + 1 ≤ j) × (orE n d (tokens ((s ++ (bytes " OR " ++ t)) ++ k)) ≡ orMore j d (disj x y) (tokens k))
         next zero g e = absurd (omega arith)
         next (suc j) g e =
             let r = b .ands i k c j (omega arith) in
             let u : andE j d (tokens (t ++ k)) ≡ got y (tokens k) = r .2 ∙ and-stop (r .0) d y (tokens k) (let w = r .1 in omega arith) v in (
               j,
               omega (arith, length-append t k),
-              e ∙ (ap (λ l. orMore (suc j) d x l) (or-token (t ++ k)) ∙ or-go j d x y (tok OR (79 ∷ 82 ∷ [])) (tokens (t ++ k)) (tokens k) refl u),
+              e ∙ (ap (λ l. orMore (suc j) d x l) (or-token (t ++ k)) ∙ or-go j d x y (tok OR (bytes "OR")) (tokens (t ++ k)) (tokens k) refl u),
             )
 
 lift-back : (d l m : ℕ) (s : List ℕ) (x : Ast) → l ≤ m → Back d l s x → Back d m s x

@@ -1,23 +1,23 @@
--- How names, quoted texts, NULL, comparisons and tests for NULL read: each printed test is an `Item` of ReadBack.antt.
+-- How names, quoted texts, NULL, comparisons and tests for NULL read: each printed test is an `Item` of ReadBackLaws.antt.
 -- A word ends where its run of name bytes ends, a quoted text at its closing mark; what follows is a break.
-use Prim.Native.Nat.{ℕ, zero, suc, _+_, _-_, _*_, _≤_, _<_}
-use mathlib.Core.Path.{_≡_, refl, sym, ap, _∙_, subst}
-use mathlib.Core.List.{List, [], _∷_, _++_, append-assoc, append-nil}
+use Prim.Native.Nat.{ℕ, suc, _+_, _-_, _<_}
+use mathlib.Core.Path.{_≡_, refl, sym, ap, _∙_}
+use mathlib.Core.List.{List, [], _∷_, _++_, append-assoc}
 use mathlib.Core.Bool.{Bool, true, false}
 use native.Mathlib.Omega.{arith}
-use native.Mathlib.Numerals.{add-one}
 use lib.Dec.{eqb}
-use lib.ListN.{length, getD, take, drop, length-append}
+use lib.ListN.{length, take, length-append}
 use lib.Seq.{take-append-seam, drop-append-seam, getD-append-seam, take-append-add, drop-append-add}
-use borrow.Author.Tests.{eq-eqb, ne-eqb, eqb-true}
-use Rattle.prelude.specs.Choice.{pick, both, either, negated, between, all, some, same}
+use borrow.Author.Tests.{ne-eqb, eqb-true}
+use Rattle.prelude.specs.Bytes.{bytes}
+use Rattle.prelude.specs.Choice.{pick, both, negated, between, all, some, same}
 use Rattle.prelude.specs.ChoiceLaws.{both-true}
 use Rattle.charset.specs.Charset.{letter, digit, nameStart, nameByte, upper, uppers, name, reserved, reservedWords, strByte}
-use Rattle.truth.specs.Lex.{NAME, QUOTED, TEXT, OPEN, CLOSE, LT, GT, LE, GE, EQ, NE, NOT, AND, OR, NULL, TRUE, FALSE, IS, END, Token, tokens, kind, body, rest, lexeme, quoted, quoteKind, run, spells, wordKind, signKind, signMore}
+use Rattle.truth.specs.Lex.{NAME, QUOTED, TEXT, OPEN, LT, GT, LE, GE, EQ, NE, NOT, NULL, TRUE, FALSE, IS, Token, tokens, kind, body, rest, lexeme, quoteKind, run, wordKind, signKind, signMore}
 use Rattle.truth.specs.LexLaws.{tokens-space, tokens-one}
 use Rattle.truth.specs.declared.Truth.the-variants.{True, False, Unknown}
-use Rattle.truth.specs.Grammar.{Atom, column, text, none, Ast, cmp, isNull, const, neg, Parsed, got, bad, isName, isAtom, inner, atomOf, notNull, nullTest, fromAtom, simple}
-use Rattle.time.specs.ReadBack.{Break, at-end, at-space, at-close, Boundary, tok, Item}
+use Rattle.truth.specs.Grammar.{Atom, column, text, none, Ast, cmp, isNull, const, neg, got, isName, isAtom, inner, atomOf, notNull, nullTest, fromAtom, simple}
+use Rattle.time.specs.ReadBackLaws.{Break, at-end, at-space, at-close, Boundary, tok, Item}
 
 -- a run ends where the first byte of what follows fails the test
 run-all : (p : ℕ → Bool) (w k : List ℕ) → all p w ≡ true → run p k ≡ 0 → run p (w ++ k) ≡ length w
@@ -116,34 +116,34 @@ text-token s k e =
     tokens-one 39 (s ++ (39 ∷ k)) TEXT (length s + 1) refl l
     ∙ rw (take-append-add s (39 ∷ k) 1, drop-append-add s (39 ∷ k) 1)
 
-null-token : {k : List ℕ} → Break k → tokens (78 ∷ 85 ∷ 76 ∷ 76 ∷ k) ≡ tok NULL (78 ∷ 85 ∷ 76 ∷ 76 ∷ []) ∷ tokens k
+null-token : {k : List ℕ} → Break k → tokens (bytes "NULL" ++ k) ≡ tok NULL (bytes "NULL") ∷ tokens k
 unfolding lexeme nameStart nameByte letter digit run wordKind upper same
-null-token at-end = tokens-one 78 (85 ∷ 76 ∷ 76 ∷ []) NULL 3 refl refl
-null-token (at-space k) = tokens-one 78 (85 ∷ 76 ∷ 76 ∷ 32 ∷ k) NULL 3 refl refl
-null-token (at-close k) = tokens-one 78 (85 ∷ 76 ∷ 76 ∷ 41 ∷ k) NULL 3 refl refl
+null-token at-end = tokens-one 78 (bytes "ULL") NULL 3 refl refl
+null-token (at-space k) = tokens-one 78 (bytes "ULL " ++ k) NULL 3 refl refl
+null-token (at-close k) = tokens-one 78 (bytes "ULL)" ++ k) NULL 3 refl refl
 
-true-token : {k : List ℕ} → Break k → tokens (84 ∷ 82 ∷ 85 ∷ 69 ∷ k) ≡ tok TRUE (84 ∷ 82 ∷ 85 ∷ 69 ∷ []) ∷ tokens k
+true-token : {k : List ℕ} → Break k → tokens (bytes "TRUE" ++ k) ≡ tok TRUE (bytes "TRUE") ∷ tokens k
 unfolding lexeme nameStart nameByte letter digit run wordKind upper same
-true-token at-end = tokens-one 84 (82 ∷ 85 ∷ 69 ∷ []) TRUE 3 refl refl
-true-token (at-space k) = tokens-one 84 (82 ∷ 85 ∷ 69 ∷ 32 ∷ k) TRUE 3 refl refl
-true-token (at-close k) = tokens-one 84 (82 ∷ 85 ∷ 69 ∷ 41 ∷ k) TRUE 3 refl refl
+true-token at-end = tokens-one 84 (bytes "RUE") TRUE 3 refl refl
+true-token (at-space k) = tokens-one 84 (bytes "RUE " ++ k) TRUE 3 refl refl
+true-token (at-close k) = tokens-one 84 (bytes "RUE)" ++ k) TRUE 3 refl refl
 
-false-token : {k : List ℕ} → Break k → tokens (70 ∷ 65 ∷ 76 ∷ 83 ∷ 69 ∷ k) ≡ tok FALSE (70 ∷ 65 ∷ 76 ∷ 83 ∷ 69 ∷ []) ∷ tokens k
+false-token : {k : List ℕ} → Break k → tokens (bytes "FALSE" ++ k) ≡ tok FALSE (bytes "FALSE") ∷ tokens k
 unfolding lexeme nameStart nameByte letter digit run wordKind upper same
-false-token at-end = tokens-one 70 (65 ∷ 76 ∷ 83 ∷ 69 ∷ []) FALSE 4 refl refl
-false-token (at-space k) = tokens-one 70 (65 ∷ 76 ∷ 83 ∷ 69 ∷ 32 ∷ k) FALSE 4 refl refl
-false-token (at-close k) = tokens-one 70 (65 ∷ 76 ∷ 83 ∷ 69 ∷ 41 ∷ k) FALSE 4 refl refl
+false-token at-end = tokens-one 70 (bytes "ALSE") FALSE 4 refl refl
+false-token (at-space k) = tokens-one 70 (bytes "ALSE " ++ k) FALSE 4 refl refl
+false-token (at-close k) = tokens-one 70 (bytes "ALSE)" ++ k) FALSE 4 refl refl
 
--- NULL, NOT NULL and IS NOT NULL, IS NULL behind a name
-not-null-tokens : {k : List ℕ} → Break k → tokens (32 ∷ 78 ∷ 79 ∷ 84 ∷ 32 ∷ 78 ∷ 85 ∷ 76 ∷ 76 ∷ k) ≡ tok NOT (78 ∷ 79 ∷ 84 ∷ []) ∷ (tok NULL (78 ∷ 85 ∷ 76 ∷ 76 ∷ []) ∷ tokens k)
+-- NULL, NOT NULL and IS NOT NULL, IS NULL after a name
+not-null-tokens : {k : List ℕ} → Break k → tokens (bytes " NOT NULL" ++ k) ≡ tok NOT (bytes "NOT") ∷ (tok NULL (bytes "NULL") ∷ tokens k)
 unfolding lexeme nameStart nameByte letter digit run wordKind upper same
 not-null-tokens {k} c =
-    tokens-space _ ∙ (tokens-one 78 (79 ∷ 84 ∷ 32 ∷ 78 ∷ 85 ∷ 76 ∷ 76 ∷ k) NOT 2 refl refl
-    ∙ ap (λ l. tok NOT (78 ∷ 79 ∷ 84 ∷ []) ∷ l) (tokens-space _ ∙ null-token c))
+    tokens-space _ ∙ (tokens-one 78 (bytes "OT NULL" ++ k) NOT 2 refl refl
+    ∙ ap (λ l. tok NOT (bytes "NOT") ∷ l) (tokens-space _ ∙ null-token c))
 
-is-token : (k : List ℕ) → tokens (32 ∷ 73 ∷ 83 ∷ 32 ∷ k) ≡ tok IS (73 ∷ 83 ∷ []) ∷ tokens (32 ∷ k)
+is-token : (k : List ℕ) → tokens (bytes " IS " ++ k) ≡ tok IS (bytes "IS") ∷ tokens (32 ∷ k)
 unfolding lexeme nameStart nameByte letter digit run wordKind upper same
-is-token k = tokens-space _ ∙ tokens-one 73 (83 ∷ 32 ∷ k) IS 1 refl refl
+is-token k = tokens-space _ ∙ tokens-one 73 (bytes "S " ++ k) IS 1 refl refl
 
 -- Atoms: the text s is one token, whatever word break follows it, and stands for the atom a.
 pub record AtomText (s : List ℕ) (a : Atom) : Type 0 where
@@ -182,9 +182,9 @@ text-atom s e =
       means = λ ts. ap text (inner-is 39 s);
     }
 
-pub null-atom : AtomText (78 ∷ 85 ∷ 76 ∷ 76 ∷ []) none
+pub null-atom : AtomText (bytes "NULL") none
 unfolding kind body atomOf
-null-atom = record { token = tok NULL (78 ∷ 85 ∷ 76 ∷ 76 ∷ []); lexed = λ {k} c. null-token c; kinded = refl; means = λ ts. refl }
+null-atom = record { token = tok NULL (bytes "NULL"); lexed = λ {k} c. null-token c; kinded = refl; means = λ ts. refl }
 
 -- an atom's token is of no other kind
 not-kind : (k j : ℕ) → isAtom k ≡ true → isAtom j ≡ false → k ≡ j → ⊥
@@ -207,23 +207,23 @@ pub sign-eq : SignText (61 ∷ []) EQ
 unfolding lexeme nameStart letter signKind signMore
 sign-eq = record { lexed = λ k. tokens-space _ ∙ (tokens-one 61 (32 ∷ k) EQ 0 refl refl ∙ ap (λ l. tok EQ (61 ∷ []) ∷ l) (tokens-space k)); isSign = refl }
 
-pub sign-le : SignText (60 ∷ 61 ∷ []) LE
+pub sign-le : SignText (bytes "<=") LE
 unfolding lexeme nameStart letter signKind signMore
-sign-le = record { lexed = λ k. tokens-space _ ∙ (tokens-one 60 (61 ∷ 32 ∷ k) LE 1 refl refl ∙ ap (λ l. tok LE (60 ∷ 61 ∷ []) ∷ l) (tokens-space k)); isSign = refl }
+sign-le = record { lexed = λ k. tokens-space _ ∙ (tokens-one 60 (bytes "= " ++ k) LE 1 refl refl ∙ ap (λ l. tok LE (bytes "<=") ∷ l) (tokens-space k)); isSign = refl }
 
-pub sign-ge : SignText (62 ∷ 61 ∷ []) GE
+pub sign-ge : SignText (bytes ">=") GE
 unfolding lexeme nameStart letter signKind signMore
-sign-ge = record { lexed = λ k. tokens-space _ ∙ (tokens-one 62 (61 ∷ 32 ∷ k) GE 1 refl refl ∙ ap (λ l. tok GE (62 ∷ 61 ∷ []) ∷ l) (tokens-space k)); isSign = refl }
+sign-ge = record { lexed = λ k. tokens-space _ ∙ (tokens-one 62 (bytes "= " ++ k) GE 1 refl refl ∙ ap (λ l. tok GE (bytes ">=") ∷ l) (tokens-space k)); isSign = refl }
 
 -- <>
-pub sign-ne : SignText (60 ∷ 62 ∷ []) NE
+pub sign-ne : SignText (bytes "<>") NE
 unfolding lexeme nameStart letter signKind signMore
-sign-ne = record { lexed = λ k. tokens-space _ ∙ (tokens-one 60 (62 ∷ 32 ∷ k) NE 1 refl refl ∙ ap (λ l. tok NE (60 ∷ 62 ∷ []) ∷ l) (tokens-space k)); isSign = refl }
+sign-ne = record { lexed = λ k. tokens-space _ ∙ (tokens-one 60 (bytes "> " ++ k) NE 1 refl refl ∙ ap (λ l. tok NE (bytes "<>") ∷ l) (tokens-space k)); isSign = refl }
 
 -- !=
-pub sign-bang : SignText (33 ∷ 61 ∷ []) NE
+pub sign-bang : SignText (bytes "!=") NE
 unfolding lexeme nameStart letter signKind signMore
-sign-bang = record { lexed = λ k. tokens-space _ ∙ (tokens-one 33 (61 ∷ 32 ∷ k) NE 1 refl refl ∙ ap (λ l. tok NE (33 ∷ 61 ∷ []) ∷ l) (tokens-space k)); isSign = refl }
+sign-bang = record { lexed = λ k. tokens-space _ ∙ (tokens-one 33 (bytes "= " ++ k) NE 1 refl refl ∙ ap (λ l. tok NE (bytes "!=") ∷ l) (tokens-space k)); isSign = refl }
 
 -- An item from its tokens: they begin with an atom, so with neither NOT nor a bracket.
 from-tokens : (s : List ℕ) (x : Ast) (t : Token) → isAtom (t .kind) ≡ true → (f : List Token → List Token)
@@ -257,14 +257,14 @@ compare-item {s} {w} {t} {a} {b} {n} A S B =
     (λ k c. simple-atom (A .token) (tok n w ∷ (B .token ∷ tokens k)) (A .kinded) ∙ rw (S .isSign, B .kinded, A .means _, B .means _))
 
 -- NULL alone is unknown
-pub null-item : Item (78 ∷ 85 ∷ 76 ∷ 76 ∷ []) (const Unknown)
+pub null-item : Item (bytes "NULL") (const Unknown)
 unfolding fromAtom kind rest
 null-item =
-    from-tokens (78 ∷ 85 ∷ 76 ∷ 76 ∷ []) (const Unknown) (tok NULL (78 ∷ 85 ∷ 76 ∷ 76 ∷ [])) refl (λ r. r)
+    from-tokens (bytes "NULL") (const Unknown) (tok NULL (bytes "NULL")) refl (λ r. r)
     (λ k c. null-token (c .breaks))
-    (λ k c. simple-atom (tok NULL (78 ∷ 85 ∷ 76 ∷ 76 ∷ [])) (tokens k) refl ∙ rw (c .calm))
+    (λ k c. simple-atom (tok NULL (bytes "NULL")) (tokens k) refl ∙ rw (c .calm))
 
-pub true-item : Item (84 ∷ 82 ∷ 85 ∷ 69 ∷ []) (const True)
+pub true-item : Item (bytes "TRUE") (const True)
 unfolding simple kind rest
 true-item =
     record {
@@ -273,7 +273,7 @@ true-item =
       reads = λ k b. ap simple (true-token (b .breaks));
     }
 
-pub false-item : Item (70 ∷ 65 ∷ 76 ∷ 83 ∷ 69 ∷ []) (const False)
+pub false-item : Item (bytes "FALSE") (const False)
 unfolding simple kind rest
 false-item =
     record {
@@ -282,7 +282,7 @@ false-item =
       reads = λ k b. ap simple (false-token (b .breaks));
     }
 
--- A name in either writing, and the tests for NULL behind it.
+-- A name in either writing, and the tests for NULL after it.
 pub record NameText (s n : List ℕ) : Type 0 where
   pub atom : AtomText s (column n)
   pub named : isName (atom .token .kind) ≡ true
@@ -299,15 +299,15 @@ name-no-null : (k : ℕ) → isName k ≡ true → k ≡ NULL → ⊥
 name-no-null k p e = let z : _≡_ {A = ℕ} 0 1 = cc (ap isName e) in omega arith
 
 abbrev nullToken : Token
-nullToken = tok NULL (78 ∷ 85 ∷ 76 ∷ 76 ∷ [])
+nullToken = tok NULL (bytes "NULL")
 
 abbrev notToken : Token
-notToken = tok NOT (78 ∷ 79 ∷ 84 ∷ [])
+notToken = tok NOT (bytes "NOT")
 
 abbrev isToken : Token
-isToken = tok IS (73 ∷ 83 ∷ [])
+isToken = tok IS (bytes "IS")
 
--- a name's token, and what a test for NULL makes of the tokens behind it
+-- a name's token, and what a test for NULL makes of the tokens after it
 name-test : (t u : Token) (ts : List Token) (n : List ℕ) → isAtom (t .kind) ≡ true → isName (t .kind) ≡ true
     → ((r : List Token) → atomOf (t ∷ r) ≡ column n) → between LT (u .kind) NE ≡ false
     → simple (t ∷ (u ∷ ts)) ≡ nullTest (column n) (u ∷ ts)
@@ -316,7 +316,7 @@ name-test t u ts n a m v b =
     simple-atom t (u ∷ ts) a ∙ rw (b, ne-eqb (t .kind) NULL (name-no-null (t .kind) m), m, v (u ∷ ts))
 
 module _ {s n : List ℕ} (N : NameText s n) where
-  pub is-null-item : Item (s ++ (32 ∷ 73 ∷ 83 ∷ 32 ∷ 78 ∷ 85 ∷ 76 ∷ 76 ∷ [])) (isNull (column n))
+  pub is-null-item : Item (s ++ bytes " IS NULL") (isNull (column n))
   unfolding nullTest kind rest
   is-null-item =
       from-tokens _ _ (N .atom .token) (N .atom .kinded) (λ r. isToken ∷ (nullToken ∷ r))
@@ -324,7 +324,7 @@ module _ {s n : List ℕ} (N : NameText s n) where
       ∙ (N .atom .lexed (at-space _) ∙ ap (λ l. N .atom .token ∷ l) (is-token _ ∙ ap (λ l. isToken ∷ l) (tokens-space _ ∙ null-token (c .breaks)))))
       (λ k c. name-test (N .atom .token) isToken (nullToken ∷ tokens k) n (N .atom .kinded) (N .named) (N .atom .means) refl)
 
-  pub is-not-null-item : Item (s ++ (32 ∷ 73 ∷ 83 ∷ 32 ∷ 78 ∷ 79 ∷ 84 ∷ 32 ∷ 78 ∷ 85 ∷ 76 ∷ 76 ∷ [])) (neg (isNull (column n)))
+  pub is-not-null-item : Item (s ++ bytes " IS NOT NULL") (neg (isNull (column n)))
   unfolding nullTest notNull kind rest
   is-not-null-item =
       from-tokens _ _ (N .atom .token) (N .atom .kinded) (λ r. isToken ∷ (notToken ∷ (nullToken ∷ r)))
@@ -332,7 +332,7 @@ module _ {s n : List ℕ} (N : NameText s n) where
       ∙ (N .atom .lexed (at-space _) ∙ ap (λ l. N .atom .token ∷ l) (is-token _ ∙ ap (λ l. isToken ∷ l) (not-null-tokens (c .breaks)))))
       (λ k c. name-test (N .atom .token) isToken (notToken ∷ (nullToken ∷ tokens k)) n (N .atom .kinded) (N .named) (N .atom .means) refl)
 
-  pub not-null-item : Item (s ++ (32 ∷ 78 ∷ 79 ∷ 84 ∷ 32 ∷ 78 ∷ 85 ∷ 76 ∷ 76 ∷ [])) (neg (isNull (column n)))
+  pub not-null-item : Item (s ++ bytes " NOT NULL") (neg (isNull (column n)))
   unfolding nullTest notNull kind rest
   not-null-item =
       from-tokens _ _ (N .atom .token) (N .atom .kinded) (λ r. notToken ∷ (nullToken ∷ r))

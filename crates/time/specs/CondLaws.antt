@@ -1,22 +1,22 @@
 -- A temporal predicate's condition reads back as the same condition over atoms, and that has the condition's truth.
 -- Each translator is put together from `Prints`; the ends are four atoms, and a guarded end is a column.
-use Prim.Native.Nat.{ℕ, zero, suc, _+_, _≤_, _<_}
-use mathlib.Core.Path.{_≡_, refl, sym, ap, _∙_, subst}
+use Prim.Native.Nat.{ℕ, suc, _+_, _<_}
+use mathlib.Core.Path.{_≡_, refl, sym, ap, subst}
 use mathlib.Core.List.{List, [], _∷_, _++_, append-assoc}
 use mathlib.Core.Bool.{Bool, true, false}
 use native.Mathlib.Omega.{arith}
 use lib.Dec.{eqb}
+use Rattle.prelude.specs.Bytes.{bytes}
 use Rattle.prelude.specs.Choice.{pick}
 use Rattle.charset.specs.Charset.{name}
 use Rattle.sql.specs.Condition as sql
 use Rattle.sql.specs.Condition.{Cond, print, checkId, checkIds}
 use Rattle.sql.specs.Translators.{tAfter, tBefore, tContains, tDisjoint, tDuring, tEquals, tFinishedBy, tFinishes, tIntersects, tMeets, tMetBy, tOverlappedBy, tOverlaps, tStartedBy, tStarts, translate}
 use Rattle.row.specs.Row.{Column, Found}
-use Rattle.truth.specs.Lex.{LT, GT, EQ, NE}
-use Rattle.truth.specs.Grammar.{Atom, column, text, none, Ast, cmp, isNull, neg, conj, disj, value, eval, not3, and3, or3}
+use Rattle.truth.specs.Grammar.{Atom, column, Ast, cmp, isNull, neg, conj, disj, value, eval}
 use Rattle.time.specs.FilterTruth.{signOf, condTruth}
-use Rattle.time.specs.ReadBack.{Item, Prints, item, lift, bracket, not-bracket, and-join, or-join}
-use Rattle.time.specs.Atoms.{AtomText, compare-item, sign-lt, sign-gt, sign-eq, sign-bang, quoted-name, is-not-null-item, not-null-item}
+use Rattle.time.specs.ReadBackLaws.{Item, Prints, item, lift, bracket, not-bracket, and-join, or-join}
+use Rattle.time.specs.AtomLaws.{AtomText, compare-item, sign-lt, sign-gt, sign-eq, sign-bang, quoted-name, is-not-null-item, not-null-item}
 
 -- a condition over atoms
 unfoldable pub condAst : (ℕ → Atom) → Cond → Ast
@@ -58,17 +58,17 @@ module _ {end : ℕ → List ℕ} {a : ℕ → Atom} {col : ℕ → Bool} (E : E
   unfolding print condAst
   guard-is d i p c =
       let n = E .names i p c in
-      let t = ap (λ l. 34 ∷ l) (append-assoc (end i) (34 ∷ []) (32 ∷ 73 ∷ 83 ∷ 32 ∷ 78 ∷ 79 ∷ 84 ∷ 32 ∷ 78 ∷ 85 ∷ 76 ∷ 76 ∷ [])) in
+      let t = ap (λ l. 34 ∷ l) (append-assoc (end i) (34 ∷ []) (bytes " IS NOT NULL")) in
       let q = subst (λ (l : List ℕ). Item l (neg (isNull (column (end i))))) t (is-not-null-item (quoted-name (end i) (n .1))) in
-      item (subst (λ (b : Atom). Item (34 ∷ (end i ++ (34 ∷ 32 ∷ 73 ∷ 83 ∷ 32 ∷ 78 ∷ 79 ∷ 84 ∷ 32 ∷ 78 ∷ 85 ∷ 76 ∷ 76 ∷ []))) (neg (isNull b))) (sym (n .0)) q)
+      item (subst (λ (b : Atom). Item (34 ∷ (end i ++ bytes "\" IS NOT NULL")) (neg (isNull b))) (sym (n .0)) q)
 
   guard-not : (d i : ℕ) → i < 4 → col i ≡ true → Prints d 0 (print end (sql.notNull i)) (condAst a (sql.notNull i))
   unfolding print condAst
   guard-not d i p c =
       let n = E .names i p c in
-      let t = ap (λ l. 34 ∷ l) (append-assoc (end i) (34 ∷ []) (32 ∷ 78 ∷ 79 ∷ 84 ∷ 32 ∷ 78 ∷ 85 ∷ 76 ∷ 76 ∷ [])) in
+      let t = ap (λ l. 34 ∷ l) (append-assoc (end i) (34 ∷ []) (bytes " NOT NULL")) in
       let q = subst (λ (l : List ℕ). Item l (neg (isNull (column (end i))))) t (not-null-item (quoted-name (end i) (n .1))) in
-      item (subst (λ (b : Atom). Item (34 ∷ (end i ++ (34 ∷ 32 ∷ 78 ∷ 79 ∷ 84 ∷ 32 ∷ 78 ∷ 85 ∷ 76 ∷ 76 ∷ []))) (neg (isNull b))) (sym (n .0)) q)
+      item (subst (λ (b : Atom). Item (34 ∷ (end i ++ bytes "\" NOT NULL")) (neg (isNull b))) (sym (n .0)) q)
 
   -- check_ids: a guard in front of a test
   guarded : (d i : ℕ) (base : Cond) → i < 4 → Prints d 0 (print end base) (condAst a base)

@@ -2,11 +2,8 @@
 use mathlib.Core.Path.{_≡_}
 use Prim.Native.Nat.{ℕ}
 use native.Mathlib.Omega.{arith}
-use borrow.Author.Needs.{needs}
-use Rattle.tree.proofs.lies.Statement.{statement}
-use Rattle.tree.proofs.lies.Tie as tie
-use Rattle.tree.proofs.lies.Reads as reads
-use Rattle.tree.proofs.lies.Lts as lts
+use Rattle.record.proofs.lies.Statement.{statement}
+use Rattle.record.proofs.lies.Tie as tie
 
 returns : tie.Need-returns
 returns c = λ e. absurd (let z : _≡_ {A = ℕ} 0 1 = cc in let v : ⊥ = omega arith in v)

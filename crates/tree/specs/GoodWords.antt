@@ -1,7 +1,7 @@
 -- The trees that can be written: at most n levels, each field within its rule of document 01, "Records".
 use Prim.Native.Nat.{ℕ, _-_, _≤_, _<_}
 use mathlib.Core.Path.{_≡_}
-use mathlib.Core.Bool.{Bool, true}
+use mathlib.Core.Bool.{true}
 use lib.IntN.{natAbs}
 use lib.ListN.{length}
 use Rattle.prelude.specs.Choice.{all}

@@ -1,6 +1,6 @@
 -- What the code's walk answers about a reading: the refusal, or what has to be known of a tree to decide refusal 7 above it. Document 01, "What a caller hears".
-use Prim.Native.Nat.{ℕ, _+_, _-_}
-use mathlib.Core.List.{List, [], _∷_}
+use Prim.Native.Nat.{ℕ, _-_}
+use mathlib.Core.List.{List}
 use mathlib.Core.Bool.{Bool, true, false}
 use lib.ListN.{length, take, drop}
 use lib.Dec.{ltb, eqb}
@@ -13,8 +13,6 @@ use Rattle.op.specs.declared.Op.{Op}
 use Rattle.op.specs.declared.Named.{Named}
 use Rattle.op.specs.declared.Named.the-variants.{Is, NoOp}
 use Rattle.op.specs.Op.{opOf, isTemporal, isInstantOrInterval}
-use Rattle.tree.specs.declared.Checked.{Checked}
-use Rattle.tree.specs.declared.Checked.the-variants.{Valid, Refused}
 use Rattle.tree.specs.declared.Shape.{Shape}
 use Rattle.tree.specs.declared.Shape.the-variants.{Interval, Pair, Other, Misplaced}
 use Rattle.tree.specs.declared.One.{One}
@@ -28,13 +26,9 @@ use Rattle.tree.specs.declared.First.the-variants.{Stop, Next}
 use Rattle.tree.specs.declared.Taken.{Taken}
 use Rattle.tree.specs.declared.Taken.the-variants.{Takes, Refuses}
 use Rattle.tree.specs.Tree.{Tree, Trees}
-use Rattle.tree.specs.Parse.{Read, refused, got, Body, first, second}
-use Rattle.tree.specs.Placed.{isInterval, isPair, isBetween, count, inner, inners}
-
--- the answer of the public call
-unfoldable pub verdict : {A : Type 0} → Read A → Checked
-verdict (refused n) = Refused n
-verdict (got a) = Valid
+use Rattle.tree.specs.Parse.{Read, refused, got, Body}
+use Rattle.tree.specs.Tests.{first, second, isInterval, isPair, count}
+use Rattle.tree.specs.Placed.{isBetween, inner, inners}
 
 -- what the record above has to know of a tree
 unfoldable pub shapeOf : Tree → Shape

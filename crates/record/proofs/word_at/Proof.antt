@@ -1,12 +1,7 @@
 -- Where all of it lies in s it is read at once.
 use borrow.Author.Needs.{needs}
-use Rattle.tree.proofs.word_at.Statement.{statement}
-use Rattle.tree.proofs.word_at.Tie as tie
-use Rattle.tree.proofs.word_at.Reads as reads
-use Rattle.tree.proofs.word_at.Lts as lts
-use Rattle.tree.proofs.lies.Reads as lies-reads
-use Rattle.tree.proofs.word_in.Reads as word-in-reads
-use Rattle.tree.proofs.word_past.Reads as word-past-reads
+use Rattle.record.proofs.word_at.Statement.{statement}
+use Rattle.record.proofs.word_at.Tie as tie
 
 lies-requires : tie.Need-lies-requires
 lies-requires c κs = search needs

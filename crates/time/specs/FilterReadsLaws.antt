@@ -1,77 +1,49 @@
 -- A time filter's text reads back as the filter: its atoms are names, quoted texts and NULL, its operands stand in brackets unless they are
--- literals, and a temporal predicate is the condition of CondReads.antt. What is read has the truth that FilterTruth.antt gives the tree.
-use Prim.Native.Nat.{ℕ, zero, suc, _+_, _-_, _/_, _%_, _≤_, _<_}
+-- literals, and a temporal predicate is the condition of CondLaws.antt. What is read has the truth that FilterTruth.antt gives the tree.
+use Prim.Native.Nat.{ℕ, zero, suc, _+_, _-_, _/_, _%_, _<_}
 use mathlib.Core.Path.{_≡_, refl, sym, ap, _∙_, subst}
-use mathlib.Core.List.{List, [], _∷_, _++_, append-assoc, append-nil}
+use mathlib.Core.List.{List, [], _∷_, _++_, append-nil}
 use mathlib.Core.Bool.{Bool, true, false, false≢true}
 use native.Mathlib.Omega.{arith}
-use lib.Dec.{T, eqb, leb, ltb}
+use lib.Dec.{T}
 use lib.ListN.{getD}
-use borrow.Author.Tests.{eqb-true, le-leb, ne-eqb}
-use Rattle.prelude.specs.Choice.{pick, both, either, negated, between, all, some}
+use borrow.Author.Tests.{le-leb, ne-eqb}
+use Rattle.prelude.specs.Choice.{pick, both, either, negated, all, some}
 use Rattle.prelude.specs.ChoiceLaws.{both-true}
 use Rattle.charset.specs.Charset.{name, strByte}
 use Rattle.op.specs.declared.Op.{Op}
 use Rattle.op.specs.declared.Op.the-variants.{Neg, And, Or, IsNull, IsNotNull, Eq, Neq, Lt, Gt, Lte, Gte}
 use Rattle.op.specs.Op.{opNumber, operators, oneOf, isTemporal, isNullable, isSpatial, isArray}
 use Rattle.op.specs.OpLaws.{each, every-op}
-use Rattle.op.specs.Spelling.{spelling, spelled, spelledAs}
-use Rattle.tree.specs.Tree.{Tree, Trees, Settings, null, unbounded, bool, num, str, date, timestamp, spatial, id, monadic, dyadic, function, array, interval}
-use Rattle.tree.specs.Placed.{isInterval, isBetween}
-use Rattle.tree.specs.Good.{Good}
+use Rattle.op.specs.Spelling.{spelledAs}
+use Rattle.tree.specs.Kinds.{ID, INTERVAL}
+use Rattle.tree.specs.Tree.{Tree, Settings, null, bool, id, monadic, dyadic}
+use Rattle.tree.specs.Placed.{isBetween}
+use Rattle.tree.specs.Tests as trees
+use Rattle.tree.specs.Tests.{first, second, everywhere, byOperator, isInterval, isId, isLiteral, isLiteralOrId, startOf, stopOf, endsOf, columnsOf}
+use Rattle.tree.specs.TestsLaws.{OfKind, of-id, of-interval, id-is, interval-is, by-operators}
+use Rattle.tree.specs.GoodWords.{Good}
 use Rattle.literal.specs.Literal as literal
 use Rattle.literal.specs.Literal.{low}
-use Rattle.sql.specs.Condition.{print}
 use Rattle.sql.specs.Translators.{translate}
 use Rattle.gpkg.specs.Text as gpkg
-use Rattle.gpkg.specs.Text.{isId, isLiteral, isLiteralOrId, startOf, stopOf, endsOf, columnsOf, children, bare, monadicText, dyadicText, startText, stopText}
-use Rattle.row.specs.Row.{Column, Found, has}
+use Rattle.gpkg.specs.Text.{children, bare, monadicText, dyadicText, startText, stopText}
+use Rattle.row.specs.Row.{Column}
 use Rattle.truth.specs.declared.Truth.{Truth}
-use Rattle.truth.specs.declared.Truth.the-variants.{True, False, Unknown}
-use Rattle.truth.specs.Lex.{LT, GT, LE, GE, EQ, NE}
-use Rattle.truth.specs.Grammar.{Atom, column, text, none, Ast, cmp, isNull, const, neg, conj, disj, value, eval, not3, and3, or3, truthOf, compared, nullity}
+use Rattle.truth.specs.Grammar.{column, text, Ast, cmp, isNull, const, neg, conj, disj, value, eval, not3, nullity}
 use Rattle.time.specs.Filter.{comparable, isEnd, isOperand, isNeg, isAnd, isOr, compares, timeFilter}
-use Rattle.time.specs.FilterTruth.{valueOn, condTruth, endValues, temporalTruth, comparison, truthOn}
-use Rattle.time.specs.OperatorLaws.{AllOf, done, _also_, among, same-op, fifteen, of-temporal}
-use Rattle.time.specs.ReadBack.{Item, Prints, item, lift, bracket, not-bracket, not-word, and-join, or-join}
-use Rattle.time.specs.Atoms.{AtomText, bare-atom, text-atom, null-atom, SignText, sign-lt, sign-gt, sign-le, sign-ge, sign-eq, sign-ne, compare-item, null-item, true-item, false-item, bare-name, is-null-item, is-not-null-item}
-use Rattle.time.specs.CondReads.{condAst, cond-eval, Ends, translated}
+use Rattle.time.specs.FilterLaws.{EndIs, null-end, open-end, date-end, timestamp-end, column-end, end-is, ComparableIs, comparable-str, comparable-date, comparable-timestamp, comparable-id, comparable-is, FilterIs, null-filter, bool-filter, monadic-filter, dyadic-filter, filter-is}
+use Rattle.time.specs.FilterTruth.{treeAtom, valueOn, endValues, temporalTruth, comparison, constant, monadicTruth, dyadicTruth, truthOn}
+use Rattle.time.specs.OperatorLaws.{AllOf, done, _also_, among, fifteen, of-temporal}
+use Rattle.time.specs.ReadBackLaws.{Prints, item, lift, bracket, not-bracket, not-word, and-join, or-join}
+use Rattle.time.specs.AtomLaws.{AtomText, bare-atom, text-atom, null-atom, SignText, sign-lt, sign-gt, sign-le, sign-ge, sign-eq, sign-ne, compare-item, null-item, true-item, false-item, bare-name, is-null-item, is-not-null-item}
+use Rattle.time.specs.CondLaws.{condAst, cond-eval, Ends, translated}
 
 -- Atoms.
 
--- what stands for a tree in a comparison
-unfoldable pub treeAtom : Tree → Atom
-treeAtom null = none
-treeAtom unbounded = text literal.openEnd
-treeAtom (bool b) = none
-treeAtom (num m s) = none
-treeAtom (str f s) = text s
-treeAtom (date y m d) = text (literal.date y m d)
-treeAtom (timestamp y m d h i s) = text (literal.timestamp y m d h i s)
-treeAtom (spatial n s) = none
-treeAtom (id s) = column s
-treeAtom (monadic o t) = none
-treeAtom (dyadic o t u) = none
-treeAtom (function n ts) = none
-treeAtom (array ts) = none
-treeAtom (interval t u) = none
-
 pub atom-value : (cs : List Column) (t : Tree) → value cs (treeAtom t) ≡ valueOn cs t
-unfolding value treeAtom valueOn
-atom-value cs null = refl
-atom-value cs unbounded = refl
-atom-value cs (bool b) = refl
-atom-value cs (num m s) = refl
-atom-value cs (str f s) = refl
-atom-value cs (date y m d) = refl
-atom-value cs (timestamp y m d h i s) = refl
-atom-value cs (spatial n s) = refl
-atom-value cs (id s) = refl
-atom-value cs (monadic o t) = refl
-atom-value cs (dyadic o t u) = refl
-atom-value cs (function n ts) = refl
-atom-value cs (array ts) = refl
-atom-value cs (interval t u) = refl
+unfolding valueOn
+atom-value cs t = refl
 
 -- written instants are made of Str bytes
 all-append : (p : ℕ → Bool) (x y : List ℕ) → all p x ≡ true → all p y ≡ true → all p (x ++ y) ≡ true
@@ -108,41 +80,28 @@ timestamp-str y m d h i s =
 
 -- the text of an end is that of its atom
 pub end-text : (g : Settings) (t : Tree) (n : ℕ) → isEnd t ≡ true → Good t n → AtomText (gpkg.text g t) (treeAtom t)
-unfolding gpkg.text treeAtom isEnd Good literal.quoted
-end-text g null k e x = null-atom
-end-text g unbounded k e x = text-atom literal.openEnd open-str
-end-text g (bool b) k e x = absurd (false≢true e)
-end-text g (num m s) k e x = absurd (false≢true e)
-end-text g (str f s) k e x = absurd (false≢true e)
-end-text g (date y m d) k e x = text-atom (literal.date y m d) (date-str y m d)
-end-text g (timestamp y m d h i s) k e x = text-atom (literal.timestamp y m d h i s) (timestamp-str y m d h i s)
-end-text g (spatial n s) k e x = absurd (false≢true e)
-end-text g (id s) k e x = bare-atom s (x .1)
-end-text g (monadic o t) k e x = absurd (false≢true e)
-end-text g (dyadic o t u) k e x = absurd (false≢true e)
-end-text g (function n ts) k e x = absurd (false≢true e)
-end-text g (array ts) k e x = absurd (false≢true e)
-end-text g (interval t u) k e x = absurd (false≢true e)
+unfolding gpkg.text treeAtom Good literal.quoted
+end-text g t n e x = go t (end-is t e) x
+  where
+    go : (t : Tree) → EndIs t → Good t n → AtomText (gpkg.text g t) (treeAtom t)
+    go t null-end x = null-atom
+    go t open-end x = text-atom literal.openEnd open-str
+    go t (date-end y m d) x = text-atom (literal.date y m d) (date-str y m d)
+    go t (timestamp-end y m d h i s) x = text-atom (literal.timestamp y m d h i s) (timestamp-str y m d h i s)
+    go t (column-end s) x = bare-atom s (x .1)
 
 -- and so is the text of what is compared
 pub comparable-text : (g : Settings) (t : Tree) (n : ℕ) → comparable t ≡ true → Good t n → AtomText (gpkg.text g t) (treeAtom t)
-unfolding gpkg.text treeAtom comparable Good literal.quoted literal.strText
-comparable-text g null k e x = absurd (false≢true e)
-comparable-text g unbounded k e x = absurd (false≢true e)
-comparable-text g (bool b) k e x = absurd (false≢true e)
-comparable-text g (num m s) k e x = absurd (false≢true e)
-comparable-text g (str f s) k e x =
-    let q : literal.strText (g .ci) (g .ai) (g .cai) f s ≡ 39 ∷ (s ++ (39 ∷ [])) = rw e (append-nil (39 ∷ (s ++ (39 ∷ [])))) in
-    subst (λ (l : List ℕ). AtomText l (text s)) (sym q) (text-atom s (x .3))
-comparable-text g (date y m d) k e x = text-atom (literal.date y m d) (date-str y m d)
-comparable-text g (timestamp y m d h i s) k e x = text-atom (literal.timestamp y m d h i s) (timestamp-str y m d h i s)
-comparable-text g (spatial n s) k e x = absurd (false≢true e)
-comparable-text g (id s) k e x = bare-atom s (x .1)
-comparable-text g (monadic o t) k e x = absurd (false≢true e)
-comparable-text g (dyadic o t u) k e x = absurd (false≢true e)
-comparable-text g (function n ts) k e x = absurd (false≢true e)
-comparable-text g (array ts) k e x = absurd (false≢true e)
-comparable-text g (interval t u) k e x = absurd (false≢true e)
+unfolding gpkg.text treeAtom Good literal.quoted literal.strText
+comparable-text g t n e x = go t (comparable-is t e) x
+  where
+    go : (t : Tree) → ComparableIs t → Good t n → AtomText (gpkg.text g t) (treeAtom t)
+    go t (comparable-str f s e) x =
+        let q : literal.strText (g .ci) (g .ai) (g .cai) f s ≡ 39 ∷ (s ++ (39 ∷ [])) = rw e (append-nil (39 ∷ (s ++ (39 ∷ [])))) in
+        subst (λ (l : List ℕ). AtomText l (text s)) (sym q) (text-atom s (x .3))
+    go t (comparable-date y m d) x = text-atom (literal.date y m d) (date-str y m d)
+    go t (comparable-timestamp y m d h i s) x = text-atom (literal.timestamp y m d h i s) (timestamp-str y m d h i s)
+    go t (comparable-id s) x = bare-atom s (x .1)
 
 -- Operands: their ends, and the ends' texts.
 pub record Operand (g : Settings) (t : Tree) : Type 0 where
@@ -153,21 +112,11 @@ pub record Operand (g : Settings) (t : Tree) : Type 0 where
 
 -- an end that is a column is a name
 end-name : (g : Settings) (t : Tree) (n : ℕ) → Good t n → isId t ≡ true → (treeAtom t ≡ column (gpkg.text g t)) × (name (gpkg.text g t) ≡ true)
-unfolding gpkg.text treeAtom isId Good
-end-name g null l x e = absurd (false≢true e)
-end-name g unbounded l x e = absurd (false≢true e)
-end-name g (bool b) l x e = absurd (false≢true e)
-end-name g (num m s) l x e = absurd (false≢true e)
-end-name g (str f s) l x e = absurd (false≢true e)
-end-name g (date y m d) l x e = absurd (false≢true e)
-end-name g (timestamp y m d h i s) l x e = absurd (false≢true e)
-end-name g (spatial n s) l x e = absurd (false≢true e)
-end-name g (id s) l x e = (refl, x .1)
-end-name g (monadic o t) l x e = absurd (false≢true e)
-end-name g (dyadic o t u) l x e = absurd (false≢true e)
-end-name g (function n ts) l x e = absurd (false≢true e)
-end-name g (array ts) l x e = absurd (false≢true e)
-end-name g (interval t u) l x e = absurd (false≢true e)
+unfolding gpkg.text treeAtom Good
+end-name g t n x e = go t (id-is t e) x
+  where
+    go : (t : Tree) → OfKind ID t → Good t n → (treeAtom t ≡ column (gpkg.text g t)) × (name (gpkg.text g t) ≡ true)
+    go t (of-id s) x = (refl, x .1)
 
 -- an instant: it is its own start, and Null its stop
 instant-operand : (g : Settings) (t : Tree) (n : ℕ) → isInterval t ≡ false → startOf t ≡ t → stopOf t ≡ null → isEnd t ≡ true → Good t n → Operand g t
@@ -180,29 +129,24 @@ instant-operand g t n i p q e x =
       stop-name = λ c. absurd (false≢true (rw q at c));
     }
 
-pub operand : (g : Settings) (t : Tree) (n : ℕ) → isOperand t ≡ true → Good t n → Operand g t
-unfolding isOperand isInterval startOf stopOf isEnd children Good
-operand g null l e x = instant-operand g null l refl refl refl refl x
-operand g unbounded l e x = instant-operand g unbounded l refl refl refl refl x
-operand g (bool b) l e x = absurd (false≢true e)
-operand g (num m s) l e x = absurd (false≢true e)
-operand g (str f s) l e x = absurd (false≢true e)
-operand g (date y m d) l e x = instant-operand g (date y m d) l refl refl refl refl x
-operand g (timestamp y m d h i s) l e x = instant-operand g (timestamp y m d h i s) l refl refl refl refl x
-operand g (spatial n s) l e x = absurd (false≢true e)
-operand g (id s) l e x = instant-operand g (id s) l refl refl refl refl x
-operand g (monadic o t) l e x = absurd (false≢true e)
-operand g (dyadic o t u) l e x = absurd (false≢true e)
-operand g (function n ts) l e x = absurd (false≢true e)
-operand g (array ts) l e x = absurd (false≢true e)
-operand g (interval t u) l e x =
-    let f = both-true (isEnd t) (isEnd u) e in
+interval-operand : (g : Settings) (t : Tree) (n : ℕ) → OfKind INTERVAL t → isOperand t ≡ true → Good t n → Operand g t
+unfolding isOperand isInterval startOf stopOf first second children Good
+interval-operand g t n (of-interval a b) e x =
+    let f = both-true (isEnd a) (isEnd b) e in
     record {
-      start-atom = end-text g t (l - 1) (f .0) (x .1);
-      stop-atom = end-text g u (l - 1) (f .1) (x .2);
-      start-name = end-name g t (l - 1) (x .1);
-      stop-name = end-name g u (l - 1) (x .2);
+      start-atom = end-text g a (n - 1) (f .0) (x .1);
+      stop-atom = end-text g b (n - 1) (f .1) (x .2);
+      start-name = end-name g a (n - 1) (x .1);
+      stop-name = end-name g b (n - 1) (x .2);
     }
+
+pub operand : (g : Settings) (t : Tree) (n : ℕ) → isOperand t ≡ true → Good t n → Operand g t
+unfolding isOperand startOf stopOf
+operand g t n e x = go (isInterval t) refl e
+  where
+    go : (b : Bool) → isInterval t ≡ b → pick b (both (isEnd (startOf t)) (isEnd (stopOf t))) (isEnd t) ≡ true → Operand g t
+    go true i f = interval-operand g t n (interval-is t i) e x
+    go false i f = instant-operand g t n i (ap (λ b. pick b (first (trees.children t)) t) i) (ap (λ b. pick b (second (trees.children t)) null) i) f x
 
 -- the four ends of two operands
 pub four-ends : (g : Settings) (t u : Tree) → Operand g t → Operand g u
@@ -230,27 +174,20 @@ four-ends g t u A B = record { atoms = λ j h. atoms j h; names = λ j h c. name
 -- Filters.
 
 -- the condition that a filter is read as
-unfoldable pub filterAst : Tree → Ast
-filterAst null = const Unknown
-filterAst unbounded = const Unknown
-filterAst (bool b) = const (truthOf b)
-filterAst (num m s) = const Unknown
-filterAst (str f s) = const Unknown
-filterAst (date y m d) = const Unknown
-filterAst (timestamp y m d h i s) = const Unknown
-filterAst (spatial n s) = const Unknown
-filterAst (id s) = const Unknown
-filterAst (monadic o t) =
-    pick (isNeg o) (neg (filterAst t))
+abbrev monadicAst : Op → Tree → Ast → Ast
+monadicAst o t a =
+    pick (isNeg o) (neg a)
     (pick (oneOf o (IsNull ∷ [])) (isNull (treeAtom t)) (neg (isNull (treeAtom t))))
-filterAst (dyadic o t u) =
-    pick (isAnd o) (conj (filterAst t) (filterAst u))
-    (pick (isOr o) (disj (filterAst t) (filterAst u))
+
+abbrev dyadicAst : Op → Tree → Tree → Ast → Ast → Ast
+dyadicAst o t u a b =
+    pick (isAnd o) (conj a b)
+    (pick (isOr o) (disj a b)
     (pick (compares o) (cmp (comparison o) (treeAtom t) (treeAtom u))
     (condAst (λ j. treeAtom (getD (endsOf t u) j null)) (translate (opNumber o) (isInterval t) (isInterval u) (columnsOf t u)))))
-filterAst (function n ts) = const Unknown
-filterAst (array ts) = const Unknown
-filterAst (interval t u) = const Unknown
+
+unfoldable pub filterAst : Tree → Ast
+filterAst = byOperator (λ t. const (constant t)) monadicAst dyadicAst
 
 -- it has the filter's truth
 pick-eval : (cs : List Column) (b : Bool) (x y : Ast) (p q : Truth) → eval cs x ≡ p → eval cs y ≡ q → eval cs (pick b x y) ≡ pick b p q
@@ -259,27 +196,17 @@ pick-eval cs false x y p q e f = f
 
 pub filter-eval : (cs : List Column) (t : Tree) → eval cs (filterAst t) ≡ truthOn cs t
 unfolding filterAst truthOn eval temporalTruth
-filter-eval cs null = refl
-filter-eval cs unbounded = refl
-filter-eval cs (bool b) = refl
-filter-eval cs (num m s) = refl
-filter-eval cs (str f s) = refl
-filter-eval cs (date y m d) = refl
-filter-eval cs (timestamp y m d h i s) = refl
-filter-eval cs (spatial n s) = refl
-filter-eval cs (id s) = refl
-filter-eval cs (monadic o t) =
-    pick-eval cs (isNeg o) _ _ _ _ (ap not3 (filter-eval cs t))
-    (pick-eval cs (oneOf o (IsNull ∷ [])) _ _ _ _ (ap nullity (atom-value cs t)) (ap (λ f. not3 (nullity f)) (atom-value cs t)))
-filter-eval cs (dyadic o t u) =
-    pick-eval cs (isAnd o) _ _ _ _ (rw (filter-eval cs t, filter-eval cs u) refl)
-    (pick-eval cs (isOr o) _ _ _ _ (rw (filter-eval cs t, filter-eval cs u) refl)
+filter-eval cs =
+    by-operators (λ t. const (constant t)) monadicAst dyadicAst constant (monadicTruth cs) (dyadicTruth cs) (λ t x a. eval cs x ≡ a) (λ t. refl)
+    (λ o t x a e.
+    pick-eval cs (isNeg o) _ _ _ _ (ap not3 e)
+    (pick-eval cs (oneOf o (IsNull ∷ [])) _ _ _ _ (ap nullity (atom-value cs t)) (ap (λ f. not3 (nullity f)) (atom-value cs t))))
+    (λ o t u x y a b e f.
+    pick-eval cs (isAnd o) _ _ _ _ (rw (e, f) refl)
+    (pick-eval cs (isOr o) _ _ _ _ (rw (e, f) refl)
     (pick-eval cs (compares o) _ _ _ _ (rw (atom-value cs t, atom-value cs u) refl)
     (cond-eval cs (λ j. treeAtom (getD (endsOf t u) j null)) (endValues cs t u) (λ j. atom-value cs (getD (endsOf t u) j null))
-    (translate (opNumber o) (isInterval t) (isInterval u) (columnsOf t u)))))
-filter-eval cs (function n ts) = refl
-filter-eval cs (array ts) = refl
-filter-eval cs (interval t u) = refl
+    (translate (opNumber o) (isInterval t) (isInterval u) (columnsOf t u))))))
 
 -- Brackets that a filter of n levels needs: one a level, and two in a temporal predicate.
 abbrev pub room : ℕ → ℕ
@@ -300,27 +227,20 @@ in-room zero p = p
 in-room (suc n) p = deeper (in-room n p)
 
 -- an operand of And, Or, Neg: in brackets unless it is a literal, which is TRUE or FALSE
-bool-prints : (d : ℕ) (b : Bool) → Prints d 0 (literal.boolText b) (const (truthOf b))
+bool-prints : (d : ℕ) (b : Bool) → Prints d 0 (literal.boolText b) (const (constant (bool b)))
 bool-prints d true = item true-item
 bool-prints d false = item false-item
 
 operand-prints : (g : Settings) (t : Tree) (n : ℕ) → timeFilter t ≡ true → Prints (room n) 3 (gpkg.text g t) (filterAst t)
     → Prints (room (suc n)) 0 (bare (isLiteralOrId t) (gpkg.text g t)) (filterAst t)
-unfolding timeFilter isLiteralOrId isLiteral isId gpkg.text filterAst
-operand-prints g null l e p = bracket {l = 3} (omega arith) p
-operand-prints g unbounded l e p = absurd (false≢true e)
-operand-prints g (bool b) l e p = bool-prints (room (suc l)) b
-operand-prints g (num m s) l e p = absurd (false≢true e)
-operand-prints g (str f s) l e p = absurd (false≢true e)
-operand-prints g (date y m d) l e p = absurd (false≢true e)
-operand-prints g (timestamp y m d h i s) l e p = absurd (false≢true e)
-operand-prints g (spatial n s) l e p = absurd (false≢true e)
-operand-prints g (id s) l e p = absurd (false≢true e)
-operand-prints g (monadic o t) l e p = bracket {l = 3} (omega arith) p
-operand-prints g (dyadic o t u) l e p = bracket {l = 3} (omega arith) p
-operand-prints g (function n ts) l e p = absurd (false≢true e)
-operand-prints g (array ts) l e p = absurd (false≢true e)
-operand-prints g (interval t u) l e p = absurd (false≢true e)
+unfolding isLiteralOrId isLiteral everywhere isId gpkg.text filterAst byOperator
+operand-prints g t n e p = go t (filter-is t e) p
+  where
+    go : (t : Tree) → FilterIs t → Prints (room n) 3 (gpkg.text g t) (filterAst t) → Prints (room (suc n)) 0 (bare (isLiteralOrId t) (gpkg.text g t)) (filterAst t)
+    go t null-filter p = bracket {l = 3} (omega arith) p
+    go t (bool-filter b) p = bool-prints (room (suc n)) b
+    go t (monadic-filter o u) p = bracket {l = 3} (omega arith) p
+    go t (dyadic-filter o u v) p = bracket {l = 3} (omega arith) p
 
 -- a test of operators that implies another, computed over all of them
 implies : (f g : Op → Bool) → T (every-op (λ o. either (negated (f o)) (g o)) operators) → (o : Op) → f o ≡ true → g o ≡ true
@@ -335,21 +255,14 @@ joins o = either (isAnd o) (isOr o)
 
 -- what is compared is a literal or a name
 comparable-bare : (t : Tree) → comparable t ≡ true → isLiteralOrId t ≡ true
-unfolding comparable isLiteralOrId isLiteral isId
-comparable-bare null e = absurd (false≢true e)
-comparable-bare unbounded e = absurd (false≢true e)
-comparable-bare (bool b) e = absurd (false≢true e)
-comparable-bare (num m s) e = absurd (false≢true e)
-comparable-bare (str f s) e = refl
-comparable-bare (date y m d) e = refl
-comparable-bare (timestamp y m d h i s) e = refl
-comparable-bare (spatial n s) e = absurd (false≢true e)
-comparable-bare (id s) e = refl
-comparable-bare (monadic o t) e = absurd (false≢true e)
-comparable-bare (dyadic o t u) e = absurd (false≢true e)
-comparable-bare (function n ts) e = absurd (false≢true e)
-comparable-bare (array ts) e = absurd (false≢true e)
-comparable-bare (interval t u) e = absurd (false≢true e)
+unfolding isLiteralOrId isLiteral everywhere isId
+comparable-bare t e = go t (comparable-is t e)
+  where
+    go : (t : Tree) → ComparableIs t → isLiteralOrId t ≡ true
+    go t (comparable-str f s e) = refl
+    go t (comparable-date y m d) = refl
+    go t (comparable-timestamp y m d h i s) = refl
+    go t (comparable-id s) = refl
 
 module _ (g : Settings) where
   -- what is to be shown of a filter that may be n levels deep
@@ -357,24 +270,24 @@ module _ (g : Settings) where
   Shown n t = Prints (room n) 3 (gpkg.text g t) (filterAst t)
 
   neg-shown : (n : ℕ) (t : Tree) → timeFilter t ≡ true → Shown n t → Shown (suc n) (monadic Neg t)
-  unfolding gpkg.text filterAst monadicText isNullable some spelledAs
+  unfolding gpkg.text filterAst byOperator monadicText isNullable some spelledAs
   neg-shown n t e p = lift {l = 1} {m = 3} (omega arith) (not-word {l = 0} (omega arith) (operand-prints g t n e p))
 
   null-shown : (n : ℕ) (s : List ℕ) → name s ≡ true → Shown n (monadic IsNull (id s))
-  unfolding gpkg.text filterAst monadicText isNullable some spelledAs isLiteralOrId isLiteral isId treeAtom
+  unfolding gpkg.text filterAst byOperator monadicText isNullable some spelledAs isLiteralOrId isLiteral everywhere isId treeAtom
   null-shown n s e = lift {l = 0} {m = 3} (omega arith) (item (is-null-item (bare-name s e)))
 
   not-null-shown : (n : ℕ) (s : List ℕ) → name s ≡ true → Shown n (monadic IsNotNull (id s))
-  unfolding gpkg.text filterAst monadicText isNullable some spelledAs isLiteralOrId isLiteral isId treeAtom
+  unfolding gpkg.text filterAst byOperator monadicText isNullable some spelledAs isLiteralOrId isLiteral everywhere isId treeAtom
   not-null-shown n s e = lift {l = 0} {m = 3} (omega arith) (item (is-not-null-item (bare-name s e)))
 
   and-shown : (n : ℕ) (t u : Tree) → timeFilter t ≡ true → timeFilter u ≡ true → Shown n t → Shown n u → Shown (suc n) (dyadic And t u)
-  unfolding gpkg.text filterAst dyadicText isBetween isSpatial isTemporal isArray some spelledAs
+  unfolding gpkg.text filterAst byOperator dyadicText isBetween isSpatial isTemporal isArray some spelledAs
   and-shown n t u e f p q =
       lift {l = 2} {m = 3} (omega arith) (and-join {l = 0} {m = 0} (omega arith) (omega arith) (operand-prints g t n e p) (operand-prints g u n f q))
 
   or-shown : (n : ℕ) (t u : Tree) → timeFilter t ≡ true → timeFilter u ≡ true → Shown n t → Shown n u → Shown (suc n) (dyadic Or t u)
-  unfolding gpkg.text filterAst dyadicText isBetween isSpatial isTemporal isArray some spelledAs
+  unfolding gpkg.text filterAst byOperator dyadicText isBetween isSpatial isTemporal isArray some spelledAs
   or-shown n t u e f p q =
       or-join {l = 0} {m = 0} (omega arith) (omega arith) (operand-prints g t n e p) (operand-prints g u n f q)
 
@@ -384,14 +297,14 @@ module _ (g : Settings) where
     compared-as S = rw (p, q) (lift {l = 0} {m = 3} (omega arith) (item (compare-item A S B)))
 
     compares-shown : AllOf (λ o. Shown n (dyadic o t u)) (Eq ∷ Neq ∷ Lt ∷ Gt ∷ Lte ∷ Gte ∷ [])
-    unfolding gpkg.text filterAst dyadicText isBetween isSpatial isTemporal isArray some spelledAs comparison
+    unfolding gpkg.text filterAst byOperator dyadicText isBetween isSpatial isTemporal isArray some spelledAs comparison
     compares-shown =
         compared-as sign-eq also compared-as sign-ne also compared-as sign-lt also compared-as sign-gt also compared-as sign-le also compared-as sign-ge also done
 
   -- temporal predicates
   module _ (n : ℕ) (t u : Tree) (A : Operand g t) (B : Operand g u) where
     temporal-shown : AllOf (λ o. Shown n (dyadic o t u)) fifteen
-    unfolding gpkg.text filterAst dyadicText isBetween isSpatial isTemporal isArray some
+    unfolding gpkg.text filterAst byOperator dyadicText isBetween isSpatial isTemporal isArray some
     temporal-shown =
         in-room n (translated (four-ends g t u A B) 26 (isInterval t) (isInterval u))
         also in-room n (translated (four-ends g t u A B) 27 (isInterval t) (isInterval u))
@@ -412,28 +325,18 @@ module _ (g : Settings) where
 
   -- IsNull or IsNotNull of an Id
   nullable-shown : (n : ℕ) (o : Op) (t : Tree) → isNullable o ≡ true → isId t ≡ true → Good t (n - 1) → Shown n (monadic o t)
-  unfolding isId Good isNullable
-  nullable-shown l o null e c x = absurd (false≢true c)
-  nullable-shown l o unbounded e c x = absurd (false≢true c)
-  nullable-shown l o (bool b) e c x = absurd (false≢true c)
-  nullable-shown l o (num m s) e c x = absurd (false≢true c)
-  nullable-shown l o (str f s) e c x = absurd (false≢true c)
-  nullable-shown l o (date y m d) e c x = absurd (false≢true c)
-  nullable-shown l o (timestamp y m d h i s) e c x = absurd (false≢true c)
-  nullable-shown l o (spatial n s) e c x = absurd (false≢true c)
-  nullable-shown l o (id s) e c x = among (λ o. Shown l (monadic o (id s))) (null-shown l s (x .1) also not-null-shown l s (x .1) also done) o e
-  nullable-shown l o (monadic p t) e c x = absurd (false≢true c)
-  nullable-shown l o (dyadic p t u) e c x = absurd (false≢true c)
-  nullable-shown l o (function n ts) e c x = absurd (false≢true c)
-  nullable-shown l o (array ts) e c x = absurd (false≢true c)
-  nullable-shown l o (interval t u) e c x = absurd (false≢true c)
+  unfolding Good isNullable
+  nullable-shown n o t e c x = go t (id-is t c) x
+    where
+      go : (t : Tree) → OfKind ID t → Good t (n - 1) → Shown n (monadic o t)
+      go t (of-id s) x = among (λ o. Shown n (monadic o (id s))) (null-shown n s (x .1) also not-null-shown n s (x .1) also done) o e
 
   -- one level less
   below : (t : Tree) (n : ℕ) → Good t (suc n - 1) → Good t n
   below t n x = let e : suc n - 1 ≡ n = omega arith in subst (λ (m : ℕ). Good t m) e x
 
   monadic-shown : (n : ℕ) (o : Op) (t : Tree) → timeFilter (monadic o t) ≡ true → Good (monadic o t) (suc n) → (timeFilter t ≡ true → Good t n → Shown n t) → Shown (suc n) (monadic o t)
-  unfolding timeFilter Good
+  unfolding timeFilter byOperator Good
   monadic-shown n o t e x f = go (isNeg o) refl e
     where
       go : (b : Bool) → isNeg o ≡ b → pick b (timeFilter t) (both (isNullable o) (isId t)) ≡ true → Shown (suc n) (monadic o t)
@@ -442,7 +345,7 @@ module _ (g : Settings) where
 
   dyadic-shown : (n : ℕ) (o : Op) (t u : Tree) → timeFilter (dyadic o t u) ≡ true → Good (dyadic o t u) (suc n)
       → (timeFilter t ≡ true → Good t n → Shown n t) → (timeFilter u ≡ true → Good u n → Shown n u) → Shown (suc n) (dyadic o t u)
-  unfolding timeFilter Good some
+  unfolding timeFilter byOperator Good some
   dyadic-shown n o t u e x f k = go (joins o) refl e
     where
       rest : (b : Bool) → compares o ≡ b → pick b (both (comparable t) (comparable u)) (both (isTemporal o) (both (isOperand t) (isOperand u))) ≡ true → Shown (suc n) (dyadic o t u)
@@ -464,21 +367,21 @@ module _ (g : Settings) where
           (implies joins (λ p. oneOf p (And ∷ Or ∷ [])) tt o q)
       go false q r = rest (compares o) refl r
 
+  -- no filter has no level
+  no-level : (t : Tree) → FilterIs t → Good t 0 → ⊥
+  unfolding Good
+  no-level t null-filter x = omega arith
+  no-level t (bool-filter b) x = omega arith
+  no-level t (monadic-filter o u) x = omega (arith, x .0)
+  no-level t (dyadic-filter o u v) x = omega (arith, x .0)
+
+  shown : (n : ℕ) (t : Tree) → FilterIs t → timeFilter t ≡ true → Good t (suc n) → ((u : Tree) → timeFilter u ≡ true → Good u n → Shown n u) → Shown (suc n) t
+  unfolding gpkg.text filterAst byOperator
+  shown n t null-filter e x f = lift {l = 0} {m = 3} (omega arith) (item null-item)
+  shown n t (bool-filter b) e x f = lift {l = 0} {m = 3} (omega arith) (bool-prints (room (suc n)) b)
+  shown n t (monadic-filter o u) e x f = monadic-shown n o u e x (f u)
+  shown n t (dyadic-filter o u v) e x f = dyadic-shown n o u v e x (f u) (f v)
+
   pub filter-shown : (n : ℕ) (t : Tree) → timeFilter t ≡ true → Good t n → Shown n t
-  unfolding timeFilter gpkg.text filterAst Good
-  filter-shown l null e x = lift {l = 0} {m = 3} (omega arith) (item null-item)
-  filter-shown l unbounded e x = absurd (false≢true e)
-  filter-shown l (bool b) e x = lift {l = 0} {m = 3} (omega arith) (bool-prints (room l) b)
-  filter-shown l (num m s) e x = absurd (false≢true e)
-  filter-shown l (str f s) e x = absurd (false≢true e)
-  filter-shown l (date y m d) e x = absurd (false≢true e)
-  filter-shown l (timestamp y m d h i s) e x = absurd (false≢true e)
-  filter-shown l (spatial n s) e x = absurd (false≢true e)
-  filter-shown l (id s) e x = absurd (false≢true e)
-  filter-shown zero (monadic o t) e x = absurd (omega arith)
-  filter-shown (suc l) (monadic o t) e x = monadic-shown l o t e x (λ f y. filter-shown l t f y)
-  filter-shown zero (dyadic o t u) e x = absurd (omega arith)
-  filter-shown (suc l) (dyadic o t u) e x = dyadic-shown l o t u e x (λ f y. filter-shown l t f y) (λ f y. filter-shown l u f y)
-  filter-shown l (function n ts) e x = absurd (false≢true e)
-  filter-shown l (array ts) e x = absurd (false≢true e)
-  filter-shown l (interval t u) e x = absurd (false≢true e)
+  filter-shown zero t e x = absurd (no-level t (filter-is t e) x)
+  filter-shown (suc n) t e x = shown n t (filter-is t e) e x (λ u f y. filter-shown n u f y)

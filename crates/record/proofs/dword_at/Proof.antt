@@ -1,12 +1,7 @@
 -- Where all of it lies in s it is read at once.
 use borrow.Author.Needs.{needs}
-use Rattle.tree.proofs.dword_at.Statement.{statement}
-use Rattle.tree.proofs.dword_at.Tie as tie
-use Rattle.tree.proofs.dword_at.Reads as reads
-use Rattle.tree.proofs.dword_at.Lts as lts
-use Rattle.tree.proofs.dword_in.Reads as dword-in-reads
-use Rattle.tree.proofs.dword_past.Reads as dword-past-reads
-use Rattle.tree.proofs.lies.Reads as lies-reads
+use Rattle.record.proofs.dword_at.Statement.{statement}
+use Rattle.record.proofs.dword_at.Tie as tie
 
 lies-requires : tie.Need-lies-requires
 lies-requires c κs = search needs

@@ -1,10 +1,10 @@
--- `tree::dword_past` meets its contract: where the upper word lies past the end, the lower is all.
+-- `record::dword_past` meets its contract: where the upper word lies past the end, the lower is all.
 use mathlib.Core.Path.{sym, _∙_}
 use native.Mathlib.Omega.{arith}
-use Rattle.tree.proofs.Laws as laws
+use Rattle.record.proofs.Laws as laws
 use borrow.Author.Needs.{needs}
-use Rattle.tree.proofs.dword_past.Statement.{statement}
-use Rattle.tree.proofs.dword_past.Tie as tie
+use Rattle.record.proofs.dword_past.Statement.{statement}
+use Rattle.record.proofs.dword_past.Tie as tie
 
 word-past-requires : tie.Need-word-past-requires
 word-past-requires c κs = search needs

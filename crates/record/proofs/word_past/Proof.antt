@@ -1,10 +1,10 @@
--- `tree::word_past` meets its contract: past the end both bytes count as 0.
+-- `record::word_past` meets its contract: past the end both bytes count as 0.
 use mathlib.Core.Path.{sym}
 use native.Mathlib.Omega.{arith}
-use Rattle.tree.proofs.Laws as laws
+use Rattle.record.proofs.Laws as laws
 use borrow.Author.Needs.{needs}
-use Rattle.tree.proofs.word_past.Statement.{statement}
-use Rattle.tree.proofs.word_past.Tie as tie
+use Rattle.record.proofs.word_past.Statement.{statement}
+use Rattle.record.proofs.word_past.Tie as tie
 
 byte-at-requires : tie.Need-byte-at-requires
 byte-at-requires c κs = search needs

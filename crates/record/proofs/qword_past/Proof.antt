@@ -1,10 +1,10 @@
--- `tree::qword_past` meets its contract: where the upper half lies past the end, the lower is all.
+-- `record::qword_past` meets its contract: where the upper half lies past the end, the lower is all.
 use mathlib.Core.Path.{sym, _∙_}
 use native.Mathlib.Omega.{arith}
-use Rattle.tree.proofs.Laws as laws
+use Rattle.record.proofs.Laws as laws
 use borrow.Author.Needs.{needs}
-use Rattle.tree.proofs.qword_past.Statement.{statement}
-use Rattle.tree.proofs.qword_past.Tie as tie
+use Rattle.record.proofs.qword_past.Statement.{statement}
+use Rattle.record.proofs.qword_past.Tie as tie
 
 dword-past-requires : tie.Need-dword-past-requires
 dword-past-requires c κs = search needs

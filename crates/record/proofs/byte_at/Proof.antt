@@ -1,10 +1,10 @@
--- `tree::byte_at` meets its contract: past the end there is nothing, which counts as 0.
+-- `record::byte_at` meets its contract: past the end there is nothing, which counts as 0.
 use mathlib.Core.Path.{sym}
 use native.Mathlib.Omega.{arith}
 use lib.ListN.{List·getD-eq-default}
 use borrow.Author.Needs.{needs}
-use Rattle.tree.proofs.byte_at.Statement.{statement}
-use Rattle.tree.proofs.byte_at.Tie as tie
+use Rattle.record.proofs.byte_at.Statement.{statement}
+use Rattle.record.proofs.byte_at.Tie as tie
 
 shared-slice-read-wide : tie.Need-shared-slice-read-wide
 shared-slice-read-wide c = search needs
