@@ -11,7 +11,7 @@ use borrow.Author.Tests.{eq-eqb, ne-eqb, ltb-true, leb-true}
 use Rattle.prelude.specs.Choice.{pick, both, all, some, same}
 use Rattle.prelude.specs.ChoiceLaws.{same-refl, same-true, both-true}
 use Rattle.charset.specs.Charset.{upper, uppers, reservedWords, reserved}
-use Rattle.charset.specs.WordKey.{keyOf, Bytes, mayBe}
+use Rattle.charset.specs.KeyWords.{keyOf, Bytes, mayBe}
 
 one-up : (s : List ℕ) → 1 ≤ keyOf s
 one-up [] = omega arith

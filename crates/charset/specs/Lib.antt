@@ -1,3 +1,5 @@
+-- What is to be believed.
 pub mod Charset
-pub mod Classes
-pub mod WordKey
+-- Words of private contracts.
+pub mod ClassWords
+pub mod KeyWords

@@ -3,8 +3,8 @@ ghost use Prim.Native.Nat.{_≤_, _<_};
 ghost use lib.ListN.{length};
 ghost use Rattle.prelude.specs.Choice.{between, all};
 ghost use Rattle.charset.specs.Charset.{letter, digit, nameStart, nameByte, upper, uppers, reserved, freeWord, name, strByte, strText, spatialByte, spatialText};
-ghost use Rattle.charset.specs.Classes.{classByte};
-ghost use Rattle.charset.specs.WordKey.{keyOf, Bytes, mayBe};
+ghost use Rattle.charset.specs.ClassWords.{classByte};
+ghost use Rattle.charset.specs.KeyWords.{keyOf, Bytes, mayBe};
 
 // The most bytes of a name.
 const NAME_LIMIT: usize = 64;
@@ -133,6 +133,13 @@ fn are_all(class: Class, s: &[u8]) -> bool
     true
 }
 
+// In a function of its own, so that the loop is compiled for this class.
+fn are_name_bytes(s: &[u8]) -> bool
+    ensures { λ r. ⌜ r ≡ all nameByte (now (s .entry)) ⌝ }
+{
+    are_all(Class::Name, s)
+}
+
 // Every byte may stand in a Str text.
 pub fn is_str_text(s: &[u8]) -> bool
     ensures { λ r. ⌜ r ≡ strText (now (s .entry)) ⌝ }
@@ -256,7 +263,7 @@ pub fn is_name(s: &[u8]) -> bool
         return false;
     }
     if is_name_start(s[0]) {
-        if are_all(Class::Name, &s[1..]) {
+        if are_name_bytes(&s[1..]) {
             if is_reserved(s) {
                 return false;
             }

@@ -1,6 +1,6 @@
 -- Gregorian dates and times of day: document 01, "Records", kinds 5 and 6.
 use Prim.Native.Nat.{ℕ, _%_}
-use mathlib.Core.List.{List, [], _∷_}
+use mathlib.Core.List.{[], _∷_}
 use mathlib.Core.Bool.{Bool}
 use lib.Dec.{eqb, leb}
 use Rattle.prelude.specs.Choice.{pick, both, either, negated, between, some}

@@ -1,6 +1,5 @@
 ghost use mathlib.Core.Path.{_≡_};
 ghost use Prim.Native.Nat.{_%_};
-ghost use lib.Dec.{eqb, leb};
 ghost use Rattle.prelude.specs.Choice.{between};
 ghost use Rattle.civil.specs.Civil.{leap, daysIn, validDate, validTime};
 

@@ -10,7 +10,7 @@ use replay::say;
 
 // A byte that no text has: the buffer is full of it before the call.
 const BLANK: u8 = 7;
-// What is found in place of an answer: a text that is not the stored one; a byte changed that is not the text's; a case that asks for more
+// What is found instead of an answer: a text that is not the stored one; a byte changed that is not the text's; a case that asks for more
 // room than there is.
 const OTHER_TEXT: u8 = 100;
 
@@ -18,59 +18,27 @@ const BYTE_CHANGED: u8 = 101;
 
 const NO_ROOM: u8 = 102;
 
-fn wide(x: u8) -> usize
-    ensures { λ r. ⌜ (r ≡ x) × (r < 256) ⌝ }
-{
-    x as usize
-}
-
 fn blank_buffer() -> [u8; 65536]
     ensures { λ r. ⌜ 65536 ≡ length r ⌝ }
 {
     [BLANK; 65536]
 }
 
-fn starts_with<'a>(out: &'a [u8], text: &'a [u8]) -> bool {
-    if out.len() < text.len() {
-        return false;
-    }
-    let mut k = 0;
-    while k < text.len() {
-        if out[k] != text[k] {
-            return false;
-        }
-        k += 1;
-    }
-    true
-}
-
-// Whether the bytes from a place on are as they were before the call.
-fn blank_from(out: &[u8], from: usize) -> bool {
-    let mut k = from;
-    while k < out.len() {
-        if out[k] != BLANK {
-            return false;
-        }
-        k += 1;
-    }
-    true
-}
-
 fn text_found<'a>(n: usize, text: &'a [u8], out: &'a [u8]) -> u8 {
-    if n != text.len() {
+    if !check::same(input::first(out, n), text) {
         return OTHER_TEXT;
     }
-    if !starts_with(out, text) {
+    if out.len() < n {
         return OTHER_TEXT;
     }
-    if !blank_from(out, n) {
+    if !replay::all_are(&out[n..], BLANK) {
         return BYTE_CHANGED;
     }
     0
 }
 
 fn refusal_found(number: u8, out: &[u8]) -> u8 {
-    if !blank_from(out, 0) {
+    if !replay::all_are(out, BLANK) {
         return BYTE_CHANGED;
     }
     number
@@ -95,11 +63,6 @@ fn lowered(settings: &[u8], tree: &[u8], text: &[u8], out: &mut [u8], room: usiz
 fn answer(settings: &[u8], tree: &[u8], text: &[u8], room: usize) -> u8 {
     let mut out = blank_buffer();
     lowered(settings, tree, text, &mut out, room)
-}
-
-// A number of four bytes, little-endian.
-fn number_in(room: &[u8; 4]) -> usize {
-    wide(room[0]) + wide(room[1]) * 256 + (wide(room[2]) + wide(room[3]) * 256) * 65536
 }
 
 // The case whose answer is stored[..size].
@@ -141,7 +104,7 @@ fn end_of_case(
     judged(
         input::first(settings, n),
         input::first(tree, m),
-        number_in(&room),
+        record::dword_at(&room, 0),
         stored,
         size,
     )

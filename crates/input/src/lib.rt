@@ -1,7 +1,7 @@
 // The parts of a case as programs read them, each after its length in four bytes, little-endian. No contract of the kit says which bytes a call
 // of C's reads. So what is read and what it is stand apart: `read_part` fills the buffers and counts, and `part_of` says what was read.
 ghost use mathlib.Core.Path.{_≡_};
-ghost use Prim.Native.Nat.{_+_, _≤_, _<_};
+ghost use Prim.Native.Nat.{_+_, _≤_};
 ghost use lib.ListN.{take};
 ghost use Rattle.record.specs.Record.{le32};
 ghost use Rattle.input.specs.Part.{partOf};
@@ -17,18 +17,6 @@ pub enum Part {
     // The part stands in the first bytes of the buffer, this many. A part that is longer than the buffer is told as long as the buffer, whose
     // bytes then say nothing: a buffer that passes every limit has such a part refused for its length.
     Whole(usize),
-}
-
-fn wide(x: u8) -> usize
-    ensures { λ r. ⌜ (r ≡ x) × (r < 256) ⌝ }
-{
-    x as usize
-}
-
-fn length_in(head: &[u8; 4]) -> usize
-    ensures { λ r. ⌜ (r ≡ le32 (now (head .entry)) 0) × (r < 4294967296) ⌝ }
-{
-    wide(head[0]) + wide(head[1]) * 256 + (wide(head[2]) + wide(head[3]) * 256) * 65536
 }
 
 // Reads n bytes by way of the buffer: how many there were.
@@ -55,7 +43,7 @@ pub fn read_part(file: i32, head: &mut [u8; 4], buffer: &mut [u8]) -> usize
     if had < LENGTH_SIZE {
         return had;
     }
-    LENGTH_SIZE + pass(file, buffer, length_in(head))
+    LENGTH_SIZE + pass(file, buffer, record::dword_at(head, 0))
 }
 
 // What was read, if that many bytes were: head holds the length, and the buffer has this much room.
@@ -65,7 +53,7 @@ pub fn part_of(head: &[u8; 4], read: usize, room: usize) -> Part
     if read == 0 {
         return Part::End;
     }
-    let n = length_in(head);
+    let n = record::dword_at(head, 0);
     if read < LENGTH_SIZE + n {
         return Part::Short;
     }

@@ -1,9 +1,10 @@
 // Replays records of the leaf kinds, each with the text that the Rust itself wrote. A case: the record, the text.
 // A case is right if the crate `literal` writes that text into a buffer that just holds it, changes no byte beside it,
 // and changes nothing where the buffer is one byte short.
-ghost use Prim.Native.Nat.{_+_, _≤_, _<_, _^_};
-ghost use lib.ListN.{length};
 use input::Part;
+use record::byte_at;
+use record::dword_at;
+use record::word_at;
 use replay::Turn;
 
 // What is counted of a case that is right.
@@ -15,37 +16,9 @@ const BLANK: u8 = 238;
 // Where the texts are written, so that bytes before them can be watched.
 const START: usize = 3;
 
-fn wide(x: u8) -> usize
-    ensures { λ r. ⌜ r < 256 ⌝ }
-{
-    x as usize
-}
-
-fn byte_at(s: &[u8], i: usize) -> usize
-    ensures { λ r. ⌜ r < 256 ⌝ }
-{
-    if i < s.len() { wide(s[i]) } else { 0 }
-}
-
-fn word_at(s: &[u8], i: usize) -> usize
-    requires { ⌜ i < 2 ^ 34 ⌝ }
-    ensures { λ r. ⌜ r < 65536 ⌝ }
-{
-    byte_at(s, i) + 256 * byte_at(s, i + 1)
-}
-
-fn dword_at(s: &[u8], i: usize) -> usize
-    requires { ⌜ i < 2 ^ 33 ⌝ }
-    ensures { λ r. ⌜ r < 4294967296 ⌝ }
-{
-    word_at(s, i) + 65536 * word_at(s, i + 2)
-}
-
 // The i64 of eight bytes at i, two's complement.
-fn signed_at(s: &[u8], i: usize) -> i64
-    requires { ⌜ i < 2 ^ 32 ⌝ }
-{
-    let n = dword_at(s, i) + 4294967296 * dword_at(s, i + 4);
+fn signed_at(s: &[u8], i: usize) -> i64 {
+    let n = record::qword_at(s, i);
     if n < 9223372036854775808 {
         return n as i64;
     }
@@ -105,17 +78,6 @@ fn write_leaf(kind: usize, body: &[u8], out: &mut [u8]) -> usize {
     }
 }
 
-fn blank(s: &[u8]) -> bool {
-    let mut i = 0;
-    while i < s.len() {
-        if s[i] != BLANK {
-            return false;
-        }
-        i += 1;
-    }
-    true
-}
-
 // Into a part of the buffer that just holds the text.
 fn fits(kind: usize, body: &[u8], text: &[u8], out: &mut [u8]) -> bool {
     let end = START + text.len();
@@ -129,8 +91,8 @@ fn fits(kind: usize, body: &[u8], text: &[u8], out: &mut [u8]) -> bool {
         return false;
     }
     if check::same(&out[START..end], text) {
-        if blank(&out[0..START]) {
-            return blank(&out[end..]);
+        if replay::all_are(&out[0..START], BLANK) {
+            return replay::all_are(&out[end..], BLANK);
         }
     }
     false
@@ -150,7 +112,7 @@ fn falls_short(kind: usize, body: &[u8], text: &[u8], out: &mut [u8]) -> bool {
             return true;
         }
     }
-    blank(out)
+    replay::all_are(out, BLANK)
 }
 
 // RIGHT for a leaf that is written as it should be, else 0.

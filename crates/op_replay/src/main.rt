@@ -45,20 +45,6 @@ fn behind(s: &[u8], b: u8) -> &[u8] {
     &s[..0]
 }
 
-fn same(s: &[u8], t: &[u8]) -> bool {
-    if s.len() != t.len() {
-        return false;
-    }
-    let mut i = 0;
-    while i < s.len() {
-        if s[i] != t[i] {
-            return false;
-        }
-        i += 1;
-    }
-    true
-}
-
 fn class_test(op: Op, place: usize) -> bool {
     match place {
         0 => op::arithmetic(op),
@@ -101,11 +87,11 @@ fn spelling_right(op: Op, text: &[u8]) -> bool {
     if 20 < n {
         return false;
     }
-    if same(&out[n..], &blank[n..]) {
+    if check::same(&out[n..], &blank[n..]) {
         if n == 0 {
-            return same(text, b"PANIC");
+            return check::same(text, b"PANIC");
         }
-        return same(text, &out[0..n]);
+        return check::same(text, &out[0..n]);
     }
     false
 }
@@ -128,7 +114,7 @@ fn number_right(line: &[u8], number: usize) -> bool {
     let mut digits = [0u8; 20];
     let n = io::decimal(number as u64, &mut digits);
     if n < 20 {
-        return same(upto(line, TAB), &digits[..n]);
+        return check::same(upto(line, TAB), &digits[..n]);
     }
     false
 }

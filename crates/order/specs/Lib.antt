@@ -1,2 +1,4 @@
+-- What is to be believed.
 pub mod Order
+-- Laws.
 pub mod OrderLaws

@@ -5,13 +5,23 @@ use mathlib.Core.Bool.{Bool}
 use lib.Dec.{ltb, eqb}
 use Rattle.prelude.specs.Choice.{pick}
 
--- 0 below, 1 the same, 2 above: byte by byte, a shorter prefix first
+-- how one string stands to another, by number
+abbrev pub BELOW : ℕ
+BELOW = 0
+
+abbrev pub SAME : ℕ
+SAME = 1
+
+abbrev pub ABOVE : ℕ
+ABOVE = 2
+
+-- byte by byte, a shorter prefix first
 unfoldable pub order : List ℕ → List ℕ → ℕ
-order [] [] = 1
-order [] (b ∷ y) = 0
-order (a ∷ x) [] = 2
-order (a ∷ x) (b ∷ y) = pick (ltb a b) 0 (pick (ltb b a) 2 (order x y))
+order [] [] = SAME
+order [] (b ∷ y) = BELOW
+order (a ∷ x) [] = ABOVE
+order (a ∷ x) (b ∷ y) = pick (ltb a b) BELOW (pick (ltb b a) ABOVE (order x y))
 
 -- x comes before y
 unfoldable pub below : List ℕ → List ℕ → Bool
-below x y = eqb (order x y) 0
+below x y = eqb (order x y) BELOW

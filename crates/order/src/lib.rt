@@ -2,27 +2,34 @@
 ghost use mathlib.Core.Path.{_≡_};
 ghost use Rattle.order.specs.Order.{order};
 
-// How a stands to b: 0 below, 1 the same, 2 above.
+// How one string stands to another.
+pub const BELOW: u8 = 0;
+
+pub const SAME: u8 = 1;
+
+pub const ABOVE: u8 = 2;
+
+// How a stands to b.
 pub fn compare(a: &[u8], b: &[u8]) -> u8
     ensures { λ r. ⌜ r ≡ order (now (a .entry)) (now (b .entry)) ⌝ }
 {
     let mut i = 0;
     while i < a.len() {
         if i == b.len() {
-            return 2;
+            return ABOVE;
         }
         let x = a[i];
         let y = b[i];
         if x < y {
-            return 0;
+            return BELOW;
         }
         if y < x {
-            return 2;
+            return ABOVE;
         }
         i += 1;
     }
     if i == b.len() {
-        return 1;
+        return SAME;
     }
-    0
+    BELOW
 }

@@ -1,4 +1,6 @@
+-- What is to be believed.
 pub mod Choice
+pub mod Bytes
+-- Laws.
 pub mod ChoiceLaws
 pub mod Table
-pub mod Bytes

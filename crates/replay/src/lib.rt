@@ -2,6 +2,8 @@
 // that is stored. The cases stand in the file `cases` of a replay's data.
 ghost use mathlib.Core.Path.{_≡_};
 ghost use Prim.Native.Nat.{_<_};
+ghost use lib.Dec.{eqb};
+ghost use Rattle.prelude.specs.Choice.{all};
 ghost use Rattle.replay.specs.Tally.{tallied};
 use libc::STDOUT_FILENO;
 
@@ -21,6 +23,20 @@ fn wide(x: u8) -> usize
     ensures { λ r. ⌜ r ≡ x ⌝ }
 {
     x as usize
+}
+
+// Every byte is b.
+pub fn all_are(s: &[u8], b: u8) -> bool
+    ensures { λ r. ⌜ r ≡ all (λ x. eqb x b) (now (s .entry)) ⌝ }
+{
+    let mut i = 0;
+    while i < s.len() {
+        if s[i] != b {
+            return false;
+        }
+        i += 1;
+    }
+    true
 }
 
 // Writes a text and a number.

@@ -2,4 +2,3 @@ pub mod TokenLaws
 pub mod IndexLaws
 pub mod Steps
 pub mod Simple
-pub mod Examples

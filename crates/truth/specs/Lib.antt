@@ -1,7 +1,11 @@
+-- What is to be believed.
 pub mod Lex
-pub mod LexLaws
 pub mod Grammar
+pub mod Reading
+-- Words of private contracts.
+pub mod PlaceWords
+-- Laws.
+pub mod LexLaws
 pub mod GrammarLaws
 pub mod MissingLaws
-pub mod Reading
-pub mod Places
+pub mod ReadingLaws

@@ -1,6 +1,5 @@
 // Replays the stored texts and rows and compares the reader's answers with the stored ones. A case: the text, the row, the answer, which is a
 // byte: 0 false, 1 true, 2 unknown, or a refusal's number.
-ghost use mathlib.Core.Path.{_≡_};
 use input::Part;
 use replay::Turn;
 use replay::say;

@@ -5,12 +5,9 @@ use borrow.Author.Needs.{needs}
 use lib.ListN.{length, drop}
 use Rattle.prelude.specs.Choice.{all}
 use Rattle.prelude.specs.ChoiceLaws.{all-next, all-not, all-end}
-use Rattle.charset.specs.Classes.{classByte}
+use Rattle.charset.specs.ClassWords.{classByte}
 use Rattle.charset.proofs.are_all.Statement.{statement}
 use Rattle.charset.proofs.are_all.Tie as tie
-use Rattle.charset.proofs.are_all.Reads as reads
-use Rattle.charset.proofs.are_all.Lts as lts
-use Rattle.charset.proofs.is_of.Reads as is-of-reads
 
 abbrev Inv-loop : tie.InvT-loop
 Inv-loop class s i₀ i = (i ≤ length s) × (all (classByte class) s ≡ all (classByte class) (drop i s))

@@ -4,9 +4,6 @@ use borrow.Author.Tests.{le-leb, lt-leb}
 use borrow.Author.Needs.{needs}
 use Rattle.charset.proofs.is_free_word.Statement.{statement}
 use Rattle.charset.proofs.is_free_word.Tie as tie
-use Rattle.charset.proofs.is_free_word.Reads as reads
-use Rattle.charset.proofs.is_free_word.Lts as lts
-use Rattle.charset.proofs.is_reserved.Reads as is-reserved-reads
 
 returns : tie.Need-returns
 returns c = simp (lt-leb _ 64 (c .if1 .taken))

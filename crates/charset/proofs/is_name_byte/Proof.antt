@@ -4,9 +4,6 @@ use Rattle.charset.proofs.Laws.{from-97, from-65, from-91, below-65}
 use borrow.Author.Needs.{needs}
 use Rattle.charset.proofs.is_name_byte.Statement.{statement}
 use Rattle.charset.proofs.is_name_byte.Tie as tie
-use Rattle.charset.proofs.is_name_byte.Reads as reads
-use Rattle.charset.proofs.is_name_byte.Lts as lts
-use Rattle.charset.proofs.is_digit.Reads as is-digit-reads
 
 returns : tie.Need-returns
 returns c = from-97 _ (c .if1 .taken)

@@ -1,12 +1,8 @@
 -- `charset::is_name_start` meets its contract: each `return` is the case of the definition that its tests name.
-use borrow.Author.Tests.{eq-eqb, ne-eqb, lt-ltb, le-ltb, le-leb, lt-leb, eqb-true, eqb-false, ltb-true, ltb-false, leb-true, leb-false}
-use Rattle.charset.specs.Charset.{letter, digit, nameStart, nameByte, upper, strByte, spatialByte, name}
+use Rattle.charset.specs.Charset.{nameStart}
 use borrow.Author.Needs.{needs}
 use Rattle.charset.proofs.is_name_start.Statement.{statement}
 use Rattle.charset.proofs.is_name_start.Tie as tie
-use Rattle.charset.proofs.is_name_start.Reads as reads
-use Rattle.charset.proofs.is_name_start.Lts as lts
-use Rattle.charset.proofs.is_letter.Reads as is-letter-reads
 
 is-letter-requires : tie.Need-is-letter-requires
 is-letter-requires c κs = search needs

@@ -1,17 +1,11 @@
 -- `charset::is_of` meets its contract, class by class.
 use mathlib.Core.Path.{_≡_, sym, ap, _∙_}
-use mathlib.Core.Bool.{Bool}
 use Prim.Native.Nat.{ℕ}
 use Rattle.charset.specs.declared.Class.{Class}
-use Rattle.charset.specs.Classes.{classByte}
+use Rattle.charset.specs.ClassWords.{classByte}
 use borrow.Author.Needs.{needs}
 use Rattle.charset.proofs.is_of.Statement.{statement}
 use Rattle.charset.proofs.is_of.Tie as tie
-use Rattle.charset.proofs.is_of.Reads as reads
-use Rattle.charset.proofs.is_of.Lts as lts
-use Rattle.charset.proofs.is_name_byte.Reads as is-name-byte-reads
-use Rattle.charset.proofs.is_spatial_byte.Reads as is-spatial-byte-reads
-use Rattle.charset.proofs.is_str_byte.Reads as is-str-byte-reads
 
 -- the test of the class that the `match` found
 told : (b : ℕ) {x k : Class} → x ≡ k → classByte k b ≡ classByte x b

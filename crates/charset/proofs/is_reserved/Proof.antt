@@ -1,14 +1,9 @@
 -- `charset::is_reserved` meets its contract: a word of one byte, of more than seven, or whose length and first letter none of the fourteen has is none of them.
-use mathlib.Core.Path.{_≡_, sym, _∙_}
+use mathlib.Core.Path.{sym, _∙_}
 use Rattle.charset.proofs.Keys.{reserved-short, reserved-long, reserved-unlike}
 use borrow.Author.Needs.{needs}
 use Rattle.charset.proofs.is_reserved.Statement.{statement}
 use Rattle.charset.proofs.is_reserved.Tie as tie
-use Rattle.charset.proofs.is_reserved.Reads as reads
-use Rattle.charset.proofs.is_reserved.Lts as lts
-use Rattle.charset.proofs.is_reserved_key.Reads as is-reserved-key-reads
-use Rattle.charset.proofs.may_be_reserved.Reads as may-be-reserved-reads
-use Rattle.charset.proofs.upper_of.Reads as upper-of-reads
 
 returns : tie.Need-returns
 returns c = sym (reserved-short _ (c .if1 .taken))

@@ -1,15 +1,11 @@
 -- `charset::is_reserved_key` meets its contract: a word is reserved exactly if its key is one of the fourteen.
-use mathlib.Core.Path.{_≡_, sym, ap, _∙_}
-use borrow.Author.Tests.{ne-eqb}
+use mathlib.Core.Path.{sym, ap, _∙_}
 use Rattle.prelude.specs.Choice.{some}
 use Rattle.charset.specs.Charset.{reservedWords}
 use Rattle.charset.proofs.Keys.{keyed, keyed-none, reserved-by-key}
 use borrow.Author.Needs.{needs}
 use Rattle.charset.proofs.is_reserved_key.Statement.{statement}
 use Rattle.charset.proofs.is_reserved_key.Tie as tie
-use Rattle.charset.proofs.is_reserved_key.Reads as reads
-use Rattle.charset.proofs.is_reserved_key.Lts as lts
-use Rattle.charset.proofs.word_key.Reads as word-key-reads
 
 word-key-requires : tie.Need-word-key-requires
 word-key-requires c κs = search needs

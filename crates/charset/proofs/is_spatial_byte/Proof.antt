@@ -1,14 +1,9 @@
 -- `charset::is_spatial_byte` meets its contract: each `return` is the case of the definition that its tests name.
-use borrow.Author.Tests.{eq-eqb, ne-eqb, lt-ltb, le-ltb, le-leb, lt-leb, eqb-true, eqb-false, ltb-true, ltb-false, leb-true, leb-false}
-use Rattle.charset.specs.Charset.{letter, digit, nameStart, nameByte, upper, strByte, spatialByte, name}
+use borrow.Author.Tests.{eq-eqb, ne-eqb}
+use Rattle.charset.specs.Charset.{spatialByte}
 use borrow.Author.Needs.{needs}
 use Rattle.charset.proofs.is_spatial_byte.Statement.{statement}
 use Rattle.charset.proofs.is_spatial_byte.Tie as tie
-use Rattle.charset.proofs.is_spatial_byte.Reads as reads
-use Rattle.charset.proofs.is_spatial_byte.Lts as lts
-use Rattle.charset.proofs.is_digit.Reads as is-digit-reads
-use Rattle.charset.proofs.is_letter.Reads as is-letter-reads
-use Rattle.charset.proofs.within.Reads as within-reads
 
 is-letter-requires : tie.Need-is-letter-requires
 is-letter-requires c κs = search needs

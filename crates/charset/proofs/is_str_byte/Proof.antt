@@ -1,12 +1,9 @@
 -- `charset::is_str_byte` meets its contract: each `return` is the case of the definition that its tests name.
-use borrow.Author.Tests.{eq-eqb, ne-eqb, lt-ltb, le-ltb, le-leb, lt-leb, eqb-true, eqb-false, ltb-true, ltb-false, leb-true, leb-false}
-use Rattle.charset.specs.Charset.{letter, digit, nameStart, nameByte, upper, strByte, spatialByte, name}
+use borrow.Author.Tests.{eq-eqb, ne-eqb}
+use Rattle.charset.specs.Charset.{strByte}
 use borrow.Author.Needs.{needs}
 use Rattle.charset.proofs.is_str_byte.Statement.{statement}
 use Rattle.charset.proofs.is_str_byte.Tie as tie
-use Rattle.charset.proofs.is_str_byte.Reads as reads
-use Rattle.charset.proofs.is_str_byte.Lts as lts
-use Rattle.charset.proofs.within.Reads as within-reads
 
 within-requires : tie.Need-within-requires
 within-requires c κs = search needs

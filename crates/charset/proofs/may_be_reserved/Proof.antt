@@ -2,12 +2,10 @@
 use borrow.Author.Tests.{eq-eqb, ne-eqb}
 use Rattle.prelude.specs.Choice.{some}
 use Rattle.charset.specs.Charset.{reservedWords}
-use Rattle.charset.specs.WordKey.{mayBe}
+use Rattle.charset.specs.KeyWords.{mayBe}
 use Rattle.charset.proofs.Laws.{itself}
 use Rattle.charset.proofs.may_be_reserved.Statement.{statement}
 use Rattle.charset.proofs.may_be_reserved.Tie as tie
-use Rattle.charset.proofs.may_be_reserved.Reads as reads
-use Rattle.charset.proofs.may_be_reserved.Lts as lts
 
 returns : tie.Need-returns
 unfolding mayBe some reservedWords

@@ -1,15 +1,11 @@
 -- `charset::upper_of` meets its contract: each `return` is the case of the definition that its tests name.
-use borrow.Author.Tests.{eq-eqb, ne-eqb, lt-ltb, le-ltb, le-leb, lt-leb, eqb-true, eqb-false, ltb-true, ltb-false, leb-true, leb-false}
-use Rattle.charset.specs.Charset.{letter, digit, nameStart, nameByte, upper, strByte, spatialByte, name}
+use Rattle.charset.specs.Charset.{upper}
 use mathlib.Core.Path.{sym, _∙_}
 use native.Mathlib.Omega.{arith}
 use Rattle.prelude.specs.ChoiceLaws.{between-true}
 use borrow.Author.Needs.{needs}
 use Rattle.charset.proofs.upper_of.Statement.{statement}
 use Rattle.charset.proofs.upper_of.Tie as tie
-use Rattle.charset.proofs.upper_of.Reads as reads
-use Rattle.charset.proofs.upper_of.Lts as lts
-use Rattle.charset.proofs.within.Reads as within-reads
 
 within-requires : tie.Need-within-requires
 within-requires c κs = search needs

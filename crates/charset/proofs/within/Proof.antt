@@ -1,10 +1,7 @@
 -- `charset::within` meets its contract: each `return` is the case of the definition that its tests name.
-use borrow.Author.Tests.{eq-eqb, ne-eqb, lt-ltb, le-ltb, le-leb, lt-leb, eqb-true, eqb-false, ltb-true, ltb-false, leb-true, leb-false}
-use Rattle.charset.specs.Charset.{letter, digit, nameStart, nameByte, upper, strByte, spatialByte, name}
+use borrow.Author.Tests.{le-leb, lt-leb}
 use Rattle.charset.proofs.within.Statement.{statement}
 use Rattle.charset.proofs.within.Tie as tie
-use Rattle.charset.proofs.within.Reads as reads
-use Rattle.charset.proofs.within.Lts as lts
 
 returns : tie.Need-returns
 returns c = simp (le-leb _ _ (c .if1 .taken))

@@ -1,20 +1,14 @@
 -- `charset::word_key` meets its contract: the key so far is that of the bytes from i on.
-use mathlib.Core.Path.{_≡_, sym, _∙_, subst}
-use mathlib.Core.List.{List}
-use Prim.Native.Nat.{ℕ, _≤_, _-_, _+_, _*_}
+use mathlib.Core.Path.{_≡_, _∙_}
+use Prim.Native.Nat.{_≤_, _-_}
 use native.Mathlib.Omega.{arith}
 use borrow.Author.Needs.{needs}
-use lib.ListN.{length, drop, length-drop}
-use lib.Seq.{drop-length}
+use lib.ListN.{length, drop}
 use Rattle.charset.specs.Charset.{uppers}
-use Rattle.charset.specs.WordKey.{keyOf, Bytes}
+use Rattle.charset.specs.KeyWords.{keyOf, Bytes}
 use Rattle.charset.proofs.Keys.{key-fits, key-step, key-start, key-end}
 use Rattle.charset.proofs.word_key.Statement.{statement}
 use Rattle.charset.proofs.word_key.Tie as tie
-use Rattle.charset.proofs.word_key.Reads as reads
-use Rattle.charset.proofs.word_key.Lts as lts
-use Rattle.charset.proofs.upper_of.Reads as upper-of-reads
-use Rattle.charset.proofs.wide.Reads as wide-reads
 
 abbrev Inv-loop : tie.InvT-loop
 Inv-loop s key₀ i₀ key i = (i ≤ length s) × ((key ≡ keyOf (uppers (drop i s))) × Bytes (uppers (drop i s)))

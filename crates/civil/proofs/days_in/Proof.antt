@@ -1,7 +1,7 @@
 -- `civil::days_in` meets its contract: the tests on the way are those of `daysIn`.
 use Rattle.civil.specs.Civil.{daysIn}
 use Rattle.prelude.specs.Choice.{some}
-use borrow.Author.Tests.{eq-eqb, ne-eqb, le-leb, lt-leb}
+use borrow.Author.Tests.{eq-eqb, ne-eqb}
 use borrow.Author.Needs.{needs}
 use Rattle.civil.proofs.days_in.Statement.{statement}
 use Rattle.civil.proofs.days_in.Tie as tie

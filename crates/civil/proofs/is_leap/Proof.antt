@@ -1,6 +1,6 @@
 -- `civil::is_leap` meets its contract: the tests on the way are those of `leap`.
 use Rattle.civil.specs.Civil.{leap}
-use borrow.Author.Tests.{eq-eqb, ne-eqb, le-leb, lt-leb}
+use borrow.Author.Tests.{eq-eqb, ne-eqb}
 use Rattle.civil.proofs.is_leap.Statement.{statement}
 use Rattle.civil.proofs.is_leap.Tie as tie
 

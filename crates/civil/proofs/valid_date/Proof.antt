@@ -1,6 +1,5 @@
 -- `civil::valid_date` meets its contract: each test is a part of `validDate`.
 use Rattle.civil.specs.Civil.{validDate}
-use borrow.Author.Tests.{eq-eqb, ne-eqb, le-leb, lt-leb}
 use borrow.Author.Needs.{needs}
 use Rattle.civil.proofs.valid_date.Statement.{statement}
 use Rattle.civil.proofs.valid_date.Tie as tie

@@ -1,6 +1,6 @@
 -- `civil::valid_time` meets its contract.
 use Rattle.civil.specs.Civil.{validTime}
-use borrow.Author.Tests.{eq-eqb, ne-eqb, le-leb, lt-leb}
+use borrow.Author.Tests.{le-leb, lt-leb}
 use Rattle.civil.proofs.valid_time.Statement.{statement}
 use Rattle.civil.proofs.valid_time.Tie as tie
 

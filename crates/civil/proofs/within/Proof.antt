@@ -1,5 +1,5 @@
 -- `civil::within` meets its contract.
-use borrow.Author.Tests.{eq-eqb, ne-eqb, le-leb, lt-leb}
+use borrow.Author.Tests.{le-leb, lt-leb}
 use Rattle.civil.proofs.within.Statement.{statement}
 use Rattle.civil.proofs.within.Tie as tie
 

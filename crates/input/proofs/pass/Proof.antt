@@ -7,9 +7,6 @@ use native.Mathlib.Omega.{arith}
 use borrow.Author.Needs.{needs}
 use Rattle.input.proofs.pass.Statement.{statement}
 use Rattle.input.proofs.pass.Tie as tie
-use Rattle.input.proofs.pass.Reads as reads
-use Rattle.input.proofs.pass.Lts as lts
-use Rattle.io.proofs.read_full.Reads as read-full-reads
 
 abbrev Inv-loop : tie.InvT-loop
 Inv-loop file buffer₀ n left₀ buffer left = (length buffer ≡ length buffer₀) × (left ≤ n)

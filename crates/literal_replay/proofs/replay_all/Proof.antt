@@ -5,10 +5,6 @@ use lib.ListN.{length}
 use borrow.Author.Needs.{needs}
 use Rattle.literal_replay.proofs.replay_all.Statement.{statement}
 use Rattle.literal_replay.proofs.replay_all.Tie as tie
-use Rattle.literal_replay.proofs.replay_all.Reads as reads
-use Rattle.literal_replay.proofs.replay_all.Lts as lts
-use Rattle.literal_replay.proofs.next_case.Reads as next-case-reads
-use Rattle.replay.proofs.count.Reads as count-reads
 
 abbrev Inv-loop : tie.InvT-loop
 Inv-loop file leaf₀ text₀ counts₀ done₀ leaf text counts done = (length leaf ≡ length leaf₀) × (length text ≡ length text₀) × (done ≤ 1000000)

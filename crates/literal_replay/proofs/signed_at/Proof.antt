@@ -1,7 +1,7 @@
 -- `literal_replay::signed_at` stays in range: -1 less a number below 2^63 is an i64.
 use native.Mathlib.Omega.{arith}
 use mathlib.Core.Path.{sym, subst}
-use Prim.Native.Nat.{ℕ, zero, suc, _+_, _-_, _*_, _^_, _<_}
+use Prim.Native.Nat.{ℕ, zero, suc, _-_, _^_, _<_}
 use lib.IntN.{ℤ, pos, negsuc, _-ℤ_}
 use mir.Syntax.{w64}
 use mir.Val.{SFits}
@@ -14,20 +14,8 @@ least : (x : ℕ) → x < 2 ^ 63 → SFits w64 (negsuc 0 -ℤ pos x)
 least zero h = record { sfits = omega arith }
 least (suc x) h = record { sfits = omega arith }
 
-dword-at-requires : tie.Need-dword-at-requires
-dword-at-requires c κs = search needs
-
-add-dword-at : tie.Need-add-dword-at
-add-dword-at c = search needs
-
-dword-at-requires-2 : tie.Need-dword-at-requires-2
-dword-at-requires-2 c κs = search needs
-
-mul-n : tie.Need-mul-n
-mul-n c = search needs
-
-add-n : tie.Need-add-n
-add-n c = search needs
+qword-at-requires : tie.Need-qword-at-requires
+qword-at-requires c κs = search needs
 
 cast-result : tie.Need-cast-result
 cast-result c = search needs
@@ -43,8 +31,7 @@ cast-result-2 c = search needs
 
 sub-result-2 : tie.Need-sub-result-2
 sub-result-2 c =
-    let n = c .before .before .dword-at .result + 4294967296 * c .before .dword-at2 .result in
-    let x = 18446744073709551615 - n in
+    let x = 18446744073709551615 - c .before .qword-at .result in
     let h : x < 2 ^ 63 = omega arith in
     subst (λ (z : ℤ). SFits w64 (negsuc 0 -ℤ z)) (sym (toZ-ofZ w64 (pos x) (record { sfits = h }))) (least x h)
 
@@ -55,11 +42,7 @@ pub signed-at-spec : {M : Type 1} → statement M
 signed-at-spec =
     tie.close
     (tie.spec
-    dword-at-requires
-    add-dword-at
-    dword-at-requires-2
-    mul-n
-    add-n
+    qword-at-requires
     cast-result
     returns
     sub-result

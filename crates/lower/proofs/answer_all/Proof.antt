@@ -4,9 +4,6 @@ use lib.ListN.{length}
 use borrow.Author.Needs.{needs}
 use Rattle.lower.proofs.answer_all.Statement.{statement}
 use Rattle.lower.proofs.answer_all.Tie as tie
-use Rattle.lower.proofs.answer_all.Reads as reads
-use Rattle.lower.proofs.answer_all.Lts as lts
-use Rattle.lower.proofs.next_case.Reads as next-case-reads
 
 abbrev Inv-loop : tie.InvT-loop
 Inv-loop settings₀ tree₀ out₀ turns₀ settings tree out turns = (length settings ≡ length settings₀) × (length tree ≡ length tree₀) × (length out ≡ length out₀)

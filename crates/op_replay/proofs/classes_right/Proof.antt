@@ -1,12 +1,9 @@
 -- `op_replay::classes_right` stays in bounds and ends: i counts up to the eight digits.
-use Prim.Native.Nat.{_≤_, _-_, _+_}
+use Prim.Native.Nat.{_≤_, _-_}
 use lib.ListN.{length}
 use borrow.Author.Needs.{needs}
 use Rattle.op_replay.proofs.classes_right.Statement.{statement}
 use Rattle.op_replay.proofs.classes_right.Tie as tie
-use Rattle.op_replay.proofs.classes_right.Reads as reads
-use Rattle.op_replay.proofs.classes_right.Lts as lts
-use Rattle.op_replay.proofs.class_test.Reads as class-test-reads
 
 abbrev Inv-loop : tie.InvT-loop
 Inv-loop op bits i₀ i = i ≤ length bits

@@ -1,11 +1,9 @@
 -- `op_replay::find` stays in bounds and ends: i counts up to the length.
-use Prim.Native.Nat.{_≤_, _-_, _+_}
+use Prim.Native.Nat.{_≤_, _-_}
 use lib.ListN.{length}
 use borrow.Author.Needs.{needs}
 use Rattle.op_replay.proofs.find.Statement.{statement}
 use Rattle.op_replay.proofs.find.Tie as tie
-use Rattle.op_replay.proofs.find.Reads as reads
-use Rattle.op_replay.proofs.find.Lts as lts
 
 abbrev Inv-loop : tie.InvT-loop
 Inv-loop s b i₀ i = i ≤ length s

@@ -5,10 +5,6 @@ use lib.ListN.{length}
 use borrow.Author.Needs.{needs}
 use Rattle.op_replay.proofs.replay_all.Statement.{statement}
 use Rattle.op_replay.proofs.replay_all.Tie as tie
-use Rattle.op_replay.proofs.replay_all.Reads as reads
-use Rattle.op_replay.proofs.replay_all.Lts as lts
-use Rattle.op_replay.proofs.next_case.Reads as next-case-reads
-use Rattle.replay.proofs.count.Reads as count-reads
 
 abbrev Inv-loop : tie.InvT-loop
 Inv-loop file line₀ counts₀ done₀ line counts done = (length line ≡ length line₀) × (done ≤ 1000000)

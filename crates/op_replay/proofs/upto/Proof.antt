@@ -5,9 +5,6 @@ use lib.Seq.{length-take-le}
 use borrow.Author.Needs.{needs}
 use Rattle.op_replay.proofs.upto.Statement.{statement}
 use Rattle.op_replay.proofs.upto.Tie as tie
-use Rattle.op_replay.proofs.upto.Reads as reads
-use Rattle.op_replay.proofs.upto.Lts as lts
-use Rattle.op_replay.proofs.find.Reads as find-reads
 
 find-requires : tie.Need-find-requires
 find-requires c κs = search needs

@@ -2,13 +2,11 @@
 use Rattle.order.specs.OrderLaws.{order-go, order-less, order-more, order-long, order-both, order-short}
 use Rattle.order.specs.Order.{order}
 use mathlib.Core.Path.{_≡_, refl, sym, _∙_}
-use Prim.Native.Nat.{_≤_, _-_, _+_}
+use Prim.Native.Nat.{_≤_, _-_}
 use lib.ListN.{length, drop}
 use native.Mathlib.Omega.{arith}
 use Rattle.order.proofs.compare.Statement.{statement}
 use Rattle.order.proofs.compare.Tie as tie
-use Rattle.order.proofs.compare.Reads as reads
-use Rattle.order.proofs.compare.Lts as lts
 
 abbrev Inv-loop : tie.InvT-loop
 Inv-loop a b i₀ i = (i ≤ length a) × (i ≤ length b) × (order (drop i a) (drop i b) ≡ order a b)

@@ -4,12 +4,6 @@ use Rattle.replay.specs.Tally.{tallied}
 use borrow.Author.Needs.{needs}
 use Rattle.replay.proofs.count.Statement.{statement}
 use Rattle.replay.proofs.count.Tie as tie
-use Rattle.replay.proofs.count.Reads as reads
-use Rattle.replay.proofs.count.Lts as lts
-use Rattle.replay.proofs.end_line.Reads as end-line-reads
-use Rattle.replay.proofs.say.Reads as say-reads
-use Rattle.replay.proofs.wide.Reads as wide-reads
-use Rattle.std.proofs.num.wrapping_add_u64.Reads as wrapping-add-u64-reads
 
 slice-aggregate-say : tie.Need-slice-aggregate-say
 slice-aggregate-say c = search needs

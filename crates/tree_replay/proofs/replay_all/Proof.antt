@@ -5,10 +5,6 @@ use lib.ListN.{length}
 use borrow.Author.Needs.{needs}
 use Rattle.tree_replay.proofs.replay_all.Statement.{statement}
 use Rattle.tree_replay.proofs.replay_all.Tie as tie
-use Rattle.tree_replay.proofs.replay_all.Reads as reads
-use Rattle.tree_replay.proofs.replay_all.Lts as lts
-use Rattle.replay.proofs.count.Reads as count-reads
-use Rattle.tree_replay.proofs.next_case.Reads as next-case-reads
 
 abbrev Inv-loop : tie.InvT-loop
 Inv-loop file settings₀ tree₀ counts₀ done₀ settings tree counts done = (length settings ≡ length settings₀) × (length tree ≡ length tree₀) × (done ≤ 1000000)

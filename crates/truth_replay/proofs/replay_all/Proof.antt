@@ -5,10 +5,6 @@ use lib.ListN.{length}
 use borrow.Author.Needs.{needs}
 use Rattle.truth_replay.proofs.replay_all.Statement.{statement}
 use Rattle.truth_replay.proofs.replay_all.Tie as tie
-use Rattle.truth_replay.proofs.replay_all.Reads as reads
-use Rattle.truth_replay.proofs.replay_all.Lts as lts
-use Rattle.replay.proofs.count.Reads as count-reads
-use Rattle.truth_replay.proofs.next_case.Reads as next-case-reads
 
 abbrev Inv-loop : tie.InvT-loop
 Inv-loop file text₀ row₀ counts₀ done₀ text row counts done = (length text ≡ length text₀) × (length row ≡ length row₀) × (done ≤ 1000000)
