@@ -58,9 +58,9 @@ abbrev told : Lowered → ℕ
 told (Text n) = n
 told (Refused r) = 0
 
-fitted-short : (out x : List ℕ) → told (answer (fitted out x)) ≤ 65535
+fitted-short : (room : ℕ) (x : List ℕ) → told (answer (fitted room x)) ≤ 65535
 unfolding fitted answer
-fitted-short out x = go (ltb 65535 (length x)) refl (ltb (length out) (length x))
+fitted-short room x = go (ltb 65535 (length x)) refl (ltb room (length x))
   where
     go : (a : Bool) → ltb 65535 (length x) ≡ a → (b : Bool) → told (answer (pick a (refused TextTooLong) (pick b (refused BufferTooShort) (got x)))) ≤ 65535
     go true e b = omega arith
@@ -68,13 +68,13 @@ fitted-short out x = go (ltb 65535 (length x)) refl (ltb (length out) (length x)
     go false e false = ltb-false 65535 (length x) e
 
 -- no text that lowering answers is longer than 65,535 bytes
-pub short : (settings tree out : List ℕ) (n : ℕ) → answer (lowering settings tree out) ≡ Text n → n ≤ 65535
+pub short : (settings tree : List ℕ) (room n : ℕ) → answer (lowering settings tree room) ≡ Text n → n ≤ 65535
 unfolding lowering answer also
-short settings tree out n e = subst (λ (r : Lowered). told r ≤ 65535) e (go (accepted settings tree))
+short settings tree room n e = subst (λ (r : Lowered). told r ≤ 65535) e (go (accepted settings tree))
   where
-    go : (p : Read (Settings × Tree)) → told (answer (also p (λ (p : Settings × Tree). fitted out (text (p .0) (p .1))))) ≤ 65535
+    go : (p : Read (Settings × Tree)) → told (answer (also p (λ (p : Settings × Tree). fitted room (text (p .0) (p .1))))) ≤ 65535
     go (refused r) = omega arith
-    go (got p) = fitted-short out (text (p .0) (p .1))
+    go (got p) = fitted-short room (text (p .0) (p .1))
 
 pub length-fits : (n : ℕ) → n ≤ 65535 → SFits w64 (pos n)
 length-fits n h = record { sfits = omega arith }

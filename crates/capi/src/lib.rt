@@ -1,8 +1,9 @@
 // Lowering and reading for callers in C: each answer as one number, never the same for two answers.
 ghost use mathlib.Core.Path.{_≡_};
 ghost use Prim.Native.Nat.{_<_};
+ghost use lib.ListN.{length};
 ghost use Rattle.refusal.specs.Number.{numberOf};
-ghost use Rattle.gpkg.specs.Lowered.{answer, heard, leaves, lowering};
+ghost use Rattle.gpkg.specs.Lowered.{leaves, lowering, said};
 ghost use Rattle.truth.specs.Reading as reading;
 ghost use Rattle.capi.specs.Numbers.{minus, loweringNumber, readingNumber};
 use gpkg::Lowered;
@@ -19,8 +20,8 @@ fn negative(r: Refusal) -> i32
 // The text's length, or minus the number of a refusal, 1 to 9; every byte of `out` is as `gpkg::to_sql` leaves it.
 #[no_mangle]
 pub extern "C" fn wenduulig_to_sql(settings: &[u8], tree: &[u8], out: &mut [u8]) -> i64
-    ensures says { λ r. ⌜ r ≡ loweringNumber (heard (answer (lowering (now (settings .entry)) (now (tree .entry)) (now (out .entry))))) ⌝ }
-    ensures bytes { λ r. ⌜ now (out .exit) ≡ leaves (now (out .entry)) (lowering (now (settings .entry)) (now (tree .entry)) (now (out .entry))) ⌝ }
+    ensures says { λ r. ⌜ r ≡ loweringNumber (said (lowering (now (settings .entry)) (now (tree .entry)) (length (now (out .entry))))) ⌝ }
+    ensures bytes { λ r. ⌜ now (out .exit) ≡ leaves (now (out .entry)) (lowering (now (settings .entry)) (now (tree .entry)) (length (now (out .entry)))) ⌝ }
 {
     match gpkg::to_sql(settings, tree, out) {
         Lowered::Text(n) => n as i64,

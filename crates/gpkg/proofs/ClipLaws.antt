@@ -36,6 +36,3 @@ clip s a n from to p q =
     let v : length s ≤ a = omega arith in
     rw (drop-of-length-le s u, drop-of-length-le s v) (take-nil (to - from) ∙ sym (take-nil n)))
     (eq-zero-or-pos (a - length s))
-
-pub cai-place : (s : List ℕ) (m n : ℕ) → m ≡ getD s 7 0 → n ≡ getD s (8 + m) 0 → nameAt s (8 + m + 1 + n) ≡ nameAt s (caiAt s)
-cai-place s m n e f = rw (f, e) refl

@@ -1,6 +1,7 @@
 -- A node's text by its parts: around its operand, around its operator, as a call, or its template filled.
 use Prim.Native.Nat.{_≤_, ℕ, zero, suc, _+_, _<_}
 use Rattle.prelude.specs.ChoiceLaws.{between-true}
+use Rattle.prelude.specs.Bytes.{bytes}
 use mathlib.Core.Path.{_≡_, refl, ap, sym, _∙_}
 use mathlib.Core.List.{List, [], _∷_, _++_, append-assoc, append-nil}
 use mathlib.Core.Bool.{Bool, true, false}
@@ -23,7 +24,7 @@ use Rattle.sql.specs.Template.{fill, templateOf}
 use Rattle.sql.specs.TemplateLaws.{translate-fills, translate-same}
 use Rattle.gpkg.specs.Text.{bare, reducePrecision, monadicText, reduces, startText, stopText, boundText, dyadicText, text, children, texts}
 use Rattle.op.specs.Spelling.{word}
-use Rattle.gpkg.specs.Plan.{twin, twinOf, underOf, operandOf, itemsOf, nameOf, beforeText, behindText, collationFlags, slot, reducedText, infixText, leftBare, rightBare}
+use Rattle.gpkg.specs.PlanWords.{twin, twinOf, underOf, operandOf, itemsOf, nameOf, beforeText, behindText, collationFlags, slot, reducedText, infixText, leftBare, rightBare}
 use Rattle.tree.specs.TestsLaws.{OfKind, of-array, of-interval, kind-is, interval-is}
 use borrow.Author.Tests.{eqb-true}
 
@@ -132,11 +133,11 @@ monadic-parts g o t =
     (go (between 51 (opNumber o) 52) (either (eqb (opNumber o) 7) (eqb (opNumber o) 1)) (eqb (opNumber o) 16) (isMonadic AccentI t) (isMonadic CaseI t) (isLiteralOrId t) (under-text g AccentI t) (under-text g CaseI t))
   where
     go : (a b c m n l : Bool) → (m ≡ true → getD (children g t) 0 [] ≡ text g (underOf t)) → (n ≡ true → getD (children g t) 0 [] ≡ text g (underOf t))
-        → pick a (bare l (text g t) ++ (32 ∷ word o)) (pick b (word o ++ (32 ∷ bare l (text g t)))
+        → pick a (bare l (text g t) ++ (bytes " " ++ word o)) (pick b (word o ++ (bytes " " ++ bare l (text g t)))
         (pick c (pick m (getD (children g t) 0 [] ++ collate (g .cai)) (text g t ++ collate (g .ci))) (pick n (getD (children g t) 0 [] ++ collate (g .cai)) (text g t ++ collate (g .ai)))))
-        ≡ pick a (pick l [] (40 ∷ [])) (pick b (word o ++ pick l (32 ∷ []) (32 ∷ 40 ∷ [])) [])
+        ≡ pick a (pick l [] (bytes "(")) (pick b (word o ++ pick l (bytes " ") (bytes " (")) [])
         ++ (text g (pick (pick a false (pick b false (pick c m n))) (underOf t) t)
-        ++ pick a (pick l (32 ∷ []) (41 ∷ 32 ∷ []) ++ word o) (pick b (pick l [] (41 ∷ [])) (collate (nameOf g (pick (pick a false (pick b false (pick c m n))) 3 (pick c 1 2))))))
+        ++ pick a (pick l (bytes " ") (bytes ") ") ++ word o) (pick b (pick l [] (bytes ")")) (collate (nameOf g (pick (pick a false (pick b false (pick c m n))) 3 (pick c 1 2))))))
     go true b c m n true h k = refl
     go true b c m n false h k = simp append-assoc
     go false true c m n true h k = simp (append-assoc, append-nil)
@@ -148,11 +149,11 @@ monadic-parts g o t =
 
 -- the same, by the tests of the code
 module _ (op : ℕ) (w : List ℕ) (b : Bool) where
-  pub before-nullable : between 51 op 52 ≡ true → pick b [] (40 ∷ []) ≡ beforeText op w b
+  pub before-nullable : between 51 op 52 ≡ true → pick b [] (bytes "(") ≡ beforeText op w b
   unfolding beforeText
   before-nullable p = simp p
 
-  pub before-sign : between 51 op 52 ≡ false → either (eqb op 7) (eqb op 1) ≡ true → w ++ pick b (32 ∷ []) (32 ∷ 40 ∷ []) ≡ beforeText op w b
+  pub before-sign : between 51 op 52 ≡ false → either (eqb op 7) (eqb op 1) ≡ true → w ++ pick b (bytes " ") (bytes " (") ≡ beforeText op w b
   unfolding beforeText
   before-sign p q = simp (p, q)
 
@@ -161,11 +162,11 @@ module _ (op : ℕ) (w : List ℕ) (b : Bool) where
   before-none p q = simp (p, q)
 
   module _ (g : Settings) (d : Bool) where
-    pub behind-nullable : between 51 op 52 ≡ true → pick b (32 ∷ []) (41 ∷ 32 ∷ []) ++ w ≡ behindText g op w b d
+    pub behind-nullable : between 51 op 52 ≡ true → pick b (bytes " ") (bytes ") ") ++ w ≡ behindText g op w b d
     unfolding behindText
     behind-nullable p = simp p
 
-    pub behind-sign : between 51 op 52 ≡ false → either (eqb op 7) (eqb op 1) ≡ true → pick b [] (41 ∷ []) ≡ behindText g op w b d
+    pub behind-sign : between 51 op 52 ≡ false → either (eqb op 7) (eqb op 1) ≡ true → pick b [] (bytes ")") ≡ behindText g op w b d
     unfolding behindText
     behind-sign p q = simp (p, q)
 
@@ -247,25 +248,25 @@ stop-text g t = go (isInterval t) refl
     go false e = refl
 
 module _ (g : Settings) (o : Op) (t u : Tree) where
-  pub between-parts : isBetween o ≡ true → text g (dyadic o t u) ≡ text g t ++ (infixText true (word o) true ++ (text g (first (itemsOf u)) ++ ((32 ∷ 65 ∷ 78 ∷ 68 ∷ 32 ∷ []) ++ text g (second (itemsOf u)))))
+  pub between-parts : isBetween o ≡ true → text g (dyadic o t u) ≡ text g t ++ (infixText true (word o) true ++ (text g (first (itemsOf u)) ++ ((bytes " AND ") ++ text g (second (itemsOf u)))))
   unfolding text dyadicText infixText
   between-parts p = simp (p, append-assoc, bound-0 g u, bound-1 g u)
 
   module _ (p : isBetween o ≡ false) where
     pub spatial-parts : isSpatial o ≡ true → (a b : Bool) → a ≡ both (between 21 (opNumber o) 23) (both (isId t) (negated (isId u))) → b ≡ both (between 21 (opNumber o) 23) (both (isId u) (negated (isId t)))
         → text g (dyadic o t u)
-        ≡ word o ++ (pick a (40 ∷ 83 ∷ 84 ∷ 95 ∷ 82 ∷ 101 ∷ 100 ∷ 117 ∷ 99 ∷ 101 ∷ 80 ∷ 114 ∷ 101 ∷ 99 ∷ 105 ∷ 115 ∷ 105 ∷ 111 ∷ 110 ∷ 40 ∷ []) (40 ∷ [])
+        ≡ word o ++ (pick a (bytes "(ST_ReducePrecision(") (bytes "(")
         ++ (text g t ++ (pick a (reducedText (g .precision)) []
-        ++ (pick b (44 ∷ 32 ∷ 83 ∷ 84 ∷ 95 ∷ 82 ∷ 101 ∷ 100 ∷ 117 ∷ 99 ∷ 101 ∷ 80 ∷ 114 ∷ 101 ∷ 99 ∷ 105 ∷ 115 ∷ 105 ∷ 111 ∷ 110 ∷ 40 ∷ []) (44 ∷ 32 ∷ [])
-        ++ (text g u ++ (pick b (reducedText (g .precision)) [] ++ (41 ∷ [])))))))
+        ++ (pick b (bytes ", ST_ReducePrecision(") (bytes ", ")
+        ++ (text g u ++ (pick b (reducedText (g .precision)) [] ++ bytes ")"))))))
     unfolding text dyadicText reduces reducePrecision
     spatial-parts q a b x y = rw (p, q, reduce-precision o, ← x, ← y) (go a b)
       where
-        go : (a b : Bool) → word o ++ (40 ∷ (pick a (reducePrecision (g .precision) (text g t)) (text g t) ++ (44 ∷ 32 ∷ (pick b (reducePrecision (g .precision) (text g u)) (text g u) ++ (41 ∷ [])))))
-            ≡ word o ++ (pick a (40 ∷ 83 ∷ 84 ∷ 95 ∷ 82 ∷ 101 ∷ 100 ∷ 117 ∷ 99 ∷ 101 ∷ 80 ∷ 114 ∷ 101 ∷ 99 ∷ 105 ∷ 115 ∷ 105 ∷ 111 ∷ 110 ∷ 40 ∷ []) (40 ∷ [])
+        go : (a b : Bool) → word o ++ (bytes "(" ++ (pick a (reducePrecision (g .precision) (text g t)) (text g t) ++ (bytes ", " ++ (pick b (reducePrecision (g .precision) (text g u)) (text g u) ++ bytes ")"))))
+            ≡ word o ++ (pick a (bytes "(ST_ReducePrecision(") (bytes "(")
             ++ (text g t ++ (pick a (reducedText (g .precision)) []
-            ++ (pick b (44 ∷ 32 ∷ 83 ∷ 84 ∷ 95 ∷ 82 ∷ 101 ∷ 100 ∷ 117 ∷ 99 ∷ 101 ∷ 80 ∷ 114 ∷ 101 ∷ 99 ∷ 105 ∷ 115 ∷ 105 ∷ 111 ∷ 110 ∷ 40 ∷ []) (44 ∷ 32 ∷ [])
-            ++ (text g u ++ (pick b (reducedText (g .precision)) [] ++ (41 ∷ [])))))))
+            ++ (pick b (bytes ", ST_ReducePrecision(") (bytes ", ")
+            ++ (text g u ++ (pick b (reducedText (g .precision)) [] ++ bytes ")"))))))
         go true true = simp append-assoc
         go true false = simp append-assoc
         go false true = simp append-assoc
@@ -287,13 +288,13 @@ module _ (g : Settings) (o : Op) (t u : Tree) where
           ends-same (suc (suc (suc (suc j)))) h = absurd (let v : ⊥ = omega arith in v)
 
       pub infix-parts : isTemporal o ≡ false → text g (dyadic o t u)
-          ≡ pick (leftBare (opNumber o) t) [] (40 ∷ []) ++ (text g t ++ (infixText (leftBare (opNumber o) t) (word o) (rightBare (opNumber o) u) ++ (text g u ++ pick (rightBare (opNumber o) u) [] (41 ∷ []))))
+          ≡ pick (leftBare (opNumber o) t) [] (bytes "(") ++ (text g t ++ (infixText (leftBare (opNumber o) t) (word o) (rightBare (opNumber o) u) ++ (text g u ++ pick (rightBare (opNumber o) u) [] (bytes ")"))))
       unfolding text dyadicText leftBare rightBare infixText
       infix-parts r = rw (p, q, r, is-array o, is-like o) (go (between 41 (opNumber o) 44) (between 45 (opNumber o) 46) (isLiteralOrId t) (isLiteralOrId u))
         where
           go : (x y c d : Bool)
-              → pick x (text g t ++ (32 ∷ (word o ++ (32 ∷ text g u)))) (pick y (bare c (text g t) ++ (32 ∷ (word o ++ (32 ∷ bare false (text g u))))) (bare c (text g t) ++ (32 ∷ (word o ++ (32 ∷ bare d (text g u))))))
-              ≡ pick (pick x true c) [] (40 ∷ []) ++ (text g t ++ ((pick (pick x true c) (32 ∷ []) (41 ∷ 32 ∷ []) ++ (word o ++ pick (pick x true (pick y false d)) (32 ∷ []) (32 ∷ 40 ∷ []))) ++ (text g u ++ pick (pick x true (pick y false d)) [] (41 ∷ []))))
+              → pick x (text g t ++ (bytes " " ++ (word o ++ (bytes " " ++ text g u)))) (pick y (bare c (text g t) ++ (bytes " " ++ (word o ++ (bytes " " ++ bare false (text g u))))) (bare c (text g t) ++ (bytes " " ++ (word o ++ (bytes " " ++ bare d (text g u))))))
+              ≡ pick (pick x true c) [] (bytes "(") ++ (text g t ++ ((pick (pick x true c) (bytes " ") (bytes ") ") ++ (word o ++ pick (pick x true (pick y false d)) (bytes " ") (bytes " ("))) ++ (text g u ++ pick (pick x true (pick y false d)) [] (bytes ")"))))
           go true y c d = simp (append-assoc, append-nil)
           go false true true d = simp append-assoc
           go false true false d = simp append-assoc

@@ -16,7 +16,7 @@ use Rattle.tree.specs.Tree.{Tree, Trees, encode, encodes, monadic, array, none,
 use Rattle.tree.specs.Tests.{first, second, endsOf, isItems, children}
 use Rattle.sql.specs.declared.Operand as operand
 use Rattle.sql.specs.Ends.{unfoldExpressions}
-use Rattle.gpkg.specs.Plan.{IsOperand, Stands, EndOf, Are, sound, sounds, twin, twinOf, underOf, itemsOf, operandOf, Bound, gone, item}
+use Rattle.gpkg.specs.PlanWords.{IsOperand, Stands, EndOf, Are, sound, sounds, twin, twinOf, underOf, itemsOf, operandOf, Bound, gone, item}
 use Rattle.gpkg.proofs.RecordLaws.{bodyOf, beyond, ends-at, size-of}
 use Rattle.gpkg.proofs.LiteralLaws.{body-at}
 use Rattle.gpkg.proofs.EndLaws.{stands-kind, stands-part, both-first, both-second}

@@ -14,6 +14,7 @@ use lib.Dec.{T, eqb, ltb, lt→ltb}
 use borrow.Author.Tests.{ltb-true, ltb-false, eqb-true, eq-eqb, ne-eqb}
 use Rattle.gpkg.proofs.NodeLaws.{is-between, is-spatial, is-temporal, apart, infix-parts, monadic-parts, between-parts, spatial-parts}
 use Rattle.prelude.specs.Choice.{pick, both, negated, between, all}
+use Rattle.prelude.specs.Bytes.{bytes}
 use Rattle.prelude.specs.Table.{both-left, both-right}
 use Rattle.record.specs.Record.{le16, recordOf}
 use Rattle.op.specs.declared.Op.{Op}
@@ -31,7 +32,7 @@ use Rattle.emit.specs.Emit.{countLimit, ended}
 use Rattle.emit.specs.Lays.{Lays}
 use Rattle.gpkg.specs.Text.{text, texts, joined}
 use Rattle.op.specs.Spelling.{word}
-use Rattle.gpkg.specs.Plan.{Inside, part, Is, Are, Stands, EndOf, Node, one, two, nodeEnds, Bound, gone, item, sound, sounds, slot, endPiece, pieceOf, flatText, leafText, itemsOf, temporalOf, infixText, reducedText, leftBare, rightBare, twin, twinOf, operandOf, beforeText, behindText}
+use Rattle.gpkg.specs.PlanWords.{Inside, part, Is, Are, Stands, EndOf, Node, one, two, nodeEnds, Bound, gone, item, sound, sounds, slot, endPiece, pieceOf, flatText, leafText, itemsOf, temporalOf, infixText, reducedText, leftBare, rightBare, twin, twinOf, operandOf, beforeText, behindText}
 use Rattle.gpkg.proofs.RecordLaws.{beyond, size-of, long, part-at}
 use Rattle.gpkg.proofs.LiteralLaws.{kind-whole}
 use Rattle.gpkg.proofs.EndLaws.{both-first, both-second, stands-part}
@@ -49,12 +50,12 @@ never e = absurd (let v : ⊥ = omega arith in v)
 -- the items behind the first, each after a comma
 unfoldable pub after : Settings → Trees → List ℕ
 after g none = []
-after g (t then ts) = 44 ∷ 32 ∷ (text g t ++ after g ts)
+after g (t then ts) = bytes ", " ++ (text g t ++ after g ts)
 
 joined-after : (g : Settings) (t : Tree) (ts : Trees) → joined (texts g (t then ts)) ≡ text g t ++ after g ts
 unfolding joined texts after
 joined-after g t none = sym (append-nil (text g t))
-joined-after g t (u then us) = ap (λ (l : List ℕ). text g t ++ (44 ∷ 32 ∷ l)) (joined-after g u us)
+joined-after g t (u then us) = ap (λ (l : List ℕ). text g t ++ (bytes ", " ++ l)) (joined-after g u us)
 
 -- what is to come at the place p of a list
 unfoldable pub tail : Settings → ℕ → Trees → List ℕ
@@ -94,11 +95,11 @@ come-end {g} {s} {at} {out₀} {ts} {p} h c =
     let z : tail g p (c .us) ≡ [] = ap (λ (us : Trees). tail g p us) (no-more s p (c .us) (c .there) h) ∙ tail-none g p in
     lays-of (sym (c .whole ∙ ap (λ (l : List ℕ). c .done ++ l) z ∙ append-nil (c .done))) (c .laid)
 
-tail-next : (g : Settings) (p : ℕ) (u : Tree) (us : Trees) → tail g p (u then us) ≡ pick (eqb p 0) [] (44 ∷ 32 ∷ []) ++ (text g u ++ after g us)
+tail-next : (g : Settings) (p : ℕ) (u : Tree) (us : Trees) → tail g p (u then us) ≡ pick (eqb p 0) [] (bytes ", ") ++ (text g u ++ after g us)
 unfolding tail after
 tail-next g p u us = go (eqb p 0)
   where
-    go : (b : Bool) → pick b (joined (texts g (u then us))) (44 ∷ 32 ∷ (text g u ++ after g us)) ≡ pick b [] (44 ∷ 32 ∷ []) ++ (text g u ++ after g us)
+    go : (b : Bool) → pick b (joined (texts g (u then us))) (bytes ", " ++ (text g u ++ after g us)) ≡ pick b [] (bytes ", ") ++ (text g u ++ after g us)
     go true = joined-after g u us
     go false = refl
 
@@ -107,7 +108,7 @@ pub record Next (g : Settings) (s : List ℕ) (at : ℕ) (out₀ : List ℕ) (ts
   pub u : Tree
   pub bytes : part s p z ≡ encode u
   pub fit : sound u ≡ true
-  pub on : {m n : List ℕ} {comma there : ℕ} → Lays countLimit here (pick (eqb p 0) [] (44 ∷ 32 ∷ [])) out m comma → Lays countLimit comma (text g u) m n there → Come g s at out₀ ts z there n
+  pub on : {m n : List ℕ} {comma there : ℕ} → Lays countLimit here (pick (eqb p 0) [] (bytes ", ")) out m comma → Lays countLimit comma (text g u) m n there → Come g s at out₀ ts z there n
 
 pub come-next : {g : Settings} {s : List ℕ} {at : ℕ} {out₀ : List ℕ} {ts : Trees} {p z here : ℕ} {out : List ℕ} → p < length s → EndOf s p z → Come g s at out₀ ts p here out → Next g s at out₀ ts p z here out
 unfolding encodes sounds tail
@@ -118,7 +119,7 @@ come-next {g} {s} {at} {out₀} {ts} {p} {z} {here} {out} h e c = go (c .us) (c 
     go (u then us) d f w =
         let zz : z ≡ p + length (encode u) = e .exact u (encodes us) d in
         let pos : (z ≡ 0) → ⊥ = λ q. let l = long u in let v : ⊥ = omega arith in v in
-        let sep : List ℕ = pick {A = List ℕ} (eqb p 0) [] (44 ∷ 32 ∷ []) in
+        let sep : List ℕ = pick {A = List ℕ} (eqb p 0) [] (bytes ", ") in
         let t : tail g z us ≡ after g us = simp (ne-eqb z 0 pos) in
         record {
           u = u;
@@ -347,7 +348,7 @@ pub record Listed (g : Settings) (s : List ℕ) (from to : ℕ) (t : Tree) : Typ
   pub ts : Trees
   pub there : take (length s - to) (drop to s) ≡ encodes ts
   pub fit : sounds ts ≡ true
-  pub whole : text g t ≡ take (to - from) (drop from s) ++ (40 ∷ (joined (texts g ts) ++ (41 ∷ [])))
+  pub whole : text g t ≡ take (to - from) (drop from s) ++ (bytes "(" ++ (joined (texts g ts) ++ bytes ")"))
 
 array-listed : (g : Settings) (s : List ℕ) (from to : ℕ) (ts : Trees) → s ≡ encode (array ts) → sounds ts ≡ true → to ≡ 6 → from ≡ 6 → Listed g s from to (array ts)
 unfolding encode recordOf text
@@ -373,7 +374,7 @@ function-listed g s from to n ts e f a b =
       ts = ts;
       there = ap (λ (x : ℕ). take (length s - x) (drop x s)) a ∙ take-all (length s - (7 + length n)) (drop (7 + length n) s) l ∙ z;
       fit = f;
-      whole = ap (λ (l : List ℕ). l ++ (40 ∷ (joined (texts g ts) ++ (41 ∷ [])))) (sym k);
+      whole = ap (λ (l : List ℕ). l ++ (bytes "(" ++ (joined (texts g ts) ++ bytes ")"))) (sym k);
     }
 
 counted-length : (n : List ℕ) → length (counted n) ≡ suc (length n)
@@ -505,11 +506,11 @@ not-temporal kind op k e = simp (eq-eqb kind 10 k) at e
 pub infix-step : {s : List ℕ} {op m : ℕ} {t : Tree} (g : Settings) → Node s 10 op m t → between 26 op 40 ≡ false → between 18 op 25 ≡ false → between 47 op 48 ≡ false → {a b : Bool}
     → ((x : Tree) → part s 8 m ≡ encode x → a ≡ leftBare op x) → ((y : Tree) → part s m (length s) ≡ encode y → b ≡ rightBare op y)
     → {at i j k n r : ℕ} {l₀ l₁ l₂ l₃ l₄ l₅ : List ℕ}
-    → Lays countLimit at (pick a [] (40 ∷ [])) l₀ l₁ i
+    → Lays countLimit at (pick a [] (bytes "(")) l₀ l₁ i
     → ((x : Tree) → part s 8 m ≡ encode x → sound x ≡ true → Lays countLimit i (text g x) l₁ l₂ j)
     → ((o : Op) → op ≡ opNumber o → Lays countLimit j (infixText a (word o) b) l₂ l₃ k)
     → ((y : Tree) → part s m (length s) ≡ encode y → sound y ≡ true → Lays countLimit k (text g y) l₃ l₄ n)
-    → Lays countLimit n (pick b [] (41 ∷ [])) l₄ l₅ r → Lays countLimit at (text g t) l₀ l₅ r
+    → Lays countLimit n (pick b [] (bytes ")")) l₄ l₅ r → Lays countLimit at (text g t) l₀ l₅ r
 infix-step g (one o x k n e f) ht hs hw ha hb l1 l2 l3 l4 l5 = absurd (let v : ⊥ = omega (arith, k) in v)
 infix-step {s} {op} {m} g (two o x y k n p q) ht hs hw {a} {b} ha hb l1 l2 l3 l4 l5 =
     let ex = stands-part p .1 in
@@ -521,9 +522,9 @@ infix-step {s} {op} {m} g (two o x y k n p q) ht hs hw {a} {b} ha hb l1 l2 l3 l4
     (is-between o ∙ ap (λ (j : ℕ). between 47 j 48) (sym n) ∙ hw)
     (is-spatial o ∙ ap (λ (j : ℕ). between 18 j 25) (sym n) ∙ hs)
     (is-temporal o ∙ ap (λ (j : ℕ). between 26 j 40) (sym n) ∙ ht) in
-    let z : pick a [] (40 ∷ []) ++ (text g x ++ (infixText a (word o) b ++ (text g y ++ pick b [] (41 ∷ [])))) ≡ text g (dyadic o x y) =
-    ap (λ (c : Bool). pick c [] (40 ∷ []) ++ (text g x ++ (infixText c (word o) b ++ (text g y ++ pick b [] (41 ∷ []))))) av
-    ∙ ap (λ (c : Bool). pick (leftBare (opNumber o) x) [] (40 ∷ []) ++ (text g x ++ (infixText (leftBare (opNumber o) x) (word o) c ++ (text g y ++ pick c [] (41 ∷ []))))) bv
+    let z : pick a [] (bytes "(") ++ (text g x ++ (infixText a (word o) b ++ (text g y ++ pick b [] (bytes ")")))) ≡ text g (dyadic o x y) =
+    ap (λ (c : Bool). pick c [] (bytes "(") ++ (text g x ++ (infixText c (word o) b ++ (text g y ++ pick b [] (bytes ")"))))) av
+    ∙ ap (λ (c : Bool). pick (leftBare (opNumber o) x) [] (bytes "(") ++ (text g x ++ (infixText (leftBare (opNumber o) x) (word o) c ++ (text g y ++ pick c [] (bytes ")"))))) bv
     ∙ sym w in
     lays-of z (lays-then l1 (lays-then (l2 x ex (p .fit)) (lays-then (l3 o n) (lays-then (l4 y ey (q .fit)) l5))))
 
@@ -580,7 +581,7 @@ pub between-step : {s : List ℕ} {op m : ℕ} {t : Tree} (g : Settings) → Nod
     → ((x : Tree) → part s 8 m ≡ encode x → sound x ≡ true → Lays countLimit at (text g x) l₀ l₁ i)
     → ((o : Op) → op ≡ opNumber o → Lays countLimit i (infixText true (word o) true) l₁ l₂ j)
     → ((x : Tree) → Bound s p q x → Lays countLimit j (text g x) l₂ l₃ k)
-    → Lays countLimit k (32 ∷ 65 ∷ 78 ∷ 68 ∷ 32 ∷ []) l₃ l₄ n
+    → Lays countLimit k (bytes " AND ") l₃ l₄ n
     → ((x : Tree) → Bound s q z x → Lays countLimit n (text g x) l₄ l₅ r)
     → Lays countLimit at (text g t) l₀ l₅ r
 between-step g (one o x k n e f) h ep eq ez l1 l2 l3 l4 l5 = absurd (let v : ⊥ = omega (arith, k) in v)
@@ -596,13 +597,13 @@ pub spatial-step : {s : List ℕ} {op m : ℕ} {t : Tree} (g : Settings) → Nod
     → a ≡ both (between 21 op 23) (both x (negated y)) → b ≡ both (between 21 op 23) (both y (negated x))
     → {at i j k n o u v r : ℕ} {l₀ l₁ l₂ l₃ l₄ l₅ l₆ l₇ l₈ : List ℕ}
     → ((c : Op) → op ≡ opNumber c → Lays countLimit at (word c) l₀ l₁ i)
-    → Lays countLimit i (pick a (40 ∷ 83 ∷ 84 ∷ 95 ∷ 82 ∷ 101 ∷ 100 ∷ 117 ∷ 99 ∷ 101 ∷ 80 ∷ 114 ∷ 101 ∷ 99 ∷ 105 ∷ 115 ∷ 105 ∷ 111 ∷ 110 ∷ 40 ∷ []) (40 ∷ [])) l₁ l₂ j
+    → Lays countLimit i (pick a (bytes "(ST_ReducePrecision(") (bytes "(")) l₁ l₂ j
     → ((w : Tree) → part s 8 m ≡ encode w → sound w ≡ true → Lays countLimit j (text g w) l₂ l₃ k)
     → Lays countLimit k (pick a (reducedText (g .precision)) []) l₃ l₄ n
-    → Lays countLimit n (pick b (44 ∷ 32 ∷ 83 ∷ 84 ∷ 95 ∷ 82 ∷ 101 ∷ 100 ∷ 117 ∷ 99 ∷ 101 ∷ 80 ∷ 114 ∷ 101 ∷ 99 ∷ 105 ∷ 115 ∷ 105 ∷ 111 ∷ 110 ∷ 40 ∷ []) (44 ∷ 32 ∷ [])) l₄ l₅ o
+    → Lays countLimit n (pick b (bytes ", ST_ReducePrecision(") (bytes ", ")) l₄ l₅ o
     → ((w : Tree) → part s m (length s) ≡ encode w → sound w ≡ true → Lays countLimit o (text g w) l₅ l₆ u)
     → Lays countLimit u (pick b (reducedText (g .precision)) []) l₆ l₇ v
-    → Lays countLimit v (41 ∷ []) l₇ l₈ r
+    → Lays countLimit v (bytes ")") l₇ l₈ r
     → Lays countLimit at (text g t) l₀ l₈ r
 spatial-step g (one c x k n e f) h ex ey ea eb l1 l2 l3 l4 l5 l6 l7 l8 = absurd (let v : ⊥ = omega (arith, k) in v)
 spatial-step {s} {op} {m} g (two c t u k n p q) h {x} {y} {a} {b} ex ey ea eb l1 l2 l3 l4 l5 l6 l7 l8 =

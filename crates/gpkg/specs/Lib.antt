@@ -1,3 +1,7 @@
+-- What is to be believed.
 pub mod Text
 pub mod Lowered
-pub mod Plan
+-- Words of private contracts.
+pub mod PlanWords
+-- Laws.
+pub mod LoweredLaws

@@ -1,32 +1,31 @@
 -- What lowering answers and what it leaves in the buffer, refusals 1 to 9 in order: document 01, "What a caller hears".
 use Prim.Native.Nat.{ℕ}
 use mathlib.Core.List.{List, _++_}
-use mathlib.Core.Bool.{Bool, true, false}
 use lib.ListN.{length, drop}
 use lib.Dec.{ltb}
 use Rattle.prelude.specs.Choice.{pick}
-use Rattle.refusal.specs.declared.Refusal.{Refusal}
 use Rattle.refusal.specs.declared.Refusal.the-variants.{TextTooLong, BufferTooShort}
 use Rattle.refusal.specs.Number.{numberOf}
-use Rattle.tree.specs.Tree.{Tree, Settings}
 use Rattle.tree.specs.Parse.{Read, refused, got, also}
 use Rattle.tree.specs.Accepted.{accepted}
+use Rattle.tree.specs.Limits.{limits}
 use Rattle.gpkg.specs.Text.{text}
 use Rattle.gpkg.specs.declared.Lowered as lowered
 use Rattle.gpkg.specs.declared.Lowered.the-variants.{Text, Refused}
 
+-- the bytes of a text
 abbrev pub lengthLimit : ℕ
-lengthLimit = 65535
+lengthLimit = limits .text
 
--- 8 if the text is longer than 65,535 bytes, 9 if it is longer than the buffer, else the text
-unfoldable pub fitted : List ℕ → List ℕ → Read (List ℕ)
-fitted out x =
+-- 8 if the text is longer than 65,535 bytes, 9 if it is longer than the buffer, whose bytes are `room`, else the text
+unfoldable pub fitted : ℕ → List ℕ → Read (List ℕ)
+fitted room x =
     pick (ltb lengthLimit (length x)) (refused TextTooLong)
-    (pick (ltb (length out) (length x)) (refused BufferTooShort) (got x))
+    (pick (ltb room (length x)) (refused BufferTooShort) (got x))
 
 -- the text of accepted settings and tree
-unfoldable pub lowering : List ℕ → List ℕ → List ℕ → Read (List ℕ)
-lowering settings tree out = also (accepted settings tree) (λ p. fitted out (text (p .0) (p .1)))
+unfoldable pub lowering : List ℕ → List ℕ → ℕ → Read (List ℕ)
+lowering settings tree room = also (accepted settings tree) (λ p. fitted room (text (p .0) (p .1)))
 
 -- the answer: a text's length, or the refusal
 unfoldable pub answer : Read (List ℕ) → lowered.Lowered
@@ -43,6 +42,12 @@ pub data Heard : Type 0 where
   written : ℕ → Heard
   refusal : ℕ → Heard
 
+-- of what was decided
+abbrev pub said : Read (List ℕ) → Heard
+said (refused n) = refusal (numberOf n)
+said (got x) = written (length x)
+
+-- of the call's answer
 abbrev pub heard : lowered.Lowered → Heard
 heard (Text n) = written n
 heard (Refused n) = refusal (numberOf n)

@@ -1,10 +1,10 @@
 -- The SQL text of a tree, case by case as `to_sql_impl` (src/ds/gpkg.rs): document 01, "The lowering".
 use Prim.Native.Nat.{ℕ}
 use mathlib.Core.List.{List, [], _∷_, _++_}
-use mathlib.Core.Bool.{Bool, true, false}
+use mathlib.Core.Bool.{Bool, false}
 use lib.ListN.{getD}
-use lib.Dec.{eqb}
-use Rattle.prelude.specs.Choice.{pick, both, either, negated}
+use Rattle.prelude.specs.Choice.{pick, both, negated}
+use Rattle.prelude.specs.Bytes.{bytes}
 use Rattle.op.specs.declared.Op.{Op}
 use Rattle.op.specs.declared.Op.the-variants.{Minus, Neg, CaseI, AccentI, STouches, SWithin, SOverlaps, IsLike, IsNotLike}
 use Rattle.op.specs.Op.{opNumber, oneOf, isArray, isSpatial, isTemporal, isNullable}
@@ -20,26 +20,25 @@ use Rattle.sql.specs.Translators.{translate}
 
 -- x itself, or in brackets
 abbrev pub bare : Bool → List ℕ → List ℕ
-bare b x = pick b x (40 ∷ (x ++ (41 ∷ [])))
+bare b x = pick b x (bytes "(" ++ (x ++ bytes ")"))
 
 -- x, y, z
 unfoldable pub joined : List (List ℕ) → List ℕ
 joined [] = []
 joined (x ∷ []) = x
-joined (x ∷ (y ∷ s)) = x ++ (44 ∷ 32 ∷ joined (y ∷ s))
+joined (x ∷ (y ∷ s)) = x ++ (bytes ", " ++ joined (y ∷ s))
 
 -- `reduce_precision_sql`: ST_ReducePrecision(x, 1E-p)
 unfoldable pub reducePrecision : ℕ → List ℕ → List ℕ
 reducePrecision p x =
-    83 ∷ 84 ∷ 95 ∷ 82 ∷ 101 ∷ 100 ∷ 117 ∷ 99 ∷ 101 ∷ 80 ∷ 114 ∷ 101 ∷ 99 ∷ 105 ∷ 115 ∷ 105 ∷ 111 ∷ 110 ∷ 40
-    ∷ (x ++ (44 ∷ 32 ∷ 49 ∷ 69 ∷ 45 ∷ (decimal p ++ (41 ∷ []))))
+    bytes "ST_ReducePrecision(" ++ (x ++ (bytes ", 1E-" ++ (decimal p ++ bytes ")")))
 
 -- Operators. x and y are the texts of t and u; xs and ys those of their own children.
 
 unfoldable pub monadicText : Settings → Op → Tree → List ℕ → List (List ℕ) → List ℕ
 monadicText g o t x xs =
-    pick (isNullable o) (bare (isLiteralOrId t) x ++ (32 ∷ word o))
-    (pick (oneOf o (Neg ∷ Minus ∷ [])) (word o ++ (32 ∷ bare (isLiteralOrId t) x))
+    pick (isNullable o) (bare (isLiteralOrId t) x ++ (bytes " " ++ word o))
+    (pick (oneOf o (Neg ∷ Minus ∷ [])) (word o ++ (bytes " " ++ bare (isLiteralOrId t) x))
     (pick (oneOf o (CaseI ∷ []))
     (pick (isMonadic AccentI t) (getD xs 0 [] ++ collate (g .cai)) (x ++ collate (g .ci)))
     (pick (isMonadic CaseI t) (getD xs 0 [] ++ collate (g .cai)) (x ++ collate (g .ai)))))
@@ -62,16 +61,16 @@ boundText u ys j = pick (isItems u) (getD ys j nullText) nullText
 unfoldable pub dyadicText : Settings → Op → Tree → Tree → List ℕ → List ℕ → List (List ℕ) → List (List ℕ) → List ℕ
 dyadicText g o t u x y xs ys =
     pick (isBetween o)
-    (x ++ (32 ∷ (word o ++ (32 ∷ (boundText u ys 0 ++ (32 ∷ 65 ∷ 78 ∷ 68 ∷ 32 ∷ boundText u ys 1))))))
+    (x ++ (bytes " " ++ (word o ++ (bytes " " ++ (boundText u ys 0 ++ (bytes " AND " ++ boundText u ys 1))))))
     (pick (isSpatial o)
-    (word o ++ (40 ∷ (pick (reduces o t u) (reducePrecision (g .precision) x) x
-    ++ (44 ∷ 32 ∷ (pick (reduces o u t) (reducePrecision (g .precision) y) y ++ (41 ∷ []))))))
+    (word o ++ (bytes "(" ++ (pick (reduces o t u) (reducePrecision (g .precision) x) x
+    ++ (bytes ", " ++ (pick (reduces o u t) (reducePrecision (g .precision) y) y ++ bytes ")")))))
     (pick (isTemporal o)
     (print (λ j. getD (startText t x xs ∷ stopText t xs ∷ startText u y ys ∷ stopText u ys ∷ []) j [])
     (translate (opNumber o) (isInterval t) (isInterval u) (columnsOf t u)))
-    (pick (isArray o) (x ++ (32 ∷ (word o ++ (32 ∷ y))))
-    (pick (oneOf o (IsLike ∷ IsNotLike ∷ [])) (bare (isLiteralOrId t) x ++ (32 ∷ (word o ++ (32 ∷ bare false y))))
-    (bare (isLiteralOrId t) x ++ (32 ∷ (word o ++ (32 ∷ bare (isLiteralOrId u) y))))))))
+    (pick (isArray o) (x ++ (bytes " " ++ (word o ++ (bytes " " ++ y))))
+    (pick (oneOf o (IsLike ∷ IsNotLike ∷ [])) (bare (isLiteralOrId t) x ++ (bytes " " ++ (word o ++ (bytes " " ++ bare false y))))
+    (bare (isLiteralOrId t) x ++ (bytes " " ++ (word o ++ (bytes " " ++ bare (isLiteralOrId u) y))))))))
 
 -- The text; an Interval has none of its own, its ends are written by the operator above it.
 unfoldable mutual

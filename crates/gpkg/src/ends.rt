@@ -8,7 +8,7 @@ ghost use Rattle.emit.specs.Emit.{countLimit};
 ghost use Rattle.emit.specs.Lays.{Lays};
 ghost use Rattle.gpkg.specs.Text.{text};
 ghost use Rattle.tree.specs.Tests.{endsOf};
-ghost use Rattle.gpkg.specs.Plan.{endPiece, pieceOf, flatText, Is, IsOperand, Stands, Are, slot, temporalOf, Node, nodeEnds};
+ghost use Rattle.gpkg.specs.PlanWords.{endPiece, pieceOf, flatText, Is, IsOperand, Stands, Are, slot, temporalOf, Node, nodeEnds};
 ghost use Rattle.tree.specs.Tree.{Tree, Settings};
 ghost use Rattle.sql.specs.Template.{held, fill};
 use crate::records::OPERAND;

@@ -1,16 +1,17 @@
 // What stands around the operands of a node: an operator between its sides, a call, a collation, a list.
 ghost use mathlib.Core.Path.{_≡_};
-ghost use mathlib.Core.List.{[], _∷_};
+ghost use mathlib.Core.List.{[]};
 ghost use mathlib.Core.Bool.{true, false};
 ghost use Prim.Native.Nat.{_+_, _≤_, min};
 ghost use Rattle.record.specs.Record.{le16};
 ghost use lib.ListN.{length, getD};
 ghost use lib.Dec.{eqb};
+ghost use Rattle.prelude.specs.Bytes.{bytes};
 ghost use Rattle.prelude.specs.Choice.{pick, both, negated, between, either};
 ghost use Rattle.emit.specs.Emit.{countLimit};
 ghost use Rattle.emit.specs.Lays.{Lays};
 ghost use Rattle.op.specs.Spelling.{word};
-ghost use Rattle.gpkg.specs.Plan.{collation, precise, Is, twinOf, infixText, reducedText, beforeText, behindText, collationFlags, leftBare, rightBare};
+ghost use Rattle.gpkg.specs.PlanWords.{precise, twinOf, infixText, reducedText, beforeText, behindText, collationFlags, leftBare, rightBare};
 ghost use Rattle.tree.specs.Accepted.{settingsIn};
 ghost use Rattle.tree.specs.Tree.{Tree, encode};
 ghost use Rattle.op.specs.declared.Op.{Op};
@@ -39,6 +40,7 @@ use record::BODY;
 use record::KIND;
 use tree::ARRAY;
 use tree::MONADIC;
+use tree::PRECISION_AT;
 
 // An operator's spelling (`Op::to_sql`), if it has one.
 pub(crate) fn put_word(op: usize, out: &mut [u8], at: usize) -> usize
@@ -205,7 +207,7 @@ fn put_precision(set: &[u8], out: &mut [u8], at: usize) -> usize
     ensures { λ r. ⌜ Lays countLimit at (precise (settingsIn (now (set .entry)) .precision)) (now (out .entry)) (now (out .exit)) r ⌝ }
 {
     let here = emit::put(b"1E-", out, at);
-    literal::put_decimal(record::byte_at(set, 6), out, here)
+    literal::put_decimal(record::byte_at(set, PRECISION_AT), out, here)
 }
 
 // What closes a side with its precision reduced.
@@ -221,7 +223,7 @@ pub(crate) fn put_reduced(reduced: bool, set: &[u8], out: &mut [u8], at: usize) 
 }
 
 pub(crate) fn put_comma(p: usize, out: &mut [u8], at: usize) -> usize
-    ensures { λ r. ⌜ Lays countLimit at (pick (eqb p 0) [] (44 ∷ 32 ∷ [])) (now (out .entry)) (now (out .exit)) r ⌝ }
+    ensures { λ r. ⌜ Lays countLimit at (pick (eqb p 0) [] (bytes ", ")) (now (out .entry)) (now (out .exit)) r ⌝ }
 {
     if p == 0 {
         return emit::ended(at, 0);

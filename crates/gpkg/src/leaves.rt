@@ -4,11 +4,10 @@ ghost use mathlib.Core.List.{_++_};
 ghost use Prim.Native.Nat.{_+_, _<_};
 ghost use Rattle.record.specs.Record.{le16};
 ghost use Rattle.tree.specs.Parse.{nameAt};
-ghost use lib.ListN.{length, getD, drop};
+ghost use lib.ListN.{getD, drop};
 ghost use Rattle.emit.specs.Emit.{countLimit};
 ghost use Rattle.emit.specs.Lays.{Lays};
-ghost use Rattle.gpkg.specs.Text.{text};
-ghost use Rattle.gpkg.specs.Plan.{leafText, collation, nameOf};
+ghost use Rattle.gpkg.specs.PlanWords.{leafText, collation, nameOf};
 ghost use Rattle.tree.specs.Accepted.{settingsIn};
 ghost use Rattle.literal.specs.Literal.{dateText, timestampText, quoted};
 use crate::records::least;
@@ -16,6 +15,7 @@ use crate::records::rest;
 use record::BODY;
 use record::KIND;
 use tree::BOOL;
+use tree::CI_AT;
 use tree::DATE;
 use tree::NULL;
 use tree::NUM;
@@ -24,7 +24,24 @@ use tree::STR;
 use tree::TIMESTAMP;
 use tree::UNBOUNDED;
 
-// The name behind the length byte at p.
+// Where a record's fields stand, each kind's first at its body: a Num's scale, the texts of Str and Spatial, the fields of Date and Timestamp.
+const SCALE: usize = 14;
+
+const STR_TEXT: usize = 7;
+
+const SPATIAL_TEXT: usize = 10;
+
+const MONTH: usize = 8;
+
+const DAY: usize = 9;
+
+const HOUR: usize = 10;
+
+const MINUTE: usize = 11;
+
+const SECOND: usize = 12;
+
+// The name after the length byte at p.
 fn name_at(set: &[u8], p: usize) -> &[u8]
     requires { ⌜ p < 65536 ⌝ }
     ensures { λ r. ⌜ now r ≡ nameAt (now (set .entry)) p ⌝ }
@@ -40,21 +57,20 @@ pub(crate) fn name_of(flags: usize, set: &[u8]) -> &[u8]
     ensures { λ r. ⌜ now r ≡ nameOf (settingsIn (now (set .entry))) flags ⌝ }
 {
     if flags == 1 {
-        return name_at(set, 7);
+        return name_at(set, CI_AT);
     }
-    let ai = 8 + record::byte_at(set, 7);
     if flags == 2 {
-        return name_at(set, ai);
+        return name_at(set, tree::ai_at(set));
     }
-    name_at(set, ai + 1 + record::byte_at(set, ai))
+    name_at(set, tree::cai_at(set))
 }
 
 // A text in quotes, with the collation that its flags ask for.
 fn qstr_to_sql(s: &[u8], set: &[u8], out: &mut [u8], at: usize) -> usize
     ensures { λ r. ⌜ Lays countLimit at (quoted (drop 7 (now (s .entry))) ++ collation (settingsIn (now (set .entry))) (getD (now (s .entry)) 6 0)) (now (out .entry)) (now (out .exit)) r ⌝ }
 {
-    let end = literal::put_quoted(rest(s, 7), out, at);
-    let flags = record::byte_at(s, 6);
+    let end = literal::put_quoted(rest(s, STR_TEXT), out, at);
+    let flags = record::byte_at(s, BODY);
     if flags == 0 {
         return end;
     }
@@ -64,19 +80,25 @@ fn qstr_to_sql(s: &[u8], set: &[u8], out: &mut [u8], at: usize) -> usize
 fn put_date(s: &[u8], out: &mut [u8], at: usize) -> usize
     ensures { λ r. ⌜ Lays countLimit at (dateText (le16 (now (s .entry)) 6) (getD (now (s .entry)) 8 0) (getD (now (s .entry)) 9 0)) (now (out .entry)) (now (out .exit)) r ⌝ }
 {
-    let y = record::word_at(s, 6);
-    literal::put_date(y, record::byte_at(s, 8), record::byte_at(s, 9), out, at)
+    let y = record::word_at(s, BODY);
+    literal::put_date(
+        y,
+        record::byte_at(s, MONTH),
+        record::byte_at(s, DAY),
+        out,
+        at,
+    )
 }
 
 fn put_timestamp(s: &[u8], out: &mut [u8], at: usize) -> usize
     ensures { λ r. ⌜ Lays countLimit at (timestampText (le16 (now (s .entry)) 6) (getD (now (s .entry)) 8 0) (getD (now (s .entry)) 9 0) (getD (now (s .entry)) 10 0) (getD (now (s .entry)) 11 0) (getD (now (s .entry)) 12 0)) (now (out .entry)) (now (out .exit)) r ⌝ }
 {
-    let y = record::word_at(s, 6);
-    let m = record::byte_at(s, 8);
-    let d = record::byte_at(s, 9);
-    let hour = record::byte_at(s, 10);
-    let minute = record::byte_at(s, 11);
-    literal::put_timestamp(y, m, d, hour, minute, record::byte_at(s, 12), out, at)
+    let y = record::word_at(s, BODY);
+    let m = record::byte_at(s, MONTH);
+    let d = record::byte_at(s, DAY);
+    let hour = record::byte_at(s, HOUR);
+    let minute = record::byte_at(s, MINUTE);
+    literal::put_timestamp(y, m, d, hour, minute, record::byte_at(s, SECOND), out, at)
 }
 
 // The text of a node without operands.
@@ -86,17 +108,17 @@ pub(crate) fn put_leaf(s: &[u8], set: &[u8], out: &mut [u8], at: usize) -> usize
     match record::word_at(s, KIND) {
         NULL => emit::put(b"NULL", out, at),
         UNBOUNDED => literal::put_unbounded(out, at),
-        BOOL => literal::put_bool(record::byte_at(s, 6) == 1, out, at),
+        BOOL => literal::put_bool(record::byte_at(s, BODY) == 1, out, at),
         NUM => literal::put_num(
-            tree::mantissa_at(s, 6),
-            record::byte_at(s, 14) as u8,
+            tree::mantissa_at(s, BODY),
+            record::byte_at(s, SCALE) as u8,
             out,
             at,
         ),
         STR => qstr_to_sql(s, set, out, at),
         DATE => put_date(s, out, at),
         TIMESTAMP => put_timestamp(s, out, at),
-        SPATIAL => literal::put_spatial(record::dword_at(s, 6), rest(s, 10), out, at),
+        SPATIAL => literal::put_spatial(record::dword_at(s, BODY), rest(s, SPATIAL_TEXT), out, at),
         _ => emit::put(rest(s, BODY), out, at),
     }
 }

@@ -9,7 +9,7 @@ ghost use Rattle.emit.specs.Emit.{countLimit};
 ghost use Rattle.emit.specs.Lays.{Lays};
 ghost use Rattle.gpkg.specs.Text.{text, texts, joined};
 ghost use Rattle.op.specs.Spelling.{word};
-ghost use Rattle.gpkg.specs.Plan.{sound, sounds, temporalOf, Bound, Node};
+ghost use Rattle.gpkg.specs.PlanWords.{sound, sounds, temporalOf, Bound, Node};
 ghost use Rattle.tree.specs.Accepted.{settingsIn};
 ghost use Rattle.tree.specs.Tree.{Tree, Trees, encode, encodes};
 use crate::ends::Piece;

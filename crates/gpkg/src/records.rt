@@ -7,7 +7,7 @@ ghost use lib.ListN.{length, drop};
 ghost use lib.Dec.{eqb};
 ghost use Rattle.prelude.specs.Choice.{between};
 ghost use Rattle.tree.specs.Tests.{isLiteral, isLiteralOrId};
-ghost use Rattle.gpkg.specs.Plan.{EndOf};
+ghost use Rattle.gpkg.specs.PlanWords.{EndOf};
 ghost use Rattle.tree.specs.Tree.{Tree, encode};
 use record::BODY;
 use record::KIND;

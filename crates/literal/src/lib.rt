@@ -1,9 +1,7 @@
 // The texts of the leaves (src/ds/gpkg.rs, `to_sql_impl` and `qstr_to_sql`), each written whole or not at all.
 ghost use mathlib.Core.Path.{_≡_};
-ghost use Prim.Native.Nat.{ℕ, _+_, _/_, _%_, _^_, _≤_, _<_};
-ghost use mathlib.Core.List.{_++_};
+ghost use Prim.Native.Nat.{_+_, _/_, _%_, _^_, _≤_, _<_};
 ghost use lib.ListN.{length};
-ghost use lib.Dec.{ltb};
 ghost use lib.IntN.{natAbs};
 ghost use Rattle.literal.specs.Literal.{boolText, unboundedText, low, decimal, plain, sign, numText, quoted, collate, date, clock, dateText, timestampText, spatialText};
 ghost use Rattle.literal.specs.LiteralLaws.{shown};

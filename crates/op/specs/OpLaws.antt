@@ -1,5 +1,5 @@
 -- Laws of specs/Op.antt: a number and its operator go both ways, and a test computed over all 53 holds of each.
-use Prim.Native.Nat.{ℕ, zero, suc, _+_, _<_}
+use Prim.Native.Nat.{ℕ, zero, suc, _<_}
 use mathlib.Core.Path.{_≡_, refl, sym, _∙_, ap, subst}
 use mathlib.Core.List.{List, [], _∷_, map}
 use mathlib.Core.Bool.{Bool, true, false}
@@ -11,8 +11,7 @@ use Rattle.prelude.specs.Table.{both-left, both-right, at}
 use native.Mathlib.Omega.{arith}
 use Rattle.op.specs.declared.Op.{Op}
 use Rattle.op.specs.declared.Op.the-variants.{Plus, Minus, Mult, Div, IntDiv, Mod, Exp, Neg, Eq, Neq, Lt, Gt, Lte, Gte, And, Or, CaseI, AccentI, SIntersects, SEquals, SDisjoint, STouches, SWithin, SOverlaps, SCrosses, SContains, TAfter, TBefore, TContains, TDisjoint, TDuring, TEquals, TFinishedBy, TFinishes, TIntersects, TMeets, TMetBy, TOverlappedBy, TOverlaps, TStartedBy, TStarts, AEquals, AContains, AContainedBy, AOverlaps, IsLike, IsNotLike, IsBetween, IsNotBetween, IsInList, IsNotInList, IsNull, IsNotNull}
-use Rattle.op.specs.declared.Named.{Named}
-use Rattle.op.specs.declared.Named.the-variants.{Is, NoOp}
+use Rattle.op.specs.declared.Named.the-variants.{Is}
 use Rattle.op.specs.Op.{opNumber, operators, opAt, opOf}
 
 pub number-of : (o : Op) → opOf (opNumber o) ≡ Is o

@@ -1,7 +1,6 @@
 ghost use mathlib.Core.Path.{_≡_};
 ghost use Prim.Native.Nat.{_≤_, _<_};
 ghost use mathlib.Core.Bool.{true, false};
-ghost use lib.ListN.{length};
 ghost use Rattle.prelude.specs.Choice.{between};
 ghost use Rattle.op.specs.Op.{opNumber, opOf, isArithmetic, isArray, isComparison, isXtdComparison, isSpatial, isTemporal, isInstantOrInterval, isNullable};
 ghost use Rattle.op.specs.Spelling.{word};

@@ -38,3 +38,8 @@ same [] [] = true
 same [] (y ∷ t) = false
 same (x ∷ s) [] = false
 same (x ∷ s) (y ∷ t) = pick (eqb x y) (same s t) false
+
+-- a number's entry in a table, or, if it has none, the value given for all others
+abbrev pub entryAt : {A : Type 0} → List (ℕ × A) → A → ℕ → A
+entryAt [] a n = a
+entryAt (row ∷ rows) a n = pick (eqb n (row .0)) (row .1) (entryAt rows a n)

@@ -5,7 +5,6 @@ use mathlib.Core.List.{List, [], _∷_, _++_}
 use mathlib.Core.Bool.{Bool, true, false}
 use lib.Dec.{eqb}
 use lib.IntN.{pos}
-use lib.ListN.{replicate}
 use Rattle.prelude.specs.Bytes.{bytes}
 use Rattle.prelude.specs.Choice.{both, same}
 use Rattle.refusal.specs.Number.{numberOf}
@@ -27,9 +26,9 @@ pub data Sheet : Type 0 where
 abbrev pub settings : List ℕ
 settings = 13 ∷ 0 ∷ 0 ∷ 0 ∷ 100 ∷ 0 ∷ 7 ∷ 2 ∷ (bytes "NC" ++ (2 ∷ (bytes "NA" ++ (3 ∷ bytes "NCA"))))
 
--- a buffer that is long enough for each
-abbrev pub buffer : List ℕ
-buffer = replicate 100 0
+-- the bytes of a buffer that is long enough for each
+abbrev pub room : ℕ
+room = 100
 
 abbrev pub isText : Read (List ℕ) → List ℕ → Bool
 isText (refused n) x = false
@@ -47,8 +46,8 @@ code Unknown = 103
 code (Refused n) = numberOf n
 
 abbrev pub right : Sheet → Bool
-right (lowers s x) = isText (lowering settings s buffer) x
-right (refuses s r) = isRefusal (lowering settings s buffer) r
+right (lowers s x) = isText (lowering settings s room) x
+right (refuses s r) = isRefusal (lowering settings s room) r
 right (reads x row r) = eqb (code (readingOf x row)) (code r)
 
 abbrev pub all : List Sheet → Bool

@@ -1,8 +1,8 @@
 -- The fifteen `t_…_sql` of src/ds/gpkg.rs: the condition of a temporal operator, by whether each operand is an interval and which ends are columns.
 use Prim.Native.Nat.{ℕ}
+use mathlib.Core.List.{[], _∷_}
 use mathlib.Core.Bool.{Bool, true, false}
-use lib.Dec.{eqb}
-use Rattle.prelude.specs.Choice.{pick}
+use Rattle.prelude.specs.Choice.{entryAt}
 use Rattle.sql.specs.Condition.{Cond, test, and, or, not, brackets, lt, gt, eq, ne, checkId, checkIds}
 
 -- whether the first and the second operand is an interval; which ends are columns
@@ -76,19 +76,9 @@ tStarts a b column = and (brackets (test 0 eq 2)) (brackets (test 1 lt 3))
 
 -- the translator of a temporal operator, by the operator's number: 26 (TAfter) to 40 (TStarts)
 unfoldable pub translate : ℕ → Translator
-translate n =
-    pick (eqb n 26) tAfter
-    (pick (eqb n 27) tBefore
-    (pick (eqb n 28) tContains
-    (pick (eqb n 29) tDisjoint
-    (pick (eqb n 30) tDuring
-    (pick (eqb n 31) tEquals
-    (pick (eqb n 32) tFinishedBy
-    (pick (eqb n 33) tFinishes
-    (pick (eqb n 34) tIntersects
-    (pick (eqb n 35) tMeets
-    (pick (eqb n 36) tMetBy
-    (pick (eqb n 37) tOverlappedBy
-    (pick (eqb n 38) tOverlaps
-    (pick (eqb n 39) tStartedBy
-    tStarts)))))))))))))
+translate =
+    entryAt
+    ((26, tAfter) ∷ (27, tBefore) ∷ (28, tContains) ∷ (29, tDisjoint) ∷ (30, tDuring) ∷ (31, tEquals)
+    ∷ (32, tFinishedBy) ∷ (33, tFinishes) ∷ (34, tIntersects) ∷ (35, tMeets) ∷ (36, tMetBy) ∷ (37, tOverlappedBy)
+    ∷ (38, tOverlaps) ∷ (39, tStartedBy) ∷ [])
+    tStarts

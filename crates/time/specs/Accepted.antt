@@ -14,11 +14,11 @@ use Rattle.truth.specs.Reading.{rowLimit}
 pub record Lowers (t : Tree) (x : List ℕ) : Type 0 where
   pub settings : List ℕ
   pub tree : List ℕ
-  pub buffer : List ℕ
+  pub room : ℕ
   pub bytes : Bytes tree
   pub holds : Settings
   pub read : accepted settings tree ≡ got (holds, t)
-  pub lowered : lowering settings tree buffer ≡ got x
+  pub lowered : lowering settings tree room ≡ got x
 
 -- A row that passes 10 and 11 has these columns.
 pub record IsRow (row : List ℕ) (cs : List Column) : Type 0 where

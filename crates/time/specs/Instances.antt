@@ -6,7 +6,6 @@ use mathlib.Core.List.{List, [], _∷_, _++_}
 use mathlib.Core.Bool.{true}
 use native.Mathlib.Omega.{arith}
 use lib.Dec.{ltb}
-use lib.ListN.{replicate}
 use borrow.Author.Tests.{ltb-true}
 use Rattle.prelude.specs.Bytes.{bytes}
 use Rattle.prelude.specs.Choice.{all}
@@ -66,14 +65,14 @@ bytes-by (b ∷ s) e = let h = both-true (ltb b 256) (all (λ b. ltb b 256) s) e
 abbrev settings : Settings
 settings = record { precision = 7; ci = bytes "NC"; ai = bytes "NA"; cai = bytes "NCA" }
 
-abbrev buffer : List ℕ
-buffer = replicate 100 0
+abbrev room : ℕ
+room = 100
 
 -- a tree whose bytes are accepted and lowered
 lowers-by : (t : Tree) → all (λ b. ltb b 256) (encode t) ≡ true → accepted (encodeSettings settings) (encode t) ≡ got (settings, t)
-    → lowering (encodeSettings settings) (encode t) buffer ≡ got (gpkg-text.text settings t) → Lowers t (gpkg-text.text settings t)
+    → lowering (encodeSettings settings) (encode t) room ≡ got (gpkg-text.text settings t) → Lowers t (gpkg-text.text settings t)
 lowers-by t b r l =
-    record { settings = encodeSettings settings; tree = encode t; buffer = buffer; bytes = bytes-by (encode t) b; holds = settings; read = r; lowered = l }
+    record { settings = encodeSettings settings; tree = encode t; room = room; bytes = bytes-by (encode t) b; holds = settings; read = r; lowered = l }
 
 abbrev a : Tree
 a = id (bytes "a")

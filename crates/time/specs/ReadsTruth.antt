@@ -51,9 +51,9 @@ pub record Parts (t : Tree) (x : List ℕ) : Type 0 where
   pub good : Good t depthLimit
   pub in-place : placed t ≡ true
 
-fitted-is : (out x y : List ℕ) → fitted out x ≡ got y → (x ≡ y) × (length x ≤ lengthLimit)
+fitted-is : (room : ℕ) (x y : List ℕ) → fitted room x ≡ got y → (x ≡ y) × (length x ≤ lengthLimit)
 unfolding fitted
-fitted-is out x y e = go (ltb lengthLimit (length x)) (ltb (length out) (length x)) refl e
+fitted-is room x y e = go (ltb lengthLimit (length x)) (ltb room (length x)) refl e
   where
     go : (b c : Bool) → ltb lengthLimit (length x) ≡ b → pick b (refused TextTooLong) (pick c (refused BufferTooShort) (got x)) ≡ got y → (x ≡ y) × (length x ≤ lengthLimit)
     go true c p q = not-got TextTooLong y q
@@ -85,8 +85,8 @@ pub parts : {t : Tree} {x : List ℕ} → Lowers t x → Parts t x
 unfolding lowering also
 parts {t} {x} L =
     let a = accepted-is (L .settings) (L .tree) (L .holds, t) (L .read) in
-    let e : fitted (L .buffer) (gpkg.text (L .holds) t) ≡ got x = rw (L .read) at (L .lowered) in
-    let f = fitted-is (L .buffer) (gpkg.text (L .holds) t) x e in
+    let e : fitted (L .room) (gpkg.text (L .holds) t) ≡ got x = rw (L .read) at (L .lowered) in
+    let f = fitted-is (L .room) (gpkg.text (L .holds) t) x e in
     record {
       with = L .holds;
       text-is = sym (f .0);

@@ -9,6 +9,14 @@ ghost use Rattle.tree.specs.Parse.{signed, mantissa, namedAt, boolBody, 
 ghost use Rattle.tree.specs.Placed.{isBetween};
 ghost use Rattle.tree.specs.Accepted.{aiAt, caiAt, settingsBody, isSettings, accepted, verdict};
 ghost use Rattle.tree.specs.WalkWords.{seen, seenOne, seenTwo, seenAll, firstOf, taken, plainShape, pairShape, intervalShape, soundShape, fits, orMisplaced, leafOne, monadicOne, dyadicOne, functionOne, arrayOne, intervalOne};
+use op::ACCENT_I;
+use op::CASE_I;
+use op::IS_BETWEEN;
+use op::IS_NOT_BETWEEN;
+use op::IS_NOT_NULL;
+use op::IS_NULL;
+use op::MINUS;
+use op::NEG;
 use op::Named;
 use op::Op;
 use record::Frame;
@@ -42,23 +50,6 @@ pub const FUNCTION: usize = 11;
 pub const ARRAY: usize = 12;
 
 pub const INTERVAL: usize = 13;
-
-// The operators that the kinds and refusal 7 single out, by number.
-const MINUS: usize = 1;
-
-const NEG: usize = 7;
-
-const CASE_I: usize = 16;
-
-const ACCENT_I: usize = 17;
-
-const IS_BETWEEN: usize = 47;
-
-const IS_NOT_BETWEEN: usize = 48;
-
-const IS_NULL: usize = 51;
-
-const IS_NOT_NULL: usize = 52;
 
 // Document 01's limits.
 const TREE_LIMIT: usize = 32768;

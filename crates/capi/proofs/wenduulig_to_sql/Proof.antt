@@ -1,16 +1,16 @@
 -- `capi::wenduulig_to_sql` meets its contract: the number of what `gpkg::to_sql` answers, and the buffer as that leaves it.
 use mathlib.Core.Path.{_≡_, sym, ap, _∙_}
 use Rattle.gpkg.specs.declared.Lowered.{Lowered}
-use Rattle.gpkg.specs.Lowered.{heard}
+use Rattle.gpkg.specs.Lowered.{Heard, heard}
 use Rattle.capi.specs.Numbers.{loweringNumber}
 use Rattle.capi.proofs.Laws.{wide-fits, back64, short, length-fits, length-back}
 use borrow.Author.Needs.{needs}
 use Rattle.capi.proofs.wenduulig_to_sql.Statement.{statement}
 use Rattle.capi.proofs.wenduulig_to_sql.Tie as tie
 
--- the number of the answer that the code found, which is the answer of the definition
-numbered : {found said case : Lowered} → found ≡ said → found ≡ case → loweringNumber (heard case) ≡ loweringNumber (heard said)
-numbered e f = ap (λ (r : Lowered). loweringNumber (heard r)) (sym f ∙ e)
+-- the number of the answer that the code found, of which is heard what the definition says
+numbered : {found case : Lowered} {said : Heard} → heard found ≡ said → found ≡ case → loweringNumber (heard case) ≡ loweringNumber said
+numbered e f = ap (λ (r : Lowered). loweringNumber (heard r)) (sym f) ∙ ap loweringNumber e
 
 to-sql-requires : tie.Need-to-sql-requires
 to-sql-requires c κs = search needs
@@ -35,14 +35,14 @@ same-length c = search needs
 
 returns : tie.Need-returns
 returns c =
-    (length-back _ (short _ _ _ _ (sym (c .before .before .before .before .before .to-sql .ensures .0) ∙ c .before .n .given .1)) ∙ numbered (c .before .before .before .before .before .to-sql .ensures .0) (c .before .n .given .1), c .before .before .before .before .before .to-sql .ensures .1 .0)
+    (length-back _ (short _ _ _ _ (sym (c .before .before .before .before .before .to-sql .ensures .0) ∙ c .before .n .given .1)) ∙ numbered (c .before .before .before .before .before .to-sql .ensures .1 .1) (c .before .n .given .1), c .before .before .before .before .before .to-sql .ensures .1 .0)
 
 same-length-2 : tie.Need-same-length-2
 same-length-2 c = search needs
 
 returns-2 : tie.Need-returns-2
 returns-2 c =
-    (back64 (c .negative .ensures .0) (c .negative .ensures .1) ∙ numbered (c .before .before .before .before .before .before .to-sql .ensures .0) (c .before .before .r .given .1), c .before .before .before .before .before .before .to-sql .ensures .1 .0)
+    (back64 (c .negative .ensures .0) (c .negative .ensures .1) ∙ numbered (c .before .before .before .before .before .before .to-sql .ensures .1 .1) (c .before .before .r .given .1), c .before .before .before .before .before .before .to-sql .ensures .1 .0)
 
 pub wenduulig-to-sql-spec : {M : Type 1} → statement M
 wenduulig-to-sql-spec =

@@ -6,9 +6,6 @@ use Prim.Native.Nat.{_+_, min}
 use borrow.Author.Needs.{needs}
 use Rattle.emit.proofs.lacks_room.Statement.{statement}
 use Rattle.emit.proofs.lacks_room.Tie as tie
-use Rattle.emit.proofs.lacks_room.Reads as reads
-use Rattle.emit.proofs.lacks_room.Lts as lts
-use Rattle.emit.proofs.least.Reads as least-reads
 
 least-requires : tie.Need-least-requires
 least-requires c κs = search needs

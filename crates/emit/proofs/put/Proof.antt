@@ -1,14 +1,10 @@
 -- Where there is room the copy is the write, else nothing is changed; the end is the sum, or the cap.
 use native.Mathlib.Omega.{arith}
 use mathlib.Core.Path.{sym, _∙_}
-use lib.ListN.{length}
 use Rattle.emit.specs.EmitLaws.{placed-fits, placed-over, placed-past}
 use borrow.Author.Needs.{needs}
 use Rattle.emit.proofs.put.Statement.{statement}
 use Rattle.emit.proofs.put.Tie as tie
-use Rattle.emit.proofs.put.Reads as reads
-use Rattle.emit.proofs.put.Lts as lts
-use Rattle.emit.proofs.copy.Reads as copy-reads
 
 returns : tie.Need-returns
 returns c = let i = c .before .before .before .args in record { laid = sym (placed-past 65536 (i .out .now) (i .at) (i .s .now) (c .if1 .taken)); end = omega arith }

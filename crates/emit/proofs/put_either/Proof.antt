@@ -2,9 +2,6 @@
 use borrow.Author.Needs.{needs}
 use Rattle.emit.proofs.put_either.Statement.{statement}
 use Rattle.emit.proofs.put_either.Tie as tie
-use Rattle.emit.proofs.put_either.Reads as reads
-use Rattle.emit.proofs.put_either.Lts as lts
-use Rattle.emit.proofs.put.Reads as put-reads
 
 put-requires : tie.Need-put-requires
 put-requires c κs = search needs

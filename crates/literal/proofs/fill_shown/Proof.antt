@@ -1,7 +1,7 @@
 -- `literal::fill_shown` meets its contract: the fraction, the point and the whole part fill the three parts of the text.
 use native.Mathlib.Omega.{arith}
 use mathlib.Core.Path.{_≡_, refl, ap, sym, _∙_}
-use mathlib.Core.List.{List, _∷_, _++_}
+use mathlib.Core.List.{List, _++_}
 use Prim.Native.Nat.{ℕ, _+_, _-_, _/_, _^_}
 use lib.ListN.{length, take, drop, set, length-set, length-append}
 use borrow.Author.Needs.{needs}

@@ -1,7 +1,5 @@
 -- `literal::put_date` meets its contract: the ten bytes in quotes.
-use mathlib.Core.Path.{ap, _∙_}
-use mathlib.Core.List.{List}
-use Prim.Native.Nat.{ℕ}
+use mathlib.Core.Path.{ap}
 use borrow.Author.Needs.{needs}
 use Rattle.literal.specs.Literal.{quoted}
 use Rattle.emit.specs.EmitLaws.{puts-of}

@@ -1,7 +1,6 @@
 -- `literal::put_quoted` meets its contract: a quotation mark, the text, a quotation mark.
 use native.Mathlib.Omega.{arith}
 use mathlib.Core.Path.{sym}
-use mathlib.Core.List.{[], _∷_}
 use borrow.Author.Needs.{needs}
 use Rattle.prelude.specs.Bytes.{bytes}
 use Rattle.literal.specs.Literal.{quoted}

@@ -1,7 +1,5 @@
 -- `literal::put_sign` meets its contract: the minus where m is below zero, else nothing.
-use mathlib.Core.Path.{ap, sym, _∙_}
-use mathlib.Core.List.{List}
-use Prim.Native.Nat.{ℕ}
+use mathlib.Core.Path.{ap, sym}
 use borrow.Author.Needs.{needs}
 use Rattle.literal.specs.Literal.{sign}
 use Rattle.emit.specs.Emit.{countLimit}

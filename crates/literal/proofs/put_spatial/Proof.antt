@@ -1,7 +1,7 @@
 -- `literal::put_spatial` meets its contract: five texts, each behind the one before.
 use native.Mathlib.Omega.{arith}
 use mathlib.Core.Path.{_≡_}
-use mathlib.Core.List.{[], _∷_, append-assoc}
+use mathlib.Core.List.{append-assoc}
 use Prim.Native.Nat.{_+_}
 use lib.ListN.{length, length-append}
 use borrow.Author.Needs.{needs}

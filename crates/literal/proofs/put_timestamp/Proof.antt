@@ -1,7 +1,7 @@
 -- `literal::put_timestamp` meets its contract: a quotation mark, the date, a T, the time of day, a quotation mark.
 use native.Mathlib.Omega.{arith}
 use mathlib.Core.Path.{_≡_, ap, sym, _∙_}
-use mathlib.Core.List.{List, [], _∷_, _++_, append-assoc}
+use mathlib.Core.List.{List, _++_, append-assoc}
 use Prim.Native.Nat.{ℕ}
 use lib.ListN.{length, length-append}
 use borrow.Author.Needs.{needs}

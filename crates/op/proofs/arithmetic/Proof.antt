@@ -1,5 +1,4 @@
 -- `op::arithmetic` meets its contract: the class is a range of numbers.
-use mathlib.Core.Path.{_∙_, sym}
 use borrow.Author.Needs.{needs}
 use Rattle.op.proofs.Laws as laws
 use Rattle.op.proofs.arithmetic.Statement.{statement}

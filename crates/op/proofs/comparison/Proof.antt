@@ -1,7 +1,5 @@
 -- `op::comparison` meets its contract: the class is some ranges of numbers.
-use mathlib.Core.Path.{_∙_, sym}
 use borrow.Author.Needs.{needs}
-use borrow.Author.Tests.{eq-eqb, ne-eqb}
 use Rattle.op.proofs.Laws as laws
 use Rattle.op.proofs.comparison.Statement.{statement}
 use Rattle.op.proofs.comparison.Tie as tie

@@ -1,5 +1,4 @@
 -- `op::instant_or_interval` meets its contract: the class is some ranges of numbers.
-use mathlib.Core.Path.{_∙_, sym}
 use borrow.Author.Needs.{needs}
 use borrow.Author.Tests.{eq-eqb, ne-eqb}
 use Rattle.op.proofs.Laws as laws

@@ -1,18 +1,9 @@
 use native.Mathlib.Omega.{arith}
-use mathlib.Core.Path.{_≡_, refl, ap, sym, _∙_}
-use Rattle.sql.proofs.Laws.{then, one-guard, two-guards, either-or}
-use Rattle.sql.specs.Ends.{isColumn, columns}
-use Rattle.sql.specs.Condition.{test, lt, gt, eq, ne, print, checkId, checkIds}
-use Rattle.sql.specs.Template.{spelt, partOf, parts, guardedText, guardedBothText, checkIdText, checkIdsText, eitherText, templateOf, held}
-use Rattle.sql.specs.Translators.{tAfter, tBefore, tContains, tDisjoint, tDuring, tEquals, tFinishedBy, tFinishes, tIntersects, tMeets, tMetBy, tOverlappedBy, tOverlaps, tStartedBy, tStarts, translate}
+use mathlib.Core.Path.{sym, _∙_}
+use Rattle.sql.specs.Template.{checkIdText}
 use borrow.Author.Needs.{needs}
 use Rattle.sql.proofs.check_id.Statement.{statement}
 use Rattle.sql.proofs.check_id.Tie as tie
-use Rattle.sql.proofs.check_id.Reads as reads
-use Rattle.sql.proofs.check_id.Lts as lts
-use Rattle.sql.proofs.guarded.Reads as guarded-reads
-use Rattle.sql.proofs.is_column.Reads as is-column-reads
-use Rattle.sql.proofs.sql.Reads as sql-reads
 
 is-column-requires : tie.Need-is-column-requires
 is-column-requires c κs = search needs

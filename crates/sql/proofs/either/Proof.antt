@@ -1,20 +1,13 @@
 use native.Mathlib.Omega.{arith}
-use mathlib.Core.Path.{_≡_, refl, ap, sym, _∙_}
-use Rattle.sql.proofs.Laws.{then, one-guard, two-guards, either-or}
-use Rattle.sql.specs.Ends.{isColumn, columns}
-use Rattle.sql.specs.Condition.{test, lt, gt, eq, ne, print, checkId, checkIds}
-use Rattle.sql.specs.Template.{spelt, partOf, parts, guardedText, guardedBothText, checkIdText, checkIdsText, eitherText, templateOf, held}
-use Rattle.sql.specs.Translators.{tAfter, tBefore, tContains, tDisjoint, tDuring, tEquals, tFinishedBy, tFinishes, tIntersects, tMeets, tMetBy, tOverlappedBy, tOverlaps, tStartedBy, tStarts, translate}
+use mathlib.Core.Path.{_≡_, sym, _∙_}
+use Rattle.sql.proofs.Laws.{then}
+use Rattle.sql.specs.Template.{spelt, partOf, parts, eitherText}
 use lib.ListN.{length}
 use lib.Seq.{length-take-le}
 use mathlib.Core.List.{append-assoc}
 use borrow.Author.Needs.{needs}
 use Rattle.sql.proofs.either.Statement.{statement}
 use Rattle.sql.proofs.either.Tie as tie
-use Rattle.sql.proofs.either.Reads as reads
-use Rattle.sql.proofs.either.Lts as lts
-use Rattle.sql.proofs.push.Reads as push-reads
-use Rattle.sql.proofs.sql.Reads as sql-reads
 
 slice-aggregate-sql : tie.Need-slice-aggregate-sql
 slice-aggregate-sql c = search needs

@@ -1,14 +1,10 @@
 use native.Mathlib.Omega.{arith}
-use mathlib.Core.Path.{_≡_, refl, ap, sym, _∙_}
-use Rattle.sql.proofs.Laws.{then, one-front, two-fronts}
-use Rattle.sql.specs.Template.{spelt, partOf, parts, guardedText, guardedBothText}
+use mathlib.Core.Path.{_∙_}
+use Rattle.sql.proofs.Laws.{then, one-front}
+use Rattle.sql.specs.Template.{spelt, partOf, parts, guardedText}
 use borrow.Author.Needs.{needs}
 use Rattle.sql.proofs.guarded.Statement.{statement}
 use Rattle.sql.proofs.guarded.Tie as tie
-use Rattle.sql.proofs.guarded.Reads as reads
-use Rattle.sql.proofs.guarded.Lts as lts
-use Rattle.sql.proofs.push.Reads as push-reads
-use Rattle.sql.proofs.sql.Reads as sql-reads
 
 slice-aggregate-sql : tie.Need-slice-aggregate-sql
 slice-aggregate-sql c = search needs

@@ -1,19 +1,17 @@
 -- What is held so far: what the template held, and the first k codes of s.
 use borrow.Author.Needs.{needs}
 use native.Mathlib.Omega.{arith}
-use mathlib.Core.Path.{_≡_, refl, ap, sym, _∙_}
-use mathlib.Core.List.{List, [], _∷_, _++_, append-nil}
+use mathlib.Core.Path.{_≡_, ap, _∙_}
+use mathlib.Core.List.{List, _++_, append-nil}
 use Prim.Native.Nat.{ℕ, _+_, _-_, _≤_}
 use native.Mathlib.Nat.{add-zero}
-use lib.ListN.{getD, length, take, set, length-set}
+use lib.ListN.{length, take, length-set}
 use lib.Seq.{take-all}
 use Rattle.sql.proofs.Laws.{grow}
 use Rattle.sql.specs.TemplateLaws.{spelt-append}
 use Rattle.sql.specs.Template.{spelt}
 use Rattle.sql.proofs.push.Statement.{statement}
 use Rattle.sql.proofs.push.Tie as tie
-use Rattle.sql.proofs.push.Reads as reads
-use Rattle.sql.proofs.push.Lts as lts
 
 abbrev Inv-loop : tie.InvT-loop
 Inv-loop s codes₀ n k₀ codes k = (k ≤ length s) × (length codes ≡ 24) × (take (n + k) codes ≡ take n codes₀ ++ take k s)

@@ -1,18 +1,13 @@
 use native.Mathlib.Omega.{arith}
-use mathlib.Core.Path.{_≡_, refl, ap, sym, _∙_}
-use Rattle.sql.proofs.Laws.{then, one-guard, two-guards, either-or}
-use Rattle.sql.specs.Ends.{isColumn, columns}
-use Rattle.sql.specs.Condition.{test, lt, gt, eq, ne, print, checkId, checkIds}
-use Rattle.sql.specs.Template.{spelt, partOf, parts, guardedText, guardedBothText, checkIdText, checkIdsText, eitherText, templateOf, held}
-use Rattle.sql.specs.Translators.{tAfter, tBefore, tContains, tDisjoint, tDuring, tEquals, tFinishedBy, tFinishes, tIntersects, tMeets, tMetBy, tOverlappedBy, tOverlaps, tStartedBy, tStarts, translate}
+use mathlib.Core.Path.{_∙_}
+use Rattle.sql.proofs.Laws.{one-guard, two-guards}
+use Rattle.sql.specs.Ends.{columns}
+use Rattle.sql.specs.Condition.{test, gt, print}
+use Rattle.sql.specs.Template.{spelt, partOf, parts}
+use Rattle.sql.specs.Translators.{tAfter}
 use borrow.Author.Needs.{needs}
 use Rattle.sql.proofs.t_after_sql.Statement.{statement}
 use Rattle.sql.proofs.t_after_sql.Tie as tie
-use Rattle.sql.proofs.t_after_sql.Reads as reads
-use Rattle.sql.proofs.t_after_sql.Lts as lts
-use Rattle.sql.proofs.check_id.Reads as check-id-reads
-use Rattle.sql.proofs.check_ids.Reads as check-ids-reads
-use Rattle.sql.proofs.sql.Reads as sql-reads
 
 array-copy-out-e1 : tie.Need-array-copy-out-e1
 array-copy-out-e1 c = search needs

@@ -1,31 +1,9 @@
 use native.Mathlib.Omega.{arith}
-use mathlib.Core.Path.{_≡_, refl, ap, sym, _∙_}
-use Rattle.sql.proofs.Laws.{then, one-guard, two-guards, either-or}
-use Rattle.sql.specs.Ends.{isColumn, columns}
-use Rattle.sql.specs.Condition.{test, lt, gt, eq, ne, print, checkId, checkIds}
-use Rattle.sql.specs.Template.{spelt, partOf, parts, guardedText, guardedBothText, checkIdText, checkIdsText, eitherText, templateOf, held}
-use Rattle.sql.specs.Translators.{tAfter, tBefore, tContains, tDisjoint, tDuring, tEquals, tFinishedBy, tFinishes, tIntersects, tMeets, tMetBy, tOverlappedBy, tOverlaps, tStartedBy, tStarts, translate}
+use Rattle.sql.specs.Translators.{translate}
 use borrow.Author.Tests.{ne-eqb}
 use borrow.Author.Needs.{needs}
 use Rattle.sql.proofs.temporal_sql.Statement.{statement}
 use Rattle.sql.proofs.temporal_sql.Tie as tie
-use Rattle.sql.proofs.temporal_sql.Reads as reads
-use Rattle.sql.proofs.temporal_sql.Lts as lts
-use Rattle.sql.proofs.t_after_sql.Reads as t-after-sql-reads
-use Rattle.sql.proofs.t_before_sql.Reads as t-before-sql-reads
-use Rattle.sql.proofs.t_contains_sql.Reads as t-contains-sql-reads
-use Rattle.sql.proofs.t_disjoint_sql.Reads as t-disjoint-sql-reads
-use Rattle.sql.proofs.t_during_sql.Reads as t-during-sql-reads
-use Rattle.sql.proofs.t_equals_sql.Reads as t-equals-sql-reads
-use Rattle.sql.proofs.t_finished_by_sql.Reads as t-finished-by-sql-reads
-use Rattle.sql.proofs.t_finishes_sql.Reads as t-finishes-sql-reads
-use Rattle.sql.proofs.t_intersects_sql.Reads as t-intersects-sql-reads
-use Rattle.sql.proofs.t_meets_sql.Reads as t-meets-sql-reads
-use Rattle.sql.proofs.t_met_by_sql.Reads as t-met-by-sql-reads
-use Rattle.sql.proofs.t_overlapped_by_sql.Reads as t-overlapped-by-sql-reads
-use Rattle.sql.proofs.t_overlaps_sql.Reads as t-overlaps-sql-reads
-use Rattle.sql.proofs.t_started_by_sql.Reads as t-started-by-sql-reads
-use Rattle.sql.proofs.t_starts_sql.Reads as t-starts-sql-reads
 
 t-after-sql-requires : tie.Need-t-after-sql-requires
 t-after-sql-requires c κs = search needs

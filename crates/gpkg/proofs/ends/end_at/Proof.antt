@@ -5,9 +5,6 @@ use Rattle.gpkg.proofs.EndLaws.{stands-long, as-null, as-open, as-colum
 use borrow.Author.Needs.{needs}
 use Rattle.gpkg.proofs.ends.end_at.Statement.{statement}
 use Rattle.gpkg.proofs.ends.end_at.Tie as tie
-use Rattle.gpkg.proofs.ends.end_at.Reads as reads
-use Rattle.gpkg.proofs.ends.end_at.Lts as lts
-use Rattle.record.proofs.word_at.Reads as word-at-reads
 
 sub-if1 : tie.Need-sub-if1
 sub-if1 c = search needs

@@ -1,13 +1,10 @@
 -- What the calls ensure, put together.
-use native.Mathlib.Omega.{arith}
 use mathlib.Core.Path.{ap, sym}
 use Prim.Native.Nat.{_-_}
-use Rattle.gpkg.specs.Plan.{endPiece}
+use Rattle.gpkg.specs.PlanWords.{endPiece}
 use borrow.Author.Needs.{needs}
 use Rattle.gpkg.proofs.ends.end_piece.Statement.{statement}
 use Rattle.gpkg.proofs.ends.end_piece.Tie as tie
-use Rattle.gpkg.proofs.ends.end_piece.Reads as reads
-use Rattle.gpkg.proofs.ends.end_piece.Lts as lts
 
 enum-known-e : tie.Need-enum-known-e
 enum-known-e c = search needs

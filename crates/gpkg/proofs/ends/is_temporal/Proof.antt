@@ -1,12 +1,9 @@
 -- Each branch is a case of the definition.
 use borrow.Author.Tests.{eq-eqb, ne-eqb}
-use Rattle.gpkg.specs.Plan.{temporalOf}
+use Rattle.gpkg.specs.PlanWords.{temporalOf}
 use borrow.Author.Needs.{needs}
 use Rattle.gpkg.proofs.ends.is_temporal.Statement.{statement}
 use Rattle.gpkg.proofs.ends.is_temporal.Tie as tie
-use Rattle.gpkg.proofs.ends.is_temporal.Reads as reads
-use Rattle.gpkg.proofs.ends.is_temporal.Lts as lts
-use Rattle.gpkg.proofs.records.within.Reads as within-reads
 
 within-requires : tie.Need-within-requires
 within-requires c κs = search needs

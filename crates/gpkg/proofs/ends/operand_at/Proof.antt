@@ -6,11 +6,6 @@ use Rattle.gpkg.proofs.EndLaws.{stands-long, at-six}
 use borrow.Author.Needs.{needs}
 use Rattle.gpkg.proofs.ends.operand_at.Statement.{statement}
 use Rattle.gpkg.proofs.ends.operand_at.Tie as tie
-use Rattle.gpkg.proofs.ends.operand_at.Reads as reads
-use Rattle.gpkg.proofs.ends.operand_at.Lts as lts
-use Rattle.gpkg.proofs.ends.end_at.Reads as end-at-reads
-use Rattle.gpkg.proofs.records.end_of.Reads as end-of-reads
-use Rattle.record.proofs.word_at.Reads as word-at-reads
 
 sub-if1 : tie.Need-sub-if1
 sub-if1 c = search needs

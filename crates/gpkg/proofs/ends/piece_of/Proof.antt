@@ -1,14 +1,10 @@
 -- Each branch is a case of the definition.
-use native.Mathlib.Omega.{arith}
 use Prim.Native.Nat.{_-_}
 use borrow.Author.Tests.{lt-ltb, le-ltb}
-use Rattle.gpkg.specs.Plan.{pieceOf}
+use Rattle.gpkg.specs.PlanWords.{pieceOf}
 use borrow.Author.Needs.{needs}
 use Rattle.gpkg.proofs.ends.piece_of.Statement.{statement}
 use Rattle.gpkg.proofs.ends.piece_of.Tie as tie
-use Rattle.gpkg.proofs.ends.piece_of.Reads as reads
-use Rattle.gpkg.proofs.ends.piece_of.Lts as lts
-use Rattle.gpkg.proofs.ends.end_piece.Reads as end-piece-reads
 
 end-piece-requires : tie.Need-end-piece-requires
 end-piece-requires c κs = search needs

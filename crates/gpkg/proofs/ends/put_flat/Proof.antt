@@ -1,15 +1,10 @@
 -- What the calls ensure, by the case that was taken.
 use mathlib.Core.Path.{sym, ap}
-use Rattle.gpkg.specs.Plan.{flatText}
+use Rattle.gpkg.specs.PlanWords.{flatText}
 use Rattle.emit.specs.EmitLaws.{lays, lays-of}
 use borrow.Author.Needs.{needs}
 use Rattle.gpkg.proofs.ends.put_flat.Statement.{statement}
 use Rattle.gpkg.proofs.ends.put_flat.Tie as tie
-use Rattle.gpkg.proofs.ends.put_flat.Reads as reads
-use Rattle.gpkg.proofs.ends.put_flat.Lts as lts
-use Rattle.emit.proofs.put.Reads as put-reads
-use Rattle.literal.proofs.put_unbounded.Reads as put-unbounded-reads
-use Rattle.sql.proofs.put_part.Reads as put-part-reads
 
 enum-known-flat : tie.Need-enum-known-flat
 enum-known-flat c = search needs

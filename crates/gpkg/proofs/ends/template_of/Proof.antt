@@ -3,10 +3,6 @@ use Rattle.gpkg.proofs.SortLaws.{template-fills}
 use borrow.Author.Needs.{needs}
 use Rattle.gpkg.proofs.ends.template_of.Statement.{statement}
 use Rattle.gpkg.proofs.ends.template_of.Tie as tie
-use Rattle.gpkg.proofs.ends.template_of.Reads as reads
-use Rattle.gpkg.proofs.ends.template_of.Lts as lts
-use Rattle.gpkg.proofs.records.is_kind.Reads as is-kind-reads
-use Rattle.sql.proofs.temporal_sql.Reads as temporal-sql-reads
 
 sub-is-kind : tie.Need-sub-is-kind
 sub-is-kind c = search needs

@@ -3,10 +3,6 @@ use Rattle.gpkg.proofs.OperandLaws.{temporal-ends}
 use borrow.Author.Needs.{needs}
 use Rattle.gpkg.proofs.ends.temporal_ends.Statement.{statement}
 use Rattle.gpkg.proofs.ends.temporal_ends.Tie as tie
-use Rattle.gpkg.proofs.ends.temporal_ends.Reads as reads
-use Rattle.gpkg.proofs.ends.temporal_ends.Lts as lts
-use Rattle.gpkg.proofs.ends.operand_at.Reads as operand-at-reads
-use Rattle.sql.proofs.unfold_expressions.Reads as unfold-expressions-reads
 
 operand-at-requires : tie.Need-operand-at-requires
 operand-at-requires c κs = search needs

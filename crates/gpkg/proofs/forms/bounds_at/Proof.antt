@@ -4,10 +4,6 @@ use mathlib.Core.Path.{sym, _∙_}
 use borrow.Author.Needs.{needs}
 use Rattle.gpkg.proofs.forms.bounds_at.Statement.{statement}
 use Rattle.gpkg.proofs.forms.bounds_at.Tie as tie
-use Rattle.gpkg.proofs.forms.bounds_at.Reads as reads
-use Rattle.gpkg.proofs.forms.bounds_at.Lts as lts
-use Rattle.gpkg.proofs.records.least.Reads as least-reads
-use Rattle.record.proofs.word_at.Reads as word-at-reads
 
 add-word-at : tie.Need-add-word-at
 add-word-at c = search needs

@@ -3,8 +3,6 @@ use borrow.Author.Tests.{eq-eqb, ne-eqb}
 use borrow.Author.Needs.{needs}
 use Rattle.gpkg.proofs.forms.collation_flags.Statement.{statement}
 use Rattle.gpkg.proofs.forms.collation_flags.Tie as tie
-use Rattle.gpkg.proofs.forms.collation_flags.Reads as reads
-use Rattle.gpkg.proofs.forms.collation_flags.Lts as lts
 
 returns : tie.Need-returns
 returns c = search needs

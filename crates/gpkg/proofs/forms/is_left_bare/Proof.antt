@@ -1,15 +1,10 @@
 -- Each branch is a case of the definition.
-use native.Mathlib.Omega.{arith}
 use mathlib.Core.Path.{sym, _∙_}
 use Prim.Native.Nat.{_-_}
-use Rattle.gpkg.specs.Plan.{leftBare}
+use Rattle.gpkg.specs.PlanWords.{leftBare}
 use borrow.Author.Needs.{needs}
 use Rattle.gpkg.proofs.forms.is_left_bare.Statement.{statement}
 use Rattle.gpkg.proofs.forms.is_left_bare.Tie as tie
-use Rattle.gpkg.proofs.forms.is_left_bare.Reads as reads
-use Rattle.gpkg.proofs.forms.is_left_bare.Lts as lts
-use Rattle.gpkg.proofs.records.is_literal_or_id.Reads as is-literal-or-id-reads
-use Rattle.gpkg.proofs.records.within.Reads as within-reads
 
 within-requires : tie.Need-within-requires
 within-requires c κs = search needs

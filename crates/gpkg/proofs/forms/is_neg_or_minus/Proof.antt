@@ -1,12 +1,8 @@
 -- What the calls ensure, put together.
-use borrow.Author.Needs.{needs}
-use native.Mathlib.Omega.{arith}
 use Prim.Native.Nat.{_-_}
 use borrow.Author.Tests.{eq-eqb, ne-eqb}
 use Rattle.gpkg.proofs.forms.is_neg_or_minus.Statement.{statement}
 use Rattle.gpkg.proofs.forms.is_neg_or_minus.Tie as tie
-use Rattle.gpkg.proofs.forms.is_neg_or_minus.Reads as reads
-use Rattle.gpkg.proofs.forms.is_neg_or_minus.Lts as lts
 
 returns : tie.Need-returns
 returns c = simp (eq-eqb _ _ (c .if1 .taken))

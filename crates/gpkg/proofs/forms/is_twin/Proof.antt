@@ -1,14 +1,10 @@
 -- What the calls ensure, put together.
 use borrow.Author.Needs.{needs}
-use native.Mathlib.Omega.{arith}
 use mathlib.Core.Path.{sym, _∙_}
 use Prim.Native.Nat.{_-_}
 use borrow.Author.Tests.{eq-eqb, ne-eqb}
 use Rattle.gpkg.proofs.forms.is_twin.Statement.{statement}
 use Rattle.gpkg.proofs.forms.is_twin.Tie as tie
-use Rattle.gpkg.proofs.forms.is_twin.Reads as reads
-use Rattle.gpkg.proofs.forms.is_twin.Lts as lts
-use Rattle.gpkg.proofs.records.within.Reads as within-reads
 
 within-requires : tie.Need-within-requires
 within-requires c κs = search needs

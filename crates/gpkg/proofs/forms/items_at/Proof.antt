@@ -6,13 +6,8 @@ use Prim.Native.Nat.{ℕ, _+_, _-_, min}
 use lib.ListN.{length}
 use denote.Ref.{now}
 use borrow.Author.Tests.{ne-eqb}
-use lib.Dec.{eqb}
 use Rattle.gpkg.proofs.forms.items_at.Statement.{statement}
 use Rattle.gpkg.proofs.forms.items_at.Tie as tie
-use Rattle.gpkg.proofs.forms.items_at.Reads as reads
-use Rattle.gpkg.proofs.forms.items_at.Lts as lts
-use Rattle.gpkg.proofs.records.least.Reads as least-reads
-use Rattle.record.proofs.byte_at.Reads as byte-at-reads
 
 returns : tie.Need-returns
 returns c = rw (c .if1 .taken) (omega arith, omega arith, omega arith)

@@ -2,9 +2,6 @@
 use borrow.Author.Needs.{needs}
 use Rattle.gpkg.proofs.forms.operand_from.Statement.{statement}
 use Rattle.gpkg.proofs.forms.operand_from.Tie as tie
-use Rattle.gpkg.proofs.forms.operand_from.Reads as reads
-use Rattle.gpkg.proofs.forms.operand_from.Lts as lts
-use Rattle.gpkg.proofs.records.least.Reads as least-reads
 
 least-requires : tie.Need-least-requires
 least-requires c κs = search needs

@@ -6,13 +6,6 @@ use Rattle.gpkg.proofs.NodeLaws.{before-nullable, before-sign, before-n
 use borrow.Author.Needs.{needs}
 use Rattle.gpkg.proofs.forms.put_before.Statement.{statement}
 use Rattle.gpkg.proofs.forms.put_before.Tie as tie
-use Rattle.gpkg.proofs.forms.put_before.Reads as reads
-use Rattle.gpkg.proofs.forms.put_before.Lts as lts
-use Rattle.emit.proofs.ended.Reads as ended-reads
-use Rattle.gpkg.proofs.forms.is_neg_or_minus.Reads as is-neg-or-minus-reads
-use Rattle.emit.proofs.put_either.Reads as put-either-reads
-use Rattle.gpkg.proofs.forms.put_word.Reads as put-word-reads
-use Rattle.gpkg.proofs.records.within.Reads as within-reads
 
 within-requires : tie.Need-within-requires
 within-requires c κs = search needs

@@ -8,15 +8,6 @@ use Rattle.gpkg.proofs.NodeLaws.{behind-nullable, behind-sign, behind-c
 use borrow.Author.Needs.{needs}
 use Rattle.gpkg.proofs.forms.put_behind.Statement.{statement}
 use Rattle.gpkg.proofs.forms.put_behind.Tie as tie
-use Rattle.gpkg.proofs.forms.put_behind.Reads as reads
-use Rattle.gpkg.proofs.forms.put_behind.Lts as lts
-use Rattle.gpkg.proofs.forms.collation_flags.Reads as collation-flags-reads
-use Rattle.gpkg.proofs.forms.is_neg_or_minus.Reads as is-neg-or-minus-reads
-use Rattle.gpkg.proofs.leaves.name_of.Reads as name-of-reads
-use Rattle.emit.proofs.put.Reads as put-reads
-use Rattle.emit.proofs.put_either.Reads as put-either-reads
-use Rattle.gpkg.proofs.forms.put_word.Reads as put-word-reads
-use Rattle.gpkg.proofs.records.within.Reads as within-reads
 
 within-requires : tie.Need-within-requires
 within-requires c κs = search needs

@@ -1,16 +1,10 @@
 -- What the calls ensure, put together.
 use borrow.Author.Needs.{needs}
-use native.Mathlib.Omega.{arith}
 use Prim.Native.Nat.{_-_}
-use lib.ListN.{length}
 use borrow.Author.Tests.{ne-eqb}
 use Rattle.emit.specs.EmitLaws.{lays, lays-none}
 use Rattle.gpkg.proofs.forms.put_comma.Statement.{statement}
 use Rattle.gpkg.proofs.forms.put_comma.Tie as tie
-use Rattle.gpkg.proofs.forms.put_comma.Reads as reads
-use Rattle.gpkg.proofs.forms.put_comma.Lts as lts
-use Rattle.emit.proofs.ended.Reads as ended-reads
-use Rattle.emit.proofs.put.Reads as put-reads
 
 ended-requires : tie.Need-ended-requires
 ended-requires c κs = search needs

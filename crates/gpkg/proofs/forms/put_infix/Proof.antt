@@ -1,16 +1,10 @@
 -- One write after the other.
-use native.Mathlib.Omega.{arith}
 use Prim.Native.Nat.{_-_}
-use lib.ListN.{length}
 use Rattle.emit.specs.EmitLaws.{lays, lays-then}
-use Rattle.gpkg.specs.Plan.{infixText}
+use Rattle.gpkg.specs.PlanWords.{infixText}
 use borrow.Author.Needs.{needs}
 use Rattle.gpkg.proofs.forms.put_infix.Statement.{statement}
 use Rattle.gpkg.proofs.forms.put_infix.Tie as tie
-use Rattle.gpkg.proofs.forms.put_infix.Reads as reads
-use Rattle.gpkg.proofs.forms.put_infix.Lts as lts
-use Rattle.emit.proofs.put_either.Reads as put-either-reads
-use Rattle.gpkg.proofs.forms.put_word.Reads as put-word-reads
 
 slice-aggregate-put-either : tie.Need-slice-aggregate-put-either
 slice-aggregate-put-either c = search needs

@@ -5,11 +5,6 @@ use Rattle.emit.specs.EmitLaws.{lays, lays-of, lays-then}
 use borrow.Author.Needs.{needs}
 use Rattle.gpkg.proofs.forms.put_precision.Statement.{statement}
 use Rattle.gpkg.proofs.forms.put_precision.Tie as tie
-use Rattle.gpkg.proofs.forms.put_precision.Reads as reads
-use Rattle.gpkg.proofs.forms.put_precision.Lts as lts
-use Rattle.emit.proofs.put.Reads as put-reads
-use Rattle.literal.proofs.put_decimal.Reads as put-decimal-reads
-use Rattle.record.proofs.byte_at.Reads as byte-at-reads
 
 slice-aggregate-put : tie.Need-slice-aggregate-put
 slice-aggregate-put c = search needs

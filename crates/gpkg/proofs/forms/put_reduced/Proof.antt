@@ -3,11 +3,6 @@ use borrow.Author.Needs.{needs}
 use Rattle.emit.specs.EmitLaws.{lays, lays-none, lays-then}
 use Rattle.gpkg.proofs.forms.put_reduced.Statement.{statement}
 use Rattle.gpkg.proofs.forms.put_reduced.Tie as tie
-use Rattle.gpkg.proofs.forms.put_reduced.Reads as reads
-use Rattle.gpkg.proofs.forms.put_reduced.Lts as lts
-use Rattle.emit.proofs.ended.Reads as ended-reads
-use Rattle.emit.proofs.put.Reads as put-reads
-use Rattle.gpkg.proofs.forms.put_precision.Reads as put-precision-reads
 
 slice-aggregate-put : tie.Need-slice-aggregate-put
 slice-aggregate-put c = search needs

@@ -6,11 +6,6 @@ use Rattle.gpkg.proofs.WordLaws.{not-none, same-op}
 use borrow.Author.Needs.{needs}
 use Rattle.gpkg.proofs.forms.put_word.Statement.{statement}
 use Rattle.gpkg.proofs.forms.put_word.Tie as tie
-use Rattle.gpkg.proofs.forms.put_word.Reads as reads
-use Rattle.gpkg.proofs.forms.put_word.Lts as lts
-use Rattle.emit.proofs.ended.Reads as ended-reads
-use Rattle.op.proofs.op_of.Reads as op-of-reads
-use Rattle.op.proofs.to_sql.Reads as to-sql-reads
 
 op-of-requires : tie.Need-op-of-requires
 op-of-requires c κs = search needs

@@ -2,9 +2,6 @@
 use borrow.Author.Needs.{needs}
 use Rattle.gpkg.proofs.forms.reduce_precision.Statement.{statement}
 use Rattle.gpkg.proofs.forms.reduce_precision.Tie as tie
-use Rattle.gpkg.proofs.forms.reduce_precision.Reads as reads
-use Rattle.gpkg.proofs.forms.reduce_precision.Lts as lts
-use Rattle.gpkg.proofs.records.within.Reads as within-reads
 
 within-requires : tie.Need-within-requires
 within-requires c κs = search needs

@@ -1,5 +1,4 @@
 -- A part that is cut off at the end of the bytes.
-use native.Mathlib.Omega.{arith}
 use mathlib.Core.Path.{ap, _∙_}
 use Prim.Native.Nat.{ℕ, _+_, _-_, min}
 use lib.ListN.{length}
@@ -8,10 +7,6 @@ use Rattle.gpkg.proofs.ClipLaws.{clip}
 use borrow.Author.Needs.{needs}
 use Rattle.gpkg.proofs.leaves.name_at.Statement.{statement}
 use Rattle.gpkg.proofs.leaves.name_at.Tie as tie
-use Rattle.gpkg.proofs.leaves.name_at.Reads as reads
-use Rattle.gpkg.proofs.leaves.name_at.Lts as lts
-use Rattle.gpkg.proofs.records.least.Reads as least-reads
-use Rattle.record.proofs.byte_at.Reads as byte-at-reads
 
 add-a : tie.Need-add-a
 add-a c = search needs

@@ -1,18 +1,12 @@
--- Where each name stands.
+-- Where each name stands is the settings' own rule.
 use native.Mathlib.Omega.{arith}
 use mathlib.Core.Path.{ap, _∙_}
-use Prim.Native.Nat.{ℕ, _+_, _-_}
-use denote.Ref.{now}
+use Prim.Native.Nat.{ℕ}
 use borrow.Author.Tests.{eq-eqb, ne-eqb}
 use Rattle.tree.specs.Parse.{nameAt}
-use Rattle.gpkg.proofs.ClipLaws.{cai-place}
 use borrow.Author.Needs.{needs}
 use Rattle.gpkg.proofs.leaves.name_of.Statement.{statement}
 use Rattle.gpkg.proofs.leaves.name_of.Tie as tie
-use Rattle.gpkg.proofs.leaves.name_of.Reads as reads
-use Rattle.gpkg.proofs.leaves.name_of.Lts as lts
-use Rattle.gpkg.proofs.leaves.name_at.Reads as name-at-reads
-use Rattle.record.proofs.byte_at.Reads as byte-at-reads
 
 name-at-requires : tie.Need-name-at-requires
 name-at-requires c κs = search needs
@@ -20,32 +14,27 @@ name-at-requires c κs = search needs
 returns : tie.Need-returns
 returns c = simp (eq-eqb _ _ (c .before .if1 .taken)) (c .name-at .ensures)
 
-byte-at-requires : tie.Need-byte-at-requires
-byte-at-requires c κs = search needs
-
-add-ai : tie.Need-add-ai
-add-ai c = search needs
+ai-at-requires : tie.Need-ai-at-requires
+ai-at-requires c κs = search needs
 
 name-at-requires-2 : tie.Need-name-at-requires-2
-name-at-requires-2 c κs = search needs
+name-at-requires-2 c κs = omega (arith, c .ai-at .ensures .1)
 
 returns-2 : tie.Need-returns-2
-returns-2 c = simp (ne-eqb _ _ (c .before .before .before .if1 .left), eq-eqb _ _ (c .before .if2 .taken)) (c .name-at2 .ensures ∙ ap (λ (k : ℕ). nameAt (c .before .before .before .before .before .args .set .now) (8 + k)) (c .before .before .byte-at .ensures .0))
+returns-2 c =
+    simp (ne-eqb _ _ (c .before .before .before .if1 .left), eq-eqb _ _ (c .before .before .if2 .taken))
+    (c .name-at2 .ensures ∙ ap (λ (k : ℕ). nameAt (c .before .before .before .before .before .args .set .now) k) (c .before .ai-at .ensures .0))
 
-add-name-at : tie.Need-add-name-at
-add-name-at c = search needs
-
-byte-at-requires-2 : tie.Need-byte-at-requires-2
-byte-at-requires-2 c κs = search needs
-
-add-name-at-2 : tie.Need-add-name-at-2
-add-name-at-2 c = search needs
+cai-at-requires : tie.Need-cai-at-requires
+cai-at-requires c κs = search needs
 
 name-at-requires-3 : tie.Need-name-at-requires-3
-name-at-requires-3 c κs = search needs
+name-at-requires-3 c κs = omega (arith, c .cai-at .ensures .1)
 
 returns-3 : tie.Need-returns-3
-returns-3 c = simp (ne-eqb _ _ (c .before .before .before .before .if1 .left), ne-eqb _ _ (c .before .before .if2 .left)) (c .name-at3 .ensures ∙ cai-place (c .before .before .before .before .before .before .args .set .now) (c .before .before .before .byte-at .result) (c .before .byte-at2 .result) (c .before .before .before .byte-at .ensures .0) (c .before .byte-at2 .ensures .0))
+returns-3 c =
+    simp (ne-eqb _ _ (c .before .before .before .if1 .left), ne-eqb _ _ (c .before .before .if2 .left))
+    (c .name-at3 .ensures ∙ ap (λ (k : ℕ). nameAt (c .before .before .before .before .before .args .set .now) k) (c .before .cai-at .ensures .0))
 
 pub name-of-spec : {M : Type 1} → statement M
 name-of-spec =
@@ -53,12 +42,9 @@ name-of-spec =
     (tie.spec
     name-at-requires
     returns
-    byte-at-requires
-    add-ai
+    ai-at-requires
     name-at-requires-2
     returns-2
-    add-name-at
-    byte-at-requires-2
-    add-name-at-2
+    cai-at-requires
     name-at-requires-3
     returns-3)

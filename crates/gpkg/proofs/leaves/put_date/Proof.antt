@@ -7,11 +7,6 @@ use Rattle.emit.specs.EmitLaws.{lays, lays-of}
 use borrow.Author.Needs.{needs}
 use Rattle.gpkg.proofs.leaves.put_date.Statement.{statement}
 use Rattle.gpkg.proofs.leaves.put_date.Tie as tie
-use Rattle.gpkg.proofs.leaves.put_date.Reads as reads
-use Rattle.gpkg.proofs.leaves.put_date.Lts as lts
-use Rattle.literal.proofs.put_date.Reads as put-date-reads
-use Rattle.record.proofs.byte_at.Reads as byte-at-reads
-use Rattle.record.proofs.word_at.Reads as word-at-reads
 
 word-at-requires : tie.Need-word-at-requires
 word-at-requires c κs = search needs

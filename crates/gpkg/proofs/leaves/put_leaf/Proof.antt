@@ -11,27 +11,12 @@ use Rattle.record.specs.Record.{le16, le32}
 use Rattle.tree.specs.Parse.{mantissa}
 use Rattle.literal.specs.Literal.{boolText, numText, spatialText}
 use Rattle.emit.specs.EmitLaws.{lays, lays-of}
-use Rattle.gpkg.specs.Plan.{leafText}
+use Rattle.gpkg.specs.PlanWords.{leafText}
 use Rattle.tree.specs.Accepted.{settingsIn}
 use Rattle.gpkg.proofs.LeafLaws.{str-collated}
 use borrow.Author.Needs.{needs}
 use Rattle.gpkg.proofs.leaves.put_leaf.Statement.{statement}
 use Rattle.gpkg.proofs.leaves.put_leaf.Tie as tie
-use Rattle.gpkg.proofs.leaves.put_leaf.Reads as reads
-use Rattle.gpkg.proofs.leaves.put_leaf.Lts as lts
-use Rattle.emit.proofs.put.Reads as put-reads
-use Rattle.gpkg.proofs.leaves.put_date.Reads as put-date-reads
-use Rattle.gpkg.proofs.leaves.qstr_to_sql.Reads as qstr-to-sql-reads
-use Rattle.gpkg.proofs.leaves.put_timestamp.Reads as put-timestamp-reads
-use Rattle.gpkg.proofs.records.rest.Reads as rest-reads
-use Rattle.literal.proofs.put_bool.Reads as put-bool-reads
-use Rattle.literal.proofs.put_num.Reads as put-num-reads
-use Rattle.literal.proofs.put_spatial.Reads as put-spatial-reads
-use Rattle.literal.proofs.put_unbounded.Reads as put-unbounded-reads
-use Rattle.record.proofs.byte_at.Reads as byte-at-reads
-use Rattle.record.proofs.dword_at.Reads as dword-at-reads
-use Rattle.tree.proofs.mantissa_at.Reads as mantissa-at-reads
-use Rattle.record.proofs.word_at.Reads as word-at-reads
 
 word-at-requires : tie.Need-word-at-requires
 word-at-requires c κs = search needs

@@ -6,18 +6,11 @@ use lib.ListN.{getD, drop}
 use borrow.Author.Tests.{eq-eqb, ne-eqb}
 use Rattle.literal.specs.Literal.{quoted, collate}
 use Rattle.emit.specs.EmitLaws.{lays, lays-of, lays-then}
-use Rattle.gpkg.specs.Plan.{collation}
+use Rattle.gpkg.specs.PlanWords.{collation}
 use Rattle.tree.specs.Accepted.{settingsIn}
 use borrow.Author.Needs.{needs}
 use Rattle.gpkg.proofs.leaves.qstr_to_sql.Statement.{statement}
 use Rattle.gpkg.proofs.leaves.qstr_to_sql.Tie as tie
-use Rattle.gpkg.proofs.leaves.qstr_to_sql.Reads as reads
-use Rattle.gpkg.proofs.leaves.qstr_to_sql.Lts as lts
-use Rattle.gpkg.proofs.leaves.name_of.Reads as name-of-reads
-use Rattle.gpkg.proofs.records.rest.Reads as rest-reads
-use Rattle.literal.proofs.put_collate.Reads as put-collate-reads
-use Rattle.literal.proofs.put_quoted.Reads as put-quoted-reads
-use Rattle.record.proofs.byte_at.Reads as byte-at-reads
 
 rest-requires : tie.Need-rest-requires
 rest-requires c κs = search needs

@@ -6,9 +6,6 @@ use Rattle.gpkg.proofs.RecordLaws.{end-short, end-over, end-exact}
 use borrow.Author.Needs.{needs}
 use Rattle.gpkg.proofs.records.end_of.Statement.{statement}
 use Rattle.gpkg.proofs.records.end_of.Tie as tie
-use Rattle.gpkg.proofs.records.end_of.Reads as reads
-use Rattle.gpkg.proofs.records.end_of.Lts as lts
-use Rattle.record.proofs.dword_at.Reads as dword-at-reads
 
 sub-left : tie.Need-sub-left
 sub-left c = search needs

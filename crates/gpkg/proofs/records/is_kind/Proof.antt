@@ -1,14 +1,10 @@
 -- What the calls ensure, put together.
 use borrow.Author.Needs.{needs}
-use native.Mathlib.Omega.{arith}
 use mathlib.Core.Path.{ap}
 use Prim.Native.Nat.{ℕ, _-_}
 use lib.Dec.{eqb}
 use Rattle.gpkg.proofs.records.is_kind.Statement.{statement}
 use Rattle.gpkg.proofs.records.is_kind.Tie as tie
-use Rattle.gpkg.proofs.records.is_kind.Reads as reads
-use Rattle.gpkg.proofs.records.is_kind.Lts as lts
-use Rattle.record.proofs.word_at.Reads as word-at-reads
 
 word-at-requires : tie.Need-word-at-requires
 word-at-requires c κs = search needs

@@ -8,10 +8,6 @@ use Rattle.tree.specs.Tree.{Tree, encode}
 use Rattle.gpkg.proofs.LiteralLaws.{Left, left-start, left-long, left-end, left-array, left-next, left-not}
 use Rattle.gpkg.proofs.records.is_literal.Statement.{statement}
 use Rattle.gpkg.proofs.records.is_literal.Tie as tie
-use Rattle.gpkg.proofs.records.is_literal.Reads as reads
-use Rattle.gpkg.proofs.records.is_literal.Lts as lts
-use Rattle.gpkg.proofs.records.end_of.Reads as end-of-reads
-use Rattle.record.proofs.word_at.Reads as word-at-reads
 
 abbrev Inv-loop : tie.InvT-loop
 Inv-loop s p₀ p = (t : Tree) → s ≡ encode t → Left s p t

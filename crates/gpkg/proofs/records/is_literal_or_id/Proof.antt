@@ -5,11 +5,6 @@ use Rattle.gpkg.proofs.LiteralLaws.{no-id, kind-tells}
 use borrow.Author.Needs.{needs}
 use Rattle.gpkg.proofs.records.is_literal_or_id.Statement.{statement}
 use Rattle.gpkg.proofs.records.is_literal_or_id.Tie as tie
-use Rattle.gpkg.proofs.records.is_literal_or_id.Reads as reads
-use Rattle.gpkg.proofs.records.is_literal_or_id.Lts as lts
-use Rattle.gpkg.proofs.records.is_literal.Reads as is-literal-reads
-use Rattle.gpkg.proofs.records.within.Reads as within-reads
-use Rattle.record.proofs.word_at.Reads as word-at-reads
 
 word-at-requires : tie.Need-word-at-requires
 word-at-requires c κs = search needs

@@ -1,14 +1,10 @@
 -- A part that is cut off at the end of the bytes.
-use native.Mathlib.Omega.{arith}
 use Prim.Native.Nat.{_-_}
 use denote.Ref.{now}
 use Rattle.gpkg.proofs.ClipLaws.{clip-from}
 use borrow.Author.Needs.{needs}
 use Rattle.gpkg.proofs.records.rest.Statement.{statement}
 use Rattle.gpkg.proofs.records.rest.Tie as tie
-use Rattle.gpkg.proofs.records.rest.Reads as reads
-use Rattle.gpkg.proofs.records.rest.Lts as lts
-use Rattle.gpkg.proofs.records.least.Reads as least-reads
 
 least-requires : tie.Need-least-requires
 least-requires c κs = search needs

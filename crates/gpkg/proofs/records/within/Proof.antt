@@ -1,13 +1,8 @@
 -- What the calls ensure, put together.
-use borrow.Author.Needs.{needs}
-use native.Mathlib.Omega.{arith}
 use Prim.Native.Nat.{_-_}
 use borrow.Author.Tests.{le-leb, lt-leb}
-use lib.Dec.{leb}
 use Rattle.gpkg.proofs.records.within.Statement.{statement}
 use Rattle.gpkg.proofs.records.within.Tie as tie
-use Rattle.gpkg.proofs.records.within.Reads as reads
-use Rattle.gpkg.proofs.records.within.Lts as lts
 
 returns : tie.Need-returns
 returns c = simp (le-leb _ _ (c .if1 .taken))

@@ -9,12 +9,12 @@ use lib.IntN.{natAbs}
 use Rattle.record.specs.Record.{le16, le32}
 use Rattle.tree.specs.Limits.{mantissaLimit}
 use Rattle.prelude.specs.Choice.{pick, both, either, between}
+use Rattle.prelude.specs.Bytes.{bytes}
 use Rattle.op.specs.declared.Op.{Op}
 use Rattle.op.specs.declared.Op.the-variants.{Minus, Neg, CaseI, AccentI}
 use Rattle.op.specs.Op.{oneOf, isNullable, opNumber}
 use Rattle.tree.specs.Tree.{Tree, Trees, Settings, encode, null, unbounded, bool, num, str, date, timestamp, spatial, id, monadic, dyadic, function, array, interval, none, _then_}
-use Rattle.tree.specs.Parse.{nameAt, mantissa}
-use Rattle.tree.specs.Accepted.{ciAt, aiAt, caiAt}
+use Rattle.tree.specs.Parse.{mantissa}
 use Rattle.tree.specs.Tests.{first, children, byOperator, isItems, isInterval, isId, isLiteralOrId, isMonadic, startOf, stopOf, endsOf}
 use Rattle.literal.specs.Literal.{nullText, boolText, unboundedText, numText, strText, dateText, timestampText, spatialText, decimal, collate}
 use Rattle.sql.specs.Ends.{isColumn}
@@ -105,7 +105,7 @@ operandOf o t = pick (twin o t) (underOf t) t
 
 -- 1E-p
 abbrev pub precise : ℕ → List ℕ
-precise p = 49 ∷ 69 ∷ 45 ∷ decimal p
+precise p = bytes "1E-" ++ decimal p
 
 -- a collation by a Str's flags: its name, and how it is asked for
 abbrev pub nameOf : Settings → ℕ → List ℕ
@@ -186,25 +186,25 @@ rightBare op u = pick (between 41 op 44) true (pick (between 45 op 46) false (is
 
 -- the operator, with the brackets that close the left and open the right side
 unfoldable pub infixText : Bool → List ℕ → Bool → List ℕ
-infixText a w b = pick a (32 ∷ []) (41 ∷ 32 ∷ []) ++ (w ++ pick b (32 ∷ []) (32 ∷ 40 ∷ []))
+infixText a w b = pick a (bytes " ") (bytes ") ") ++ (w ++ pick b (bytes " ") (bytes " ("))
 
 -- what stands before and behind the operand of a monadic node: by the operator's number and word, whether the operand is bare, and whether it has a twin
 unfoldable pub beforeText : ℕ → List ℕ → Bool → List ℕ
 beforeText op w b =
-    pick (between 51 op 52) (pick b [] (40 ∷ []))
-    (pick (either (eqb op 7) (eqb op 1)) (w ++ pick b (32 ∷ []) (32 ∷ 40 ∷ [])) [])
+    pick (between 51 op 52) (pick b [] (bytes "("))
+    (pick (either (eqb op 7) (eqb op 1)) (w ++ pick b (bytes " ") (bytes " (")) [])
 
 abbrev pub collationFlags : ℕ → Bool → ℕ
 collationFlags op d = pick d 3 (pick (eqb op 16) 1 2)
 
 unfoldable pub behindText : Settings → ℕ → List ℕ → Bool → Bool → List ℕ
 behindText g op w b d =
-    pick (between 51 op 52) (pick b (32 ∷ []) (41 ∷ 32 ∷ []) ++ w)
-    (pick (either (eqb op 7) (eqb op 1)) (pick b [] (41 ∷ [])) (collate (nameOf g (collationFlags op d))))
+    pick (between 51 op 52) (pick b (bytes " ") (bytes ") ") ++ w)
+    (pick (either (eqb op 7) (eqb op 1)) (pick b [] (bytes ")")) (collate (nameOf g (collationFlags op d))))
 
 -- what closes a side whose precision is reduced: , 1E-p)
 abbrev pub reducedText : ℕ → List ℕ
-reducedText p = 44 ∷ 32 ∷ 49 ∷ 69 ∷ 45 ∷ (decimal p ++ (41 ∷ []))
+reducedText p = bytes ", 1E-" ++ (decimal p ++ bytes ")")
 
 -- a bound of BETWEEN from a to z, or NULL if nothing stands there
 pub data Bound (s : List ℕ) (a z : ℕ) : Tree → Type 0 where
