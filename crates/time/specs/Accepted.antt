@@ -3,10 +3,9 @@ use Prim.Native.Nat.{ℕ, _≤_}
 use mathlib.Core.Path.{_≡_}
 use mathlib.Core.List.{List}
 use lib.ListN.{length}
-use Rattle.tree.specs.Tree.{Tree, Settings}
+use Rattle.tree.specs.Tree.{Tree, Settings, Bytes}
 use Rattle.tree.specs.Parse.{got}
 use Rattle.tree.specs.Accepted.{accepted}
-use Rattle.tree.specs.ByteLaws.{Bytes}
 use Rattle.gpkg.specs.Lowered.{lowering}
 use Rattle.row.specs.Row.{Column, rowOf, columns}
 use Rattle.truth.specs.Reading.{rowLimit}

@@ -27,7 +27,7 @@ use Rattle.row.specs.Row.{Value, val, Column, look}
 use Rattle.row.specs.Row as row
 use Rattle.truth.specs.declared.Truth.the-variants.{True, False, Unknown, Missing}
 use Rattle.truth.specs.declared.Reading.{Reading}
-use Rattle.refusal.specs.declared.Refusal.the-variants.{BadText}
+use Rattle.refusal.specs.declared.Refusal.the-variants.{BadText, MissingColumn}
 use Rattle.truth.specs.declared.Reading.the-variants.{True as SaysTrue, Refused}
 use Rattle.truth.specs.Lex as lex
 use Rattle.truth.specs.Grammar.{not3, truthOf}
@@ -118,6 +118,13 @@ no-filter :
     × (truthOn days negated-end ≡ Unknown)
 unfolding timeFilter isOperand op.isTemporal op.isNullable op.isSpatial op.isArray some same truthOn temporalTruth condTruth translators.translate translators.tAfter translators.tBefore trees.isInterval trees.isId trees.isLiteral trees.isLiteralOrId trees.startOf trees.stopOf trees.endsOf gpkg.text gpkg.monadicText gpkg.dyadicText spelling.spelledAs sql.print placed.isBetween valueOn look order grammar.holds grammar.value grammar.eval grammar.atomOf grammar.notNull grammar.nullTest grammar.fromAtom grammar.simple grammar.orE parse lex.run lex.wordKind lex.signKind lex.signMore lex.quoteKind lex.lexeme lex.cut lex.tokensIn lex.tokens lex.kind lex.body lex.rest charset.letter charset.digit charset.nameStart charset.nameByte charset.upper charset.reservedWords charset.reserved charset.name charset.strByte choice.all literal.date literal.low treeAtom trees.byOperator trees.everywhere isEnd trees.first trees.second
 no-filter = (refl, refl, refl, refl)
+
+-- A row that lacks a column: both texts are refused (13), and say neither true nor false nor unknown.
+lacking-column :
+    (holds [] (dyadic TAfter a b) ≡ false) × (reads [] (dyadic TAfter a b) ≡ Refused MissingColumn)
+    × (reads [] (dyadic TBefore b a) ≡ Refused MissingColumn)
+unfolding timeFilter isOperand op.isTemporal op.isNullable op.isSpatial op.isArray some same truthOn temporalTruth condTruth translators.translate translators.tAfter translators.tBefore trees.isInterval trees.isId trees.isLiteral trees.isLiteralOrId trees.startOf trees.stopOf trees.endsOf gpkg.text gpkg.monadicText gpkg.dyadicText spelling.spelledAs sql.print placed.isBetween valueOn look order grammar.holds grammar.value grammar.eval grammar.atomOf grammar.notNull grammar.nullTest grammar.fromAtom grammar.simple grammar.orE parse lex.run lex.wordKind lex.signKind lex.signMore lex.quoteKind lex.lexeme lex.cut lex.tokensIn lex.tokens lex.kind lex.body lex.rest charset.letter charset.digit charset.nameStart charset.nameByte charset.upper charset.reservedWords charset.reserved charset.name charset.strByte choice.all literal.date literal.low treeAtom trees.byOperator trees.everywhere isEnd trees.first trees.second holds
+lacking-column = (refl, refl, refl)
 
 -- ---- Complement.
 

@@ -14,10 +14,9 @@ use Rattle.prelude.specs.ChoiceLaws.{both-true}
 use Rattle.op.specs.declared.Op.{Op}
 use Rattle.op.specs.declared.Op.the-variants.{TAfter, TBefore, TContains, TDisjoint, TDuring, TEquals, TFinishedBy, TFinishes, TIntersects, TMeets, TMetBy, TOverlappedBy, TOverlaps, TStartedBy, TStarts}
 use Rattle.op.specs.Op.{isTemporal}
-use Rattle.tree.specs.Tree.{Tree, Settings, id, dyadic, interval, encode, encodeSettings}
+use Rattle.tree.specs.Tree.{Tree, Settings, id, dyadic, interval, encode, encodeSettings, Bytes}
 use Rattle.tree.specs.Parse.{got}
 use Rattle.tree.specs.Accepted.{accepted}
-use Rattle.tree.specs.ByteLaws.{Bytes}
 use Rattle.gpkg.specs.Lowered.{lowering}
 use Rattle.row.specs.Row.{Column, val, rowOf, columns}
 use Rattle.truth.specs.declared.Reading.the-variants.{True as SaysTrue, False as SaysFalse, Unknown as SaysUnknown}
@@ -91,15 +90,16 @@ d = id (bytes "d")
 abbrev day : ℕ → row-row.Value
 day n = val (literal-literal.date 2024 1 n)
 
--- sheet N's row: a 2024-01-02, b NULL, c 2024-01-01; as bytes, and its columns, the last one first
-abbrev rowN : List ℕ
-rowN =
-    15 ∷ 0 ∷ 0 ∷ 0 ∷ 200 ∷ 0 ∷ 1 ∷ (bytes "a" ++ (1 ∷ (bytes "2024-01-02"
-    ++ (5 ∷ 0 ∷ 0 ∷ 0 ∷ 200 ∷ 0 ∷ 1 ∷ (bytes "b" ++ (0
-    ∷ 15 ∷ 0 ∷ 0 ∷ 0 ∷ 200 ∷ 0 ∷ 1 ∷ (bytes "c" ++ (1 ∷ bytes "2024-01-01"))))))))
+-- a row with a NULL: a NULL, b 2024-01-01, c 2024-01-02; as bytes, and its columns, the last one first
+abbrev rowNull : List ℕ
+rowNull =
+    5 ∷ 0 ∷ 0 ∷ 0 ∷ 200 ∷ 0 ∷ 1 ∷ (bytes "a" ++ (0
+    ∷ 15 ∷ 0 ∷ 0 ∷ 0 ∷ 200 ∷ 0 ∷ 1 ∷ (bytes "b" ++ (1 ∷ (bytes "2024-01-01"
+    ++ (15 ∷ 0 ∷ 0 ∷ 0 ∷ 200 ∷ 0 ∷ 1 ∷ (bytes "c" ++ (1 ∷ bytes "2024-01-02"))))))))
 
-abbrev columnsN : List Column
-columnsN = record { called = bytes "c"; holds = day 1 } ∷ record { called = bytes "b"; holds = row-row.null } ∷ record { called = bytes "a"; holds = day 2 } ∷ []
+abbrev columnsNull : List Column
+columnsNull =
+    record { called = bytes "c"; holds = day 2 } ∷ record { called = bytes "b"; holds = day 1 } ∷ record { called = bytes "a"; holds = row-row.null } ∷ []
 
 -- a to d, the first to the fourth of January 2024
 abbrev rowD : List ℕ
@@ -133,7 +133,7 @@ sql t = gpkg-text.text settings t
 
 -- All that is computed, at once.
 record Computed : Type 0 where
-  rowN-is : rowOf rowN ≡ columns columnsN
+  rowNull-is : rowOf rowNull ≡ columns columnsNull
   rowD-is : rowOf rowD ≡ columns columnsD
   apart-lowers : Lowers apart (sql apart)
   turned-lowers : Lowers turned (sql turned)
@@ -141,8 +141,8 @@ record Computed : Type 0 where
   pairs-lower : AllOf (λ o. Lowers (pair o) (sql (pair o))) thirteen
   apart-filter : timeFilter apart ≡ true
   temporal : isTemporal TDisjoint ≡ true
-  heldN : holds columnsN apart ≡ true
-  unknown : answered (truthOn columnsN apart) ≡ SaysUnknown
+  heldNull : holds columnsNull apart ≡ true
+  unknown : answered (truthOn columnsNull apart) ≡ SaysUnknown
   instant : isOperand a ≡ true
   operands : (isOperand (interval b c) ≡ true) × (isOperand (interval a c) ≡ true) × (isOperand (interval b d) ≡ true)
   heldD : (holds columnsD a ≡ true) × (holds columnsD (interval b c) ≡ true)
@@ -155,7 +155,7 @@ computed : Computed
 unfolding prelude-choice.all prelude-choice.some prelude-choice.same record-record.frame record-record.recordOf charset-charset.letter charset-charset.digit charset-charset.nameStart charset-charset.nameByte charset-charset.upper charset-charset.reservedWords charset-charset.reserved charset-charset.name charset-charset.strByte charset-charset.spatialByte civil-civil.leap civil-civil.daysIn civil-civil.validDate civil-civil.validTime op-op.opAt op-op.isArithmetic op-op.isArray op-op.isComparison op-op.isXtdComparison op-op.isSpatial op-op.isTemporal op-op.isInstantOrInterval op-op.isNullable op-spelling.spelledAs tree-tree.twos tree-tree.dateBytes tree-tree.counted tree-tree.encodeSettings tree-tree.encode tree-parse.also tree-parse.cons tree-parse.end tree-parse.exactly tree-parse.many tree-tests.first tree-tests.second tree-parse.signed tree-parse.namedAt tree-parse.emptyBody tree-parse.boolBody tree-parse.numBody tree-parse.strBody tree-parse.dateBody tree-parse.timestampBody tree-parse.spatialBody tree-parse.takesOne tree-parse.takesTwo tree-parse.allowed tree-parse.operated tree-parse.readFunction tree-parse.choose tree-parse.kinds tree-parse.node tree-parse.parse tree-tests.isInterval tree-tests.count tree-tests.isPair tree-placed.isBetween tree-placed.operands tree-placed.placed tree-placed.noInterval tree-placed.inPlace tree-placed.inner tree-tests.everywhere tree-tests.everywhereIn tree-tests.byOperator tree-accepted.isFrame tree-accepted.settingsBody tree-accepted.isSettings tree-accepted.settings tree-accepted.accepted literal-literal.low literal-literal.digits literal-literal.decimal literal-literal.pointed literal-literal.plain literal-literal.sign literal-literal.numText literal-literal.quoted literal-literal.collate literal-literal.strText literal-literal.spatialText literal-literal.date literal-literal.clock literal-literal.timestamp literal-literal.openEnd sql-condition.print sql-condition.checkId sql-condition.checkIds sql-translators.tAfter sql-translators.tBefore sql-translators.tDisjoint sql-translators.tEquals sql-translators.tIntersects sql-translators.tContains sql-translators.tDuring sql-translators.tFinishedBy sql-translators.tFinishes sql-translators.tMeets sql-translators.tMetBy sql-translators.tOverlappedBy sql-translators.tOverlaps sql-translators.tStartedBy sql-translators.tStarts sql-translators.translate tree-tests.isId tree-tests.isLiteralOrId tree-tests.isMonadic tree-tests.isItems tree-tests.startOf tree-tests.stopOf tree-tests.endsOf gpkg-text.joined gpkg-text.reducePrecision gpkg-text.monadicText gpkg-text.reduces gpkg-text.dyadicText tree-tests.isLiteral gpkg-text.text gpkg-lowered.fitted gpkg-lowered.lowering gpkg-lowered.answer gpkg-lowered.leaves order-order.order order-order.below row-row.cellOf row-row.columnIn row-row.framed row-row.front row-row.clash row-row.joined row-row.rowFrom row-row.rowOf row-row.look truth-lex.run truth-lex.wordKind truth-lex.signKind truth-lex.signMore truth-lex.quoteKind truth-lex.lexeme truth-lex.cut truth-lex.tokensIn truth-lex.tokens truth-lex.kind truth-lex.body truth-lex.rest truth-grammar.value truth-grammar.holds truth-grammar.eval truth-grammar.atomOf truth-grammar.notNull truth-grammar.nullTest truth-grammar.fromAtom truth-grammar.simple truth-grammar.orE truth-reading.parse truth-reading.readingOf time-filter.comparable time-filter.isEnd time-filter.isOperand time-filter.timeFilter time-filtertruth.treeAtom time-filtertruth.holds time-filtertruth.valueOn time-filtertruth.condTruth time-filtertruth.temporalTruth time-filtertruth.comparison time-filtertruth.truthOn time-filtertruth.isValue time-filtertruth.liesBelow time-filtertruth.columnsNonNull time-converse.converse time-converse.thirteen time-ogc.earlier time-ogc.sameMoment time-ogc.ogc time-ogc.beginsDate time-ogc.goesOnTime time-ogc.isInstant time-ogc.fields time-ogc.instants time-ogc.isPoint time-ogc.isStart time-ogc.ogcOperand time-ogc.momentOn time-ogc.ogcOn
 computed =
     record {
-      rowN-is = refl;
+      rowNull-is = refl;
       rowD-is = refl;
       apart-lowers = lowers-by apart refl refl refl;
       turned-lowers = lowers-by turned refl refl refl;
@@ -177,7 +177,7 @@ computed =
           also done;
       apart-filter = refl;
       temporal = refl;
-      heldN = refl;
+      heldNull = refl;
       unknown = refl;
       instant = refl;
       operands = (refl, refl, refl);
@@ -188,21 +188,21 @@ computed =
       holds-there = refl;
     }
 
-is-rowN : IsRow rowN columnsN
-is-rowN = record { short = omega arith; reads = computed .rowN-is }
+is-rowNull : IsRow rowNull columnsNull
+is-rowNull = record { short = omega arith; reads = computed .rowNull-is }
 
 is-rowD : IsRow rowD columnsD
 is-rowD = record { short = omega arith; reads = computed .rowD-is }
 
--- reads-truth: sheet J on sheet N's row is unknown
-pub reads-truth-instance : readingOf (sql apart) rowN ≡ SaysUnknown
-reads-truth-instance = reads-truth (computed .apart-lowers) (computed .apart-filter) is-rowN (computed .heldN) .0 ∙ computed .unknown
+-- reads-truth: sheet J's filter on the row with a NULL is unknown
+pub reads-truth-instance : readingOf (sql apart) rowNull ≡ SaysUnknown
+reads-truth-instance = reads-truth (computed .apart-lowers) (computed .apart-filter) is-rowNull (computed .heldNull) .0 ∙ computed .unknown
 
 -- converse-reads: the operands exchanged
-pub converse-instance : Alike SaysTrue SaysFalse SaysUnknown (readingOf (sql apart) rowN) (readingOf (sql turned) rowN)
+pub converse-instance : Alike SaysTrue SaysFalse SaysUnknown (readingOf (sql apart) rowNull) (readingOf (sql turned) rowNull)
 unfolding time-converse.converse prelude-choice.some
 converse-instance =
-    converse-reads (turn TDisjoint a (interval b c) (computed .temporal)) (computed .apart-lowers) (computed .turned-lowers) (computed .apart-filter) is-rowN (computed .heldN)
+    converse-reads (turn TDisjoint a (interval b c) (computed .temporal)) (computed .apart-lowers) (computed .turned-lowers) (computed .apart-filter) is-rowNull (computed .heldNull)
 
 -- complement-reads: on a row without NULL
 pub complement-instance : Opposite SaysTrue SaysFalse SaysUnknown (readingOf (sql apart) rowD) (readingOf (sql meeting) rowD)

@@ -18,12 +18,12 @@ use Rattle.record.specs.Record.{frame, recordOf}
 use Rattle.charset.specs.Charset.{name}
 use Rattle.tree.specs.declared.Checked.the-variants.{Valid}
 use Rattle.tree.specs.Limits.{treeLimit, depthLimit, precisionLimit}
-use Rattle.tree.specs.Tree.{Tree, Settings, settingsKind, encode, encodeSettings, counted}
+use Rattle.tree.specs.Tree.{Tree, Settings, settingsKind, encode, encodeSettings, counted, Bytes}
 use Rattle.tree.specs.Parse.{Read, refused, got, also, nameAt, past, namedAt, parse}
 use Rattle.tree.specs.Placed.{placed}
 use Rattle.tree.specs.Accepted.{settingsIn, isFrame, ciAt, aiAt, caiAt, settingsBody, isSettings, settings, accepted, verdict}
 use Rattle.tree.specs.GoodWords.{Good}
-use Rattle.tree.specs.ByteLaws.{Bytes, reads-drop}
+use Rattle.tree.specs.ByteLaws.{reads-drop}
 use Rattle.tree.specs.ParseLaws.{split, both-true, not-got, also-got, frame-record}
 use Rattle.tree.specs.EncodeLaws.{encode-parse}
 

@@ -12,13 +12,8 @@ use lib.Dec.{ltb}
 use borrow.Author.Tests.{lt-ltb, le-ltb}
 use Rattle.prelude.specs.Choice.{pick}
 use Rattle.record.specs.Record.{le, le64}
-use Rattle.tree.specs.Tree.{twos}
+use Rattle.tree.specs.Tree.{Bytes, twos}
 use Rattle.tree.specs.Parse.{signed}
-
--- every element is a byte
-abbrev pub Bytes : List ℕ → Type 0
-Bytes [] = Unit {0}
-Bytes (x ∷ s) = (x < 256) × Bytes s
 
 pub bytes-drop : (n : ℕ) (s : List ℕ) → Bytes s → Bytes (drop n s)
 bytes-drop zero s h = h

@@ -25,11 +25,11 @@ use Rattle.op.specs.declared.Named.the-variants.{Is, NoOp}
 use Rattle.op.specs.Op.{opNumber, opOf}
 use Rattle.op.specs.OpLaws.{of-number}
 use Rattle.tree.specs.Limits.{depthLimit, mantissaLimit, scaleLimit, flagsLimit, textLimit}
-use Rattle.tree.specs.Tree.{Tree, Trees, null, unbounded, bool, num, str, date, timestamp, spatial, id, monadic, dyadic, function, array, interval, none, _then_, twos, dateBytes, counted, encode, encodes}
+use Rattle.tree.specs.Tree.{Tree, Trees, null, unbounded, bool, num, str, date, timestamp, spatial, id, monadic, dyadic, function, array, interval, none, _then_, twos, dateBytes, counted, encode, encodes, Bytes}
 use Rattle.tree.specs.Parse.{Read, refused, got, also, Body, cons, end, exactly, many, items, mantissa, nameAt, past, namedAt, emptyBody, boolBody, numBody, strBody, dateBody, timestampBody, spatialBody, leaf, takesOne, takesTwo, allowed, operated, readMonadic, readDyadic, readFunction, readArray, readInterval, Row, row, choose, kinds, node, parse}
 use Rattle.tree.specs.Tests.{first, second, count}
 use Rattle.tree.specs.GoodWords.{Good, AllGood}
-use Rattle.tree.specs.ByteLaws.{Bytes, bytes-drop, bytes-take, byte-at, reads-drop, le-at, reads-all, twos-signed}
+use Rattle.tree.specs.ByteLaws.{bytes-drop, bytes-take, byte-at, reads-drop, le-at, reads-all, twos-signed}
 
 -- Taking a reading apart.
 
@@ -356,64 +356,38 @@ module _ (n : ℕ) (low : 0 < n) (below : Body) (S : Sound (n - 1) below) where
 
 -- The table.
 
-abbrev AllSound : ℕ → List Row → Type 0
-AllSound n [] = Unit {0}
-AllSound n (r ∷ rs) = RowSound n r × AllSound n rs
+infixr 40 _also_
+data AllSound (n : ℕ) : List Row → Type 0 where
+  done : AllSound n []
+  _also_ : {r : Row} {rs : List Row} → RowSound n r → AllSound n rs → AllSound n (r ∷ rs)
 
 choose-sound : (n : ℕ) (rs : List Row) → AllSound n rs → (k : ℕ) (s : List ℕ) (t : Tree) → Bytes s → choose k s rs ≡ got t → (recordOf k s ≡ encode t) × Good t n
 unfolding choose
-choose-sound n [] A k s t h c = not-got BadKindOrOperator t c
-choose-sound n (r ∷ rs) A k s t h c =
+choose-sound n [] done k s t h c = not-got BadKindOrOperator t c
+choose-sound n (r ∷ rs) (A also B) k s t h c =
     ⊎-elim
-    (λ w. let g = A .0 s t h (w .1) in (ap (λ (i : ℕ). recordOf i s) (eqb-true k (r .kind) (w .0)) ∙ g .0, g .1))
-    (λ w. choose-sound n rs (A .1) k s t h (w .1))
+    (λ w. let g = A s t h (w .1) in (ap (λ (i : ℕ). recordOf i s) (eqb-true k (r .kind) (w .0)) ∙ g .0, g .1))
+    (λ w. choose-sound n rs B k s t h (w .1))
     (split (eqb k (r .kind)) (r .read s) (choose k s rs) (got t) c)
 
 kinds-sound : (n : ℕ) → 0 < n → (below : Body) → Sound (n - 1) below → AllSound n (kinds below)
 unfolding kinds
-kinds-sound n l below S = (
-  leaf-sound n 0 emptyBody (λ s. null) (null-sound n l),
-  (
-    leaf-sound n 1 emptyBody (λ s. unbounded) (unbounded-sound n l),
-    (
-      leaf-sound n 2 boolBody (λ s. bool (eqb (getD s 0 0) 1)) (bool-sound n l),
-      (
-        leaf-sound n 3 numBody (λ s. num (mantissa s 0) (getD s 8 0)) (num-sound n l),
-        (
-          leaf-sound n 4 strBody (λ s. str (getD s 0 0) (drop 1 s)) (str-sound n l),
-          (
-            leaf-sound n 5 dateBody (λ s. date (le16 s 0) (getD s 2 0) (getD s 3 0)) (date-sound n l),
-            (
-              leaf-sound n 6 timestampBody (λ s. timestamp (le16 s 0) (getD s 2 0) (getD s 3 0) (getD s 4 0) (getD s 5 0) (getD s 6 0)) (timestamp-sound n l),
-              (
-                leaf-sound n 7 spatialBody (λ s. spatial (le32 s 0) (drop 4 s)) (spatial-sound n l),
-                (
-                  leaf-sound n 8 name (λ s. id s) (id-sound n l),
-                  (
-                    monadic-sound n l below S,
-                    (
-                      dyadic-sound n l below S,
-                      (
-                        function-sound n l below S,
-                        (
-                          array-sound n l below S,
-                          (
-                            interval-sound n l below S,
-                            tt,
-                          ),
-                        ),
-                      ),
-                    ),
-                  ),
-                ),
-              ),
-            ),
-          ),
-        ),
-      ),
-    ),
-  ),
-)
+kinds-sound n l below S =
+    leaf-sound n 0 emptyBody (λ s. null) (null-sound n l)
+    also leaf-sound n 1 emptyBody (λ s. unbounded) (unbounded-sound n l)
+    also leaf-sound n 2 boolBody (λ s. bool (eqb (getD s 0 0) 1)) (bool-sound n l)
+    also leaf-sound n 3 numBody (λ s. num (mantissa s 0) (getD s 8 0)) (num-sound n l)
+    also leaf-sound n 4 strBody (λ s. str (getD s 0 0) (drop 1 s)) (str-sound n l)
+    also leaf-sound n 5 dateBody (λ s. date (le16 s 0) (getD s 2 0) (getD s 3 0)) (date-sound n l)
+    also leaf-sound n 6 timestampBody (λ s. timestamp (le16 s 0) (getD s 2 0) (getD s 3 0) (getD s 4 0) (getD s 5 0) (getD s 6 0)) (timestamp-sound n l)
+    also leaf-sound n 7 spatialBody (λ s. spatial (le32 s 0) (drop 4 s)) (spatial-sound n l)
+    also leaf-sound n 8 name (λ s. id s) (id-sound n l)
+    also monadic-sound n l below S
+    also dyadic-sound n l below S
+    also function-sound n l below S
+    also array-sound n l below S
+    also interval-sound n l below S
+    also done
 
 pub node-sound : (levels : ℕ) → Sound levels (node levels)
 unfolding node

@@ -1,5 +1,5 @@
 -- A tree of fourteen kinds, and how it is written as records: document 01, "Records".
-use Prim.Native.Nat.{ℕ, _-_}
+use Prim.Native.Nat.{ℕ, _-_, _<_}
 use mathlib.Core.List.{List, [], _∷_, _++_}
 use mathlib.Core.Bool.{Bool}
 use lib.IntN.{ℤ, pos, negsuc}
@@ -54,6 +54,11 @@ kindOf (dyadic o t u) = DYADIC
 kindOf (function n ts) = FUNCTION
 kindOf (array ts) = ARRAY
 kindOf (interval t u) = INTERVAL
+
+-- every element of a list is a byte
+abbrev pub Bytes : List ℕ → Type 0
+Bytes [] = Unit {0}
+Bytes (x ∷ s) = (x < 256) × Bytes s
 
 -- an integer in 8 bytes, as the number whose two's complement it is: −(n + 1) is 2^64 − 1 − n
 unfoldable pub twos : ℤ → ℕ
