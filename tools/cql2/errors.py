@@ -1,5 +1,6 @@
 """What can keep a command from its answer. Each is told to the user as one line, with an exit status, and never by a traceback."""
 import os
+import signal
 import sqlite3
 import sys
 
@@ -45,12 +46,20 @@ def guarded(name, work, enough=0):
         return told(name, 'an argument is not UTF-8 text', 2)
     except MemoryError:
         return told(name, 'there is not enough memory', 2)
-    except KeyboardInterrupt:
-        return told(name, 'stopped', 130)
+    except KeyboardInterrupt as e:
+        return told(name, 'stopped', 128 + getattr(e, 'number', signal.SIGINT))
     except OSError as e:
         # what is still to be written has nowhere to go, and must not be tried again at exit
         os.dup2(os.open(os.devnull, os.O_WRONLY), sys.stdout.fileno())
-        return enough if isinstance(e, BrokenPipeError) else told(name, e.strerror or e, 2)
+        return enough if isinstance(e, BrokenPipeError) else told(name, of_system(e), 2)
+    except Exception as e:
+        # a fault of the command itself, which must not look like a refusal
+        return told(name, 'a fault in this command (%s: %s): please report the call' % (type(e).__name__, e), 2)
+
+
+def of_system(e):
+    """What the system says, with the file that it is about."""
+    return '%s%s' % ('%s: ' % e.filename if isinstance(e.filename, str) else '', e.strerror or e)
 
 
 def told(name, message, status):
