@@ -21,6 +21,10 @@ class Refused(Exception):
         self.number, self.place = number, place
 
 
+class Parted(Exception):
+    """A text that is known to part from its filter, where --strict is given: exit status 1."""
+
+
 class Disagreement(Exception):
     """The proved reader and SQLite say different things of a row: exit status 1."""
 
@@ -36,7 +40,7 @@ def guarded(name, work, enough=0):
         work()
         sys.stdout.flush()
         return 0
-    except (Refused, Disagreement) as e:
+    except (Refused, Parted, Disagreement) as e:
         return told(name, e, 1)
     except (BadInput, sqlite3.Error) as e:
         return told(name, e, 2)
@@ -62,7 +66,14 @@ def of_system(e):
     return '%s%s' % ('%s: ' % e.filename if isinstance(e.filename, str) else '', e.strerror or e)
 
 
+def some(names, most=12):
+    """A list in words, cut where it is long."""
+    left = len(names) - most
+    return ', '.join(names[:most]) + (', … (%d more)' % left if left > 0 else '')
+
+
 def told(name, message, status):
+    """Says it in one line on standard error; gives the status."""
     line = ' '.join(str(message).split())
     # names out of a filter or a file may hold what a terminal would obey
     line = ''.join(c if c.isprintable() else c.encode('unicode_escape', 'backslashreplace').decode() for c in line)

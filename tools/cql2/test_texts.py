@@ -1,19 +1,17 @@
 """Tests of the texts: every operator and kind of value, by hand, against the independent reference of tools/lowering, and against the Rust.
 
-  python3 -m unittest discover -s tools                 all tests of the command and of the programs
-  ORACLE=FILE python3 -m unittest discover -s tools     also compares every text with that of the oracle program FILE"""
+  tests/run                                             all tests, with the oracle where ../shared is at hand
+  ORACLE=FILE python3 -m unittest discover -s tools     those of the command and of the programs; FILE is the oracle program"""
 import json
 import os
 import struct
-import subprocess
 import sys
-import tempfile
 import unittest
 
 sys.path.insert(0, os.path.join(os.path.dirname(os.path.abspath(__file__)), '..', 'lowering'))
 import lowering as reference
 
-from . import lowering, proved, records
+from . import lowering, proved, records, rust
 from .encode import KNOWN, Encoder
 from .reading import read_filter
 
@@ -217,24 +215,13 @@ class Texts(unittest.TestCase):
                 self.assertEqual((rest, reference.encode(tree)), (b'', encoded))
                 self.assertEqual(reference.text(SETTINGS, tree), text)
 
-    @unittest.skipUnless(os.environ.get('ORACLE'), 'ORACLE names no program')
+    @unittest.skipUnless(rust.program(), rust.MISSING)
     def test_texts_of_the_rust(self):
         cases = list(self.cases())
-        with tempfile.TemporaryDirectory() as folder:
-            asked, told = os.path.join(folder, 'cases'), os.path.join(folder, 'answers')
-            with open(asked, 'wb') as f:
-                for data, _ in cases:
-                    for part in (records.settings(*SETTINGS), tree_of(data).encode()):
-                        f.write(struct.pack('<I', len(part)) + part)
-            subprocess.run([os.environ['ORACLE'], 'lower', asked, told], check=True)
-            with open(told, 'rb') as f:
-                answers = f.read()
-        at = 0
-        for data, text in cases:
-            size = int.from_bytes(answers[at + 1:at + 5], 'little')
+        told = rust.answers([(records.settings(*SETTINGS), tree_of(data).encode()) for data, _ in cases])
+        for (data, text), answer in zip(cases, told):
             with self.subTest(data):
-                self.assertEqual(answers[at:at + 1] + answers[at + 5:at + 5 + size], b'T' + text.encode())
-            at += 5 + size
+                self.assertEqual(answer, ('T', text))
 
     def test_many_conditions_are_not_deep(self):
         text = sql_of(op('or', *[op('=', A, k) for k in range(300)]))
