@@ -190,15 +190,19 @@ def number_as_text(part, table):
             yield place, {'column': columns[0]}
 
 
+TAKES = {'like': {TEXT}, 'as a condition': {BOOLEAN}}
 CLASHES = ((TEXTS, NUMBERS | {GEOMETRY}), (NUMBERS, TEXTS | {GEOMETRY}), ({GEOMETRY}, TEXTS | NUMBERS))
 
 
 def other_type(part, table):
+    """A column that meets values of another family, or an operator that takes none of its family."""
     name = operator(part.value) or ''
     found = operands(part)
+    if property_of(part.value) and (not part.above or operator(part.above[-1]) in LOGIC):
+        name, found = 'as a condition', [(part.value, part.place)]
     kinds = {family(x, table) for x, _ in found} - {UNKNOWN}
     # what the operator itself takes
-    kinds |= {DATE} if name.startswith('t_') else {NUMBER} if name in ARITHMETIC or name == 'between' else {TEXT} if name == 'like' else set()
+    kinds |= {DATE} if name.startswith('t_') else {NUMBER} if name in ARITHMETIC or name == 'between' else TAKES.get(name, set())
     for x, place in found:
         column = column_of(x)
         kind = family(x, table) if column else UNKNOWN

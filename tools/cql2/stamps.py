@@ -57,16 +57,16 @@ def sums(crate):
 
 
 def kit():
-    """The kit's one-line identity; empty where it has none."""
-    home = os.environ.get('RATTLE_HOME')
-    if not home:
-        rt = shutil.which(command()[0])
-        home = os.path.dirname(os.path.dirname(os.path.realpath(rt))) if rt else ''
-    try:
-        with open(os.path.join(home, 'KIT-ID'), encoding='utf-8') as f:
-            return f.read()
-    except OSError:
-        return ''
+    """The kit's one-line identity, by RATTLE_HOME or beside the program that is started, also by another as `nice rt`; empty where there is none."""
+    programs = [shutil.which(word) for word in (*command(), 'rt')]
+    homes = [os.path.dirname(os.path.dirname(os.path.realpath(program))) for program in programs if program]
+    for home in [os.environ['RATTLE_HOME']] if os.environ.get('RATTLE_HOME') else homes:
+        try:
+            with open(os.path.join(home, 'KIT-ID'), encoding='utf-8') as f:
+                return f.read()
+        except OSError:
+            pass
+    return ''
 
 
 def told(root, name):

@@ -115,7 +115,8 @@ class Build(unittest.TestCase):
         for number in (signal.SIGINT, signal.SIGTERM, signal.SIGHUP):
             shutil.rmtree(self.path('busy'), ignore_errors=True)
             self.write('notes', '')
-            one = self.start(env={'PROVER': '1'})
+            # a run of tests in the background heeds no interrupt, and nor would what it starts
+            one = self.start(env={'PROVER': '1'}, preexec_fn=lambda: signal.signal(signal.SIGINT, signal.SIG_DFL))
             until(lambda: len(self.notes()) == 2)
             prover = int(self.notes()[1].split()[1])
             one.send_signal(number)

@@ -223,6 +223,15 @@ class Texts(unittest.TestCase):
             with self.subTest(data):
                 self.assertEqual(answer, ('T', text))
 
+    def test_where_the_tree_is_not_that_of_the_rusts_reader(self):
+        """README says how `and` and `or` of more than two are grouped, here and there."""
+        with open(os.path.join(proved.ROOT, 'README.md'), encoding='utf-8') as f:
+            told = f.read()
+        for name in ('and', 'or'):
+            self.assertEqual(sql_of(op(name, A, B, C, D)), '(a AND b) AND (c AND d)'.replace('AND', name.upper()))
+        self.assertIn('`and` and `or` of more than two conditions are halved here, `(a AND b) AND (c AND d)`', told)
+        self.assertIn('read from the left, `((a AND b) AND c) AND d`', told)
+
     def test_many_conditions_are_not_deep(self):
         text = sql_of(op('or', *[op('=', A, k) for k in range(300)]))
         self.assertEqual(text.count(' OR '), 299)

@@ -61,6 +61,7 @@ CASES = [
     ('a column of another declared type', op('between', A, 5, 20), ['$.args[0]'], [TEXT], [['6']], None, [], None),
     ('a column of another declared type', op('<', A, 'abc'), ['$.args[0]'], [INTEGER], [[5]], None, [1], (op('<', A, 10), [1])),
     ('a column of another declared type', op('=', op('+', A, 1), 1), ['$.args[0].args[0]'], [TEXT], [['x']], None, [1], None),
+    ('a column of another declared type', op('not', A), ['$.args[0]'], [TEXT], [['true']], None, [1], None),
     ("LIKE(a, 'X'), a `x`", op('like', A, 'X%'), ['$.args[1]'], [TEXT], [['xy'], ['Xy']], [2], [1, 2], None),
     ("LIKE(a, 'X'), a `x`", op('like', casei(A), 'X%'), ['$.args[1]'], [TEXT], [['xy']], [], [1], (op('like', casei(A), casei('X%')), [1])),
     ("AccentI(a) LIKE AccentI('cafe'), a `café`", op('like', casei(accenti(A)), casei(accenti('caf%'))), ['$.args[1]'], [TEXT], [['cáfe'], ['cafe']], [1, 2], [2], None),
@@ -102,7 +103,7 @@ FINE = [    # a filter, and the columns as declared; no warning with them, nor w
     (op('=', A, op('/', 6, 2)), [INTEGER]), (op('=', A, op('*', B, 0.5)), ['REAL', INTEGER]), (op('between', A, 1, op('+', B, 2)), [INTEGER] * 2),
     (op('not', op('s_intersects', A, point(1, 2))), ['POINT']), (op('and', *there(A), op('s_intersects', A, point(1, 2))), ['POINT']),
     (op('=', {'property': 'key'}, 1), None), (op('=', A, True), ['BOOLEAN']), (True, [TEXT]), (op('>=', A, stamp('2026-03-01T12:00:00Z')), ['DATETIME']),
-    (op('=', A, '2024-01-01'), [DATE]),
+    (op('=', A, '2024-01-01'), [DATE]), (op('not', A), ['BOOLEAN']), (A, [INTEGER]),
 ]
 
 
@@ -253,6 +254,16 @@ class SpatiaLite(unittest.TestCase):
                 self.assertEqual(self.told(data, '--strict', *options, status=1)[0], [])
                 if instead:
                     self.assertEqual(self.told(instead, '--strict', *options), (['%d of 200 rows' % right], []))
+
+    def test_all_eight_operators(self):
+        """-1 where the place is NULL: picked, and not under NOT."""
+        package = "import sys; sys.path.insert(0, %r); from cql2.geopackage import GeoPackage; package = GeoPackage(%r, 'xyz', True)" % (
+            os.path.join(proved.ROOT, 'tools'), self.path)
+        text = "ST_%s(place, ST_GeomFromText('POINT (1 2)', 4326))"
+        ask = "print([package.ask('SELECT %s, NOT %s FROM stays WHERE fid = 1' % (t, t))[0] for t in sys.argv[1:]])"
+        names = 'Intersects Equals Disjoint Touches Within Overlaps Crosses Contains'.split()
+        done = subprocess.run([self.python, '-B', '-c', package + '; ' + ask, *[text % name for name in names]], capture_output=True, text=True)
+        self.assertEqual((done.stdout.strip(), done.stderr), (str([(-1, 0)] * 8), ''))
 
     def test_a_system_makes_no_difference(self):
         """The numbers are compared as they stand, whatever the systems are."""
