@@ -45,6 +45,9 @@ class NoTable:
     def is_geometry(self, name):
         return True
 
+    def collation(self, name):
+        return 'BINARY'
+
 
 class Table:
     """A GeoPackage's table; `srid` is that of written geometries, `readable` says whether SQLite can read a name that stands bare."""
@@ -63,3 +66,6 @@ class Table:
 
     def is_geometry(self, name):
         return self.column(name).srid is not None
+
+    def collation(self, name):
+        return self.package.collation(self.name, name)

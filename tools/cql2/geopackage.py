@@ -103,6 +103,13 @@ class GeoPackage:
     def has_null(self, table, column):
         return bool(self.ask('SELECT 1 FROM %s WHERE %s IS NULL LIMIT 1' % (quoted(table), quoted(column))))
 
+    def collation(self, table, column):
+        """The name of the collation by which SQLite compares the column: the program that it makes of a comparison has it."""
+        for _, code, _, _, _, told, *_ in self.ask("EXPLAIN SELECT 1 FROM %s WHERE +%s = 'x'" % (quoted(table), quoted(column))):
+            if code in ('Eq', 'Ne') and told:
+                return told.rsplit('-', 1)[0]
+        return 'BINARY'
+
     def count(self, table):
         return self.ask('SELECT count(*) FROM %s' % quoted(table))[0][0]
 
@@ -133,7 +140,12 @@ class GeoPackage:
         try:
             return self.connection.execute(sql)
         except sqlite3.Error as e:
+            if not isinstance(e, sqlite3.OperationalError) or str(e).startswith(OF_THE_FILE):
+                raise BadInput('cannot read %s: %s' % (self.path, e))
             raise BadInput(explained(str(e)))
+
+
+OF_THE_FILE = ('database is locked', 'disk I/O error', 'unable to open')    # what SQLite says of the file, not of the text
 
 
 def quoted(name):

@@ -72,9 +72,10 @@ def joined(value, name):
 # ---- time
 
 
-# Of an interval on the left and on the right: the ends that the text compares, and those whose columns it guards.
+# Of an interval on the left and on the right: the ends that the text compares, and those whose columns it guards, if not all.
+BOTH = ((0, 1), (0, 1))
 USED = {'t_after': ((0,), (1,)), 't_before': ((1,), (0,)), 't_meets': ((1,), (0,)), 't_metBy': ((0,), (1,))}
-GUARDED = {'t_after': ((1,), (0,)), 't_before': ((0,), (1,)), 't_meets': ((0,), (1,)), 't_metBy': ((1,), (0,)), 't_disjoint': ((0, 1), (0, 1))}
+GUARDED = {'t_after': ((1,), (0,)), 't_before': ((0,), (1,)), 't_meets': ((0,), (1,)), 't_metBy': ((1,), (0,)), 't_disjoint': BOTH}
 BY_EQUALITY = ('t_equals', 't_finishes', 't_finishedBy', 't_meets', 't_metBy')    # an interval's end is compared by = alone
 
 
@@ -90,7 +91,7 @@ def ends(part, which):
 
 
 def used(part):
-    return list(ends(part, USED.get(operator(part.value), ((0, 1), (0, 1)))))
+    return list(ends(part, USED.get(operator(part.value), BOTH)))
 
 
 def open_end(part, table):
@@ -104,15 +105,15 @@ def open_end(part, table):
             yield place, {'op': name}
 
 
-def guard(part, table):
-    name = operator(part.value)
-    if name not in GUARDED or not any(map(is_interval, part.value['args'])) or not decides(part):
+def false_for_unknown(part, table):
+    """A guard is false where a column is NULL, and of several comparisons one can be false, so that the text is not unknown there."""
+    name = operator(part.value) or ''
+    if not name.startswith('t_') or not any(map(is_interval, part.value['args'])) or not decides(part):
         return
-    for _, k, value, _ in ends(part, GUARDED[name]):
-        column = property_of(value)
-        if k is not None and column and table.column(column).nullable and not settled(part, column):
-            yield part.place, {'op': name, 'column': column}
-            return
+    ended = [property_of(value) for _, k, value, _ in ends(part, GUARDED.get(name, BOTH)) if k is not None]
+    columns = [column for column in dict.fromkeys(ended) if column and table.column(column).nullable and not settled(part, column)]
+    if columns:
+        yield part.place, {'op': name, 'columns': ' or '.join(columns), 'each': ' and of '.join(columns)}
 
 
 def reversed_interval(part, table):
@@ -238,8 +239,8 @@ def same_folds(one, other):
     if names == others:
         return True
     plain = lambda value, missing: isinstance(value, str) and ('casei' not in missing or value == value.lower())
-    # a written text that a fold leaves as it is may stand beside a folded column
-    return names > others and plain(y, names - others) or others > names and plain(x, others - names)
+    # a written text that a fold leaves as it is may stand beside a folded column, whose collation must be the one that counts: the left one, if any
+    return names > others and plain(y, names - others) or not names and plain(x, others)
 
 
 def one_sided_fold(part, table):
@@ -254,6 +255,17 @@ def fold_in_list(part, table):
             if not same_folds(left, x) or folds(x)[1] > folds(left)[1]:
                 yield '%s.args[1][%d]' % (part.place, k), {}
                 return
+
+
+def declared_collation(part, table):
+    """A column that is declared to be compared by another collation than the plain one, with none written beside it."""
+    found = operands(part) if operator(part.value) in COMPARISONS + ('in',) else []
+    if any(folds(x)[1] for x, _ in found):
+        return
+    for x, place in found:
+        if property_of(x) and table.column(property_of(x)).family == TEXT and table.collation(property_of(x)) != 'BINARY':
+            yield place, {'column': property_of(x), 'collation': table.collation(property_of(x))}
+            return
 
 
 def fold_in_function(part, table):

@@ -51,15 +51,17 @@ def follow(output, total):
     ended = threading.Event()
     ticking = threading.Thread(target=tick, args=(started, ended), daemon=True)
     ticking.start()
-    for line in output:
-        last = line.strip() or last
-        told = re.match(r'rt: (\w+) proved \((.*)\)', line)
-        done += told is not None
-        if told and 'unchanged' not in line:
-            clear = '\r\033[K' if sys.stderr.isatty() else ''
-            print('%sproved %2d of %d: %-10s %5s' % (clear, done, total, told.group(1), told.group(2)), file=sys.stderr, flush=True)
-    ended.set()
-    ticking.join()
+    try:
+        for line in output:
+            last = line.strip() or last
+            told = re.match(r'rt: (\w+) proved \((.*)\)', line)
+            done += told is not None
+            if told and 'unchanged' not in line:
+                clear = '\r\033[K' if sys.stderr.isatty() else ''
+                print('%sproved %2d of %d: %-10s %5s' % (clear, done, total, told.group(1), told.group(2)), file=sys.stderr, flush=True)
+    finally:
+        ended.set()
+        ticking.join()
     return last
 
 

@@ -121,6 +121,8 @@ OTHER = [
     ('IN(a, b)', two('IsInList', A, B), 'a IN b', ABC, 'no such table: b', None, None),
     ('NOT TAfter(a, [b, c]), b NULL', one('Neg', two('TAfter', A, interval(B, C))), 'NOT ("b" IS NOT NULL AND (a > c))', {'a': '2', 'b': None, 'c': '1'}, 1,
      'NOT (a > c AND b < c)', None),
+    ('NOT TIntersects(a, [b, c]), a 1, b 2, c NULL', one('Neg', two('TIntersects', A, interval(B, C))), 'NOT (NOT((a < b) OR (a > c)))',
+     {'a': '1', 'b': '2', 'c': None}, 1, None, None),
     ('an Id that the table lacks, guarded', two('TAfter', A, interval(name('zz'), C)), '"zz" IS NOT NULL AND (a > c)', {'a': '2', 'c': '1'}, 1, None, None),
     ('an open end, `..`', two('TIntersects', A, interval(date(2026, 3, 20), OPEN)), "NOT((a < '2026-03-20') OR (a > '-2021-01-01'))", {'a': '2026-03-21'}, 0,
      "NOT((a < '2026-03-20') OR (a > '9999-12-31'))", 1),

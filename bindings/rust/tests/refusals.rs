@@ -1,5 +1,6 @@
 //! Each refusal, by the safe API or by raw bytes, with its number and words; lent bytes after it; trees of any depth.
-use std::collections::HashSet;
+use std::collections::hash_map::DefaultHasher;
+use std::hash::{Hash, Hasher};
 use wenduulig::{read, read_bytes, to_sql, to_sql_bytes, to_sql_into, Op, Refusal, Row, Settings, E, TEXT_MAX};
 
 fn lower(e: &E) -> Result<String, Refusal> {
@@ -158,6 +159,12 @@ fn words() {
     assert!(error.to_string().contains("balanced"));
 }
 
+fn hashed(e: &E) -> u64 {
+    let mut hasher = DefaultHasher::new();
+    e.hash(&mut hasher);
+    hasher.finish()
+}
+
 /// A chain of 200,000 levels is encoded, refused, copied, compared, hashed, shown and dropped on the small stack of a
 /// test's thread.
 #[test]
@@ -172,9 +179,7 @@ fn any_depth() {
     ] {
         assert_eq!(lower(&deep), Err(Refusal::TreeTooLong));
         let copy = deep.clone();
-        assert!(copy == deep);
-        assert!(E::monadic(Op::Neg, copy.clone()) != deep);
-        assert!(HashSet::from([deep.clone()]).contains(&copy));
+        assert!(copy == deep && hashed(&copy) == hashed(&deep));
         let shown = format!("{deep:?}");
         assert!(shown.len() > 1_000_000 && shown.matches("Null").count() >= 1, "{}", shown.len());
     }
