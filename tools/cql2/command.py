@@ -8,6 +8,7 @@ from .columns import NoTable, Table
 from .encode import KNOWN, Encoder
 from .errors import BadInput, Parted, guarded, some, told
 from .geopackage import GeoPackage
+from .looking import CLOCKS
 from .reading import is_text_encoding, read_filter
 
 ABOUT = 'Shows the SQL text of a CQL2-JSON filter, lowered by the proved program, and with a GeoPackage the rows that it picks.'
@@ -95,9 +96,6 @@ def filter_bytes(source):
         raise BadInput('cannot read the filter %s: %s' % (source, getattr(e, 'strerror', None) or e))
 
 
-CLOCKS = (b'CURRENT_DATE', b'CURRENT_TIME', b'CURRENT_TIMESTAMP')
-
-
 def check_columns(tree, package, name):
     """SQLite would take a quoted name that is no column for a text, in silence."""
     columns = package.columns(name)
@@ -105,7 +103,7 @@ def check_columns(tree, package, name):
     for node in (node for node, _ in tree.walk() if node.kind == records.ID):
         if node.head.decode().lower() not in known:
             raise BadInput('the table "%s" has no column %s; it has %s' % (name, node.head.decode(), some(columns)), node.place)
-        if node.head.upper() in CLOCKS:
+        if node.head.decode().upper() in CLOCKS:
             raise BadInput('SQLite takes the name %s for the time of today, not for the column' % node.head.decode(), node.place)
 
 
@@ -140,14 +138,6 @@ def tell(found, strict):
         raise Parted('refused (--strict): %d warning%s' % (len(found), '' if len(found) == 1 else 's'))
 
 
-def check_runs(found, scratch, sql):
-    """On a GeoPackage: what SQLite cannot run ends the command, with the place and the way out."""
-    error = scratch.error(sql)
-    for one in found:
-        if one.cannot and error:
-            raise BadInput('SQLite cannot run this text: %s; %s' % (error, one.instead), one.place)
-
-
 def run(arguments):
     options = parser().parse_args(arguments)
     if options.geopackage is None and (options.table is not None or options.spatialite):
@@ -165,11 +155,13 @@ def run(arguments):
     scratch = prepare.Scratch(tree, collations)
     where = Table(package, name, options.spatialite, options.srid, scratch.readable) if package else NoTable(options.srid, scratch.readable)
     found = warnings_of(value, tree, sql, settings, scratch, where)
-    # on a GeoPackage what SQLite cannot run is an error, and said once
-    tell([one for one in found if options.strict or not package or not one.cannot], options.strict)
+    # on a GeoPackage what SQLite cannot run ends the command, and is said once
+    ending = [one for one in found if one.cannot] if package and scratch.error(sql) and not options.strict else []
+    tell([one for one in found if one not in ending], options.strict)
     print(sql)
+    if ending:
+        raise BadInput('SQLite cannot run this text: %s; %s' % (scratch.error(sql), ending[0].instead), ending[0].place)
     if package:
-        check_runs(found, scratch, sql)
         print()
         show_rows(package, name, sql, options.rows)
 

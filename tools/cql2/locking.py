@@ -68,7 +68,7 @@ def run(words, folder, follow):
 
 
 def end(rt):
-    """Ends a command and all that it started. The shell that `rt` is has provers behind it that heed no interrupt."""
+    """Ends a command and all that it started: `rt` is a shell, and what a shell has in the background heeds no interrupt."""
     for number in (signal.SIGTERM, signal.SIGKILL):
         try:
             os.killpg(rt.pid, number)

@@ -6,7 +6,7 @@ from .errors import BadInput, Refused
 
 
 class Number:
-    """A JSON number, exactly: sign, the digits without zeros at either end, and the power of ten behind them."""
+    """A JSON number, exactly: sign, the digits without zeros at either end, and the power of ten after them."""
 
     def __init__(self, text):
         self.text = text
@@ -20,7 +20,7 @@ class Number:
             self.power = 0
 
     def point(self):
-        """How many digits stand before the decimal point; negative for zeros behind it."""
+        """How many digits stand before the decimal point; negative for zeros after it."""
         return len(self.digits) + self.power
 
     def __repr__(self):

@@ -14,7 +14,7 @@ def command():
 
 
 def uses(root):
-    """What stands behind each crate's name in crates.txt, as it is written."""
+    """What stands after each crate's name in crates.txt, as it is written."""
     with open(os.path.join(root, 'crates.txt'), encoding='utf-8') as f:
         lines = [line.rstrip('\n').split('#')[0].partition(':') for line in f]
     return {name.strip(): rest for name, colon, rest in lines if colon}

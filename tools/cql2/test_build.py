@@ -30,7 +30,7 @@ try:
 except FileExistsError:
     note('two at once')
 if os.environ.get('PROVER'):
-    # as the provers behind rt: in the background, heeding no interrupt
+    # as rt's provers: in the background, heeding no interrupt
     prover = subprocess.Popen(['sh', '-c', 'trap "" INT; sleep 60 & wait'])
     note('prover %d' % prover.pid)
     prover.wait()

@@ -5,8 +5,8 @@ import random
 import sqlite3
 import unittest
 
-from . import differences, proved, records
-from .columns import NoTable
+from . import differences, lowering, prepare, proved, records, test_random
+from .columns import Column, NoTable
 from .geopackage import collation, without_accents
 from .reading import read_filter
 from .test_texts import SETTINGS, op, tree_of
@@ -133,10 +133,79 @@ def truth(value, row):
     return matches(left, right) if name == 'like' else COMPARED[name](left, right)
 
 
+def by_time(data, value):
+    """The answer by instants of time: texts of one width, which sort as time does."""
+    found = [[timed(y, value) for y in x['interval']] if 'interval' in x else [timed(x, value)] * 2 for x in data['args']]
+    if data['op'] in COMPARED:
+        return COMPARED[data['op']](found[0][0], found[1][0])
+    return RELATIONS[data['op']](*found[0], *found[1])
+
+
+class Typed(NoTable):
+    """A table whose columns are all declared alike."""
+
+    def __init__(self, declared):
+        super().__init__(4326, lambda name: True)
+        self.declared = declared
+
+    def column(self, name):
+        return Column(self.declared)
+
+
+def timed(x, value):
+    """An instant with three digits after its seconds, of an operand or an end; the column's value for a property."""
+    if isinstance(x, dict):
+        x = value if 'property' in x else x.get('date') or x['timestamp']
+    return (x.replace('Z', '') if len(x) > 10 else x + 'T00:00:00').ljust(20, '.').ljust(23, '0')
+
+
 class Silence(unittest.TestCase):
+    def test_columns_of_dates_and_times(self):
+        """Every operator between a column and written instants around its values, in both orders: another answer than by time has a warning."""
+        literals = [{'date': '2024-01-02'}, {'timestamp': '2024-01-02T00:00:00Z'}, {'timestamp': '2024-01-02T12:00:00Z'}]
+        intervals = [{'interval': ['2024-01-02', '2024-01-03']}, {'interval': ['2024-01-02T00:00:00Z', '2024-01-02T12:00:00Z']},
+                     {'interval': ['2024-01-02', '2024-01-02T12:00:00Z']}]
+        column, both = {'property': 'a'}, {'interval': [{'property': 'a'}, {'property': 'a'}]}
+        filters = [op(name, *pair) for name in COMPARED for x in literals for pair in ((column, x), (x, column))]
+        filters += [op(name, *pair) for name in INSTANTS for x in literals + intervals for pair in ((column, x), (x, column))]
+        filters += [op(name, *pair) for name in RELATIONS for x in intervals for pair in ((both, x), (x, both))]
+        texts = proved.run('lower', [(records.settings(*SETTINGS), tree_of(data).encode()) for data in filters])
+        values = {'DATE': ['2024-01-01', '2024-01-02', '2024-01-03'],
+                  'DATETIME': ['2024-01-%sZ' % x for x in ('01T23:59:59.999', '02T00:00:00.000', '02T00:00:00.500', '02T12:00:00.000', '02T12:00:00.001')]}
+        tally = {True: 0, False: 0}
+        for declared, found in values.items():
+            for data, text in zip(filters, texts):
+                same = all(self.one(text, declared, value) == by_time(data, value) for value in found)
+                warned = bool(differences.find(read_filter(json.dumps(data).encode()), Typed(declared)))
+                self.assertTrue(same or warned, (declared, text))
+                tally[warned] += 1
+        self.assertTrue(min(tally.values()) > 30, tally)
+
+    def one(self, text, declared, value):
+        connection = sqlite3.connect(':memory:')
+        connection.execute('CREATE TABLE x (a %s)' % declared)
+        connection.execute('INSERT INTO x VALUES (?)', [value])
+        return connection.execute('SELECT %s FROM x' % text).fetchone()[0]
+
     @classmethod
     def setUpClass(cls):
         proved.build(['lower'])
+
+    def test_what_sqlite_cannot_run(self):
+        """On filters of every operator: a warning that SQLite cannot run the text is right."""
+        filters = [test_random.Maker(seed, 10 ** 9).condition(seed % 12) for seed in range(3000)]
+        trees = [tree_of(data) for data in filters]
+        texts = proved.run('lower', [(records.settings(*SETTINGS), tree.encode()) for tree in trees])
+        wrong = 0
+        for data, tree, text in zip(filters, trees, texts):
+            scratch = prepare.Scratch(tree, SETTINGS[1:])
+            found = [one for one in differences.find(read_filter(json.dumps(data).encode()), NoTable(4326, scratch.readable)) if one.cannot]
+            # beside a constant SQLite drops what it would not take
+            constant = 'TRUE' in text or 'FALSE' in text
+            if lowering.refusal_of(text) is None and not constant and any('ST_ReducePrecision' not in one.happens for one in found):
+                self.assertIsNotNone(scratch.error(text), (data, found))
+                wrong += 1
+        self.assertGreater(wrong, 100)
 
     def picks(self, texts, rows):
         connection = sqlite3.connect(':memory:')

@@ -152,7 +152,7 @@ def sql_of(data):
 
 
 def decoded(data):
-    """The reference's tree of a record, and the bytes behind it."""
+    """The reference's tree of a record, and the bytes after it."""
     size, kind = struct.unpack_from('<IH', data)
     body, rest = data[6:4 + size], data[4 + size:]
     names = 'null unbounded bool num str date timestamp spatial id monadic dyadic function array interval'.split()
