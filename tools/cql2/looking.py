@@ -12,6 +12,7 @@ COMPARISONS = ('=', '<>', '<', '>', '<=', '>=')
 ARITHMETIC = ('+', '-', '*', '/', 'div', '%', '^')
 LOGIC = ('and', 'or', 'not')
 FOLDS = ('casei', 'accenti')
+TEMPORAL, SPATIAL = ([name for name in KNOWN if name.startswith(start)] for start in ('t_', 's_'))
 
 
 def walk(value, place='$', above=()):
@@ -52,7 +53,8 @@ def is_interval(value):
 
 
 def decides(part):
-    """Whether a part that is false, and not unknown, can make the filter true: it stands under an odd number of `not`, or inside no condition."""
+    """Whether a part that is false, and not unknown, can make the filter true: it stands under an odd number of `not`, or in
+    what is no condition."""
     above = [operator(value) for value in part.above]
     return above.count('not') % 2 == 1 or any(name not in LOGIC for name in above)
 
@@ -96,7 +98,7 @@ def used(part):
 
 def open_end(part, table):
     name = operator(part.value) or ''
-    for side, k, value, place in used(part) if name.startswith('t_') else ():
+    for side, k, value, place in used(part) if name in TEMPORAL else ():
         if value != '..' or k != 1:
             continue
         # by = an open end is right, but for an open start on the other side
@@ -108,7 +110,7 @@ def open_end(part, table):
 def false_for_unknown(part, table):
     """A guard is false where a column is NULL, and of several comparisons one can be false, so that the text is not unknown there."""
     name = operator(part.value) or ''
-    if not name.startswith('t_') or not any(map(is_interval, part.value['args'])) or not decides(part):
+    if name not in TEMPORAL or not any(map(is_interval, part.value['args'])) or not decides(part):
         return
     ended = [property_of(value) for _, k, value, _ in ends(part, GUARDED.get(name, BOTH)) if k is not None]
     columns = [column for column in dict.fromkeys(ended) if column and table.column(column).nullable and not settled(part, column)]
@@ -130,7 +132,7 @@ def reversed_interval(part, table):
 def operands(part):
     """(value, place) of each operand that the part compares or reckons with."""
     name, place = operator(part.value) or '', part.place + '.args'
-    if name.startswith('t_'):
+    if name in TEMPORAL:
         return [(value, at) for _, _, value, at in used(part)]
     if name == 'in' and isinstance(part.value['args'][1], list):
         return [(part.value['args'][0], place + '[0]')] + [(x, '%s[1][%d]' % (place, k)) for k, x in enumerate(part.value['args'][1])]
@@ -203,7 +205,7 @@ def other_type(part, table):
         name, found = 'as a condition', [(part.value, part.place)]
     kinds = {family(x, table) for x, _ in found} - {UNKNOWN}
     # what the operator itself takes
-    kinds |= {DATE} if name.startswith('t_') else {NUMBER} if name in ARITHMETIC or name == 'between' else TAKES.get(name, set())
+    kinds |= {DATE} if name in TEMPORAL else {NUMBER} if name in ARITHMETIC or name == 'between' else TAKES.get(name, set())
     for x, place in found:
         column = column_of(x)
         kind = family(x, table) if column else UNKNOWN
@@ -392,7 +394,7 @@ def unreadable_name(part, table):
 
 def geometry_columns(part):
     name = operator(part.value) or ''
-    return [(property_of(x), '%s.args[%d]' % (part.place, k)) for k, x in enumerate(part.value['args']) if property_of(x)] if name.startswith('s_') else []
+    return [(property_of(x), '%s.args[%d]' % (part.place, k)) for k, x in enumerate(part.value['args']) if property_of(x)] if name in SPATIAL else []
 
 
 def null_geometry(part, table):

@@ -207,6 +207,11 @@ class Silence(unittest.TestCase):
                 wrong += 1
         self.assertGreater(wrong, 100)
 
+    def test_functions_with_names_like_operators(self):
+        for name in ('t_f', 's_f', 'a_f'):
+            data = op('not', op(name, {'property': 'a'}, {'property': 'b'}, {'date': DAYS[0]}))
+            self.assertEqual(differences.find(data, NoTable(4326, lambda name: True)), [])
+
     def picks(self, texts, rows):
         connection = sqlite3.connect(':memory:')
         for name, key in zip(SETTINGS[1:], (str.lower, without_accents, lambda x: without_accents(x.lower()))):
