@@ -1,55 +1,34 @@
-"""The cases of fuzz/run: settings, trees, texts and rows from the generators in tools/, right ones, ones at the limits, and damaged ones."""
-import importlib.util, os, random, struct, sys
+"""The cases of fuzz/run: settings, trees, texts and rows from tools/generators, right ones, ones at the limits, and damaged ones."""
+import os, random, struct, sys
 
-TOOLS = os.path.join(os.path.dirname(os.path.abspath(__file__)), '..', 'tools')
-sys.path[:0] = [os.path.join(TOOLS, 'lowering'), os.path.join(TOOLS, 'texts')]
+sys.path.insert(0, os.path.join(os.path.dirname(os.path.abspath(__file__)), '..', 'tools'))
+from generators import filters, leaves, reading_edges, readings, trees
+from generators.edits import records_of, replaced, resized
+from model import lowering, records
+from model.limits import MANTISSA, NAME, PLANNER, ROW, SPATIAL, SQL, STR
+from model.names import RESERVED
+from model.operators import DYADIC, INSTANT_OR_INTERVAL, MONADIC, RELATIONS, TEMPORAL
+from model.records import SHEET_SETTINGS, encode, settings_record
 
-
-def tool(name, path):
-    """A script of tools/ by a name of its own: three of them are called make.py."""
-    spec = importlib.util.spec_from_file_location(name, os.path.join(TOOLS, path))
-    module = importlib.util.module_from_spec(spec)
-    spec.loader.exec_module(module)
-    return module
-
-
-import lowering
-trees, texts, literals = tool('trees', 'trees/make.py'), tool('texts_made', 'texts/make.py'), tool('literals', 'literals/make.py')
-
-NULL, INTERVAL = trees.NULL, trees.interval(trees.A, trees.B)
+NULL, INTERVAL = trees.NULL, records.interval(trees.A, trees.B)
 SPECIAL = [0, 1, 2, 3, 4, 9, 10, 13, 14, 15, 16, 23, 24, 27, 31, 32, 39, 52, 53, 59, 60, 64, 65, 99, 100, 127, 128, 200, 255]
-LONGEST_TREE, LONGEST_TEXT, LONGEST_ROW = 32768, 65535, 32768
 WORDS = [b'AND', b'OR', b'NOT', b'NULL', b'IS', b'TRUE', b'FALSE', b'(', b')', b'<', b'>', b'<=', b'>=', b'=', b'<>', b'!=', b'a', b'b', b'"a"', b"'x'", b"''", b'zz']
 
 
-def stored_trees():
-    """Settings and trees of tools/trees: every rule at its edges."""
-    if not trees.cases:
-        for group in (trees.fields, trees.dates, trees.name_rules, trees.operators, trees.places, trees.depths, trees.frames, trees.bodies,
-                      trees.orders, trees.settings_rules):
-            group()
-    return [c for c in trees.cases if len(c[1]) < 2000], [c for c in trees.cases if len(c[1]) >= 2000]
+def parted(cases, size):
+    """The small ones and the large."""
+    return [c for c in cases if size(*c) < 2000], [c for c in cases if size(*c) >= 2000]
 
 
-def stored_leaves():
-    rnd = random.Random(5)
-    return [x for make in (literals.numbers, literals.instants, literals.strings, literals.shapes) for x in make(rnd)]
-
-
-def stored_readings():
-    every = texts.boundary_cases()
-    return [c for c in every if len(c[0]) + len(c[1]) < 2000], [c for c in every if len(c[0]) + len(c[1]) >= 2000]
-
-
-SMALL_TREES, LARGE_TREES = stored_trees()
-LEAVES = stored_leaves()
-SMALL_READINGS, LARGE_READINGS = stored_readings()
+SMALL_TREES, LARGE_TREES = parted(list(trees.edges(with_sizes=False)), lambda settings, tree: len(tree))
+SMALL_READINGS, LARGE_READINGS = parted(reading_edges.edges(), lambda text, row: len(text) + len(row))
+LEAVES = list(map(encode, leaves.fields(random.Random(5))))
 
 
 # ---- fields at the edges of their rules
 
 WORD_EDGES = bytes(sorted({x + d for x in b'AZaz09_ (),-.~\'"' for d in (-1, 0, 1)} | {0, 31, 127, 128, 255}))
-TOP = 10 ** 15
+TOP = MANTISSA + 1
 
 
 def edge_text(r, good, sizes):
@@ -62,9 +41,9 @@ def edge_text(r, good, sizes):
 
 def edge_name(r):
     if r.random() < .4:
-        word = bytes(c if r.random() < .5 else c | 32 for c in r.choice(sorted(trees.RESERVED)))
+        word = bytes(c if r.random() < .5 else c | 32 for c in r.choice(sorted(RESERVED)))
         return r.choice((word, word, word[:-1], word + b'S', b'_' + word))
-    return edge_text(r, r.choice((b'n', b'_', b'Z')), (0, 1, 2, 5, 63, 64, 64, 65))
+    return edge_text(r, r.choice((b'n', b'_', b'Z')), (0, 1, 2, 5, NAME - 1, NAME, NAME, NAME + 1))
 
 
 def edge_day(r):
@@ -76,18 +55,18 @@ def edge_leaf(r):
     kind = r.randrange(8)
     if kind == 0:
         m = r.choice((0, TOP, -TOP, 2 ** 63, -2 ** 63, 10 ** r.randrange(16))) + r.randint(-2, 2)
-        return trees.num(max(-2 ** 63, min(2 ** 63 - 1, m)), r.choice((0, 1, 8, 9, 9, 10, 255)))
+        return records.num(max(-2 ** 63, min(2 ** 63 - 1, m)), r.choice((0, 1, 8, 9, 9, 10, 255)))
     if kind == 1:
-        return trees.text(edge_text(r, b'z', (0, 1, 3, 3, 3, 40)) if r.random() < .97 else b'z' * r.randint(4095, 4097), r.choice((0, 1, 2, 3, 3, 4, 255)))
+        return records.string(edge_text(r, b'z', (0, 1, 3, 3, 3, 40)) if r.random() < .97 else b'z' * r.randint(STR - 1, STR + 1), r.choice((0, 1, 2, 3, 3, 4, 255)))
     if kind == 2:
-        return trees.date(*edge_day(r))
+        return records.date(*edge_day(r))
     if kind == 3:
-        return trees.stamp(*edge_day(r), r.choice((0, 9, 23, 23, 24)), r.choice((0, 59, 59, 60)), r.choice((0, 59, 59, 60)))
+        return records.timestamp(*edge_day(r), r.choice((0, 9, 23, 23, 24)), r.choice((0, 59, 59, 60)), r.choice((0, 59, 59, 60)))
     if kind == 4:
-        return trees.spatial(r.choice((0, 9, 10, 4326, 2 ** 31, 2 ** 32 - 1)), edge_text(r, b'P', (0, 1, 5, 5, 5)) if r.random() < .97 else b'(' * r.randint(4095, 4097))
+        return records.spatial(r.choice((0, 9, 10, 4326, 2 ** 31, 2 ** 32 - 1)), edge_text(r, b'P', (0, 1, 5, 5, 5)) if r.random() < .97 else b'(' * r.randint(SPATIAL - 1, SPATIAL + 1))
     if kind == 5:
-        return trees.boolean(r.choice((0, 1, 1, 2, 255)))
-    return trees.ident(edge_name(r)) if kind == 6 else trees.function(edge_name(r), *[NULL] * r.randrange(3))
+        return records.boolean(r.choice((0, 1, 1, 2, 255)))
+    return records.ident(edge_name(r)) if kind == 6 else records.function(edge_name(r), *[NULL] * r.randrange(3))
 
 
 # ---- damage
@@ -122,16 +101,8 @@ def cut_or_lengthened(r, b):
     return b + (r.choice((NULL, b'\0', b'\2\0\0\0\0', b'\xff' * 6, b)) if how == 2 else r.randbytes(r.randint(1, 9)))
 
 
-def put_in(tree, above, at, stop, other):
-    """Other bytes in the place of a record; the lengths of the records that hold it are put right."""
-    out = bytearray(tree)
-    for place in above:
-        struct.pack_into('<I', out, place, struct.unpack_from('<I', out, place)[0] + len(other) - (stop - at))
-    return bytes(out[:at]) + other + bytes(out[stop:])
-
-
 def length_changed(r, tree):
-    out, (at, _, _) = bytearray(tree), r.choice(list(trees.records_of(tree)))
+    out, (at, _, _) = bytearray(tree), r.choice(list(records_of(tree)))
     n = struct.unpack_from('<I', out, at)[0]
     n = r.choice((n - 1, n + 1, n - 6, n + 6, n + 2 ** 31, 0, 1, 2, r.randrange(len(tree) + 2), 2 ** 32 - 4, 2 ** 32 - 1, n ^ 1 << r.randrange(32)))
     struct.pack_into('<I', out, at, n % 2 ** 32)
@@ -139,7 +110,7 @@ def length_changed(r, tree):
 
 
 def kind_or_operator_changed(r, tree):
-    out, (at, stop, _) = bytearray(tree), r.choice(list(trees.records_of(tree)))
+    out, (at, stop, _) = bytearray(tree), r.choice(list(records_of(tree)))
     if out[at + 4] in (9, 10) and stop - at >= 8 and r.random() < .7:
         struct.pack_into('<H', out, at + 6, r.choice((r.randrange(53), r.randrange(53), r.randrange(26, 41), 53, 256, 65535)))
     else:
@@ -148,29 +119,29 @@ def kind_or_operator_changed(r, tree):
 
 
 def body_changed(r, tree):
-    at, stop, above = r.choice(list(trees.records_of(tree)))
+    at, stop, above = r.choice(list(records_of(tree)))
     body = tree[at + 6:stop]
     other = r.choice((body[:-1], body[1:], body + b'\0', body + b'\1', body + NULL, NULL + body, b'', body + body))
-    return trees.resized(tree, above, at, stop, other)
+    return resized(tree, above, at, stop, other)
 
 
 def record_moved(r, tree):
     """A record is taken out, doubled, or put in the place of another; or an Interval, an Array or a leaf comes in."""
-    found = list(trees.records_of(tree))
+    found = list(records_of(tree))
     at, stop, above = r.choice(found)
     here, how = tree[at:stop], r.randrange(6)
     if how == 0:
-        return put_in(tree, above, at, stop, b'')
+        return replaced(tree, above, at, stop, b'')
     if how == 1:
-        return put_in(tree, above, at, stop, here + here)
+        return replaced(tree, above, at, stop, here + here)
     if how == 2:
         p, q, _ = r.choice(found)
-        return put_in(tree, above, at, stop, tree[p:q])
+        return replaced(tree, above, at, stop, tree[p:q])
     if how == 3:
-        return put_in(tree, above, at, stop, r.choice((INTERVAL, trees.interval(here, NULL), trees.array(here), trees.array(here, here))))
+        return replaced(tree, above, at, stop, r.choice((INTERVAL, records.interval(here, NULL), records.array(here), records.array(here, here))))
     if how == 4:
-        return put_in(tree, above, at, stop, r.choice((r.choice(LEAVES), edge_leaf(r))))
-    return put_in(tree, above, at, stop, r.choice(SMALL_TREES)[1])
+        return replaced(tree, above, at, stop, r.choice((r.choice(LEAVES), edge_leaf(r))))
+    return replaced(tree, above, at, stop, r.choice(SMALL_TREES)[1])
 
 
 DAMAGE = {'bit flips': flipped, 'bytes changed': bytes_changed, 'cut or lengthened': cut_or_lengthened, 'length field': length_changed,
@@ -181,37 +152,36 @@ class Lowerings:
     """Settings and trees. Each method makes one kind; the answer is (settings, tree)."""
 
     def __init__(self, r):
-        self.r, self.m = r, lowering.Maker(0)
-        self.m.r = r
+        self.r, self.m = r, filters.Maker(r)
 
     def settings(self):
-        return lowering.settings_record(self.m.settings())
+        return settings_record(self.m.settings())
 
     def tree(self):
         """One that is accepted, mostly: an operator at the root or any tree."""
         r, m = self.r, self.m
         depth, k = r.choice((0, 1, 1, 1, 2, 2, 3)), r.random()
         if k < .35:
-            return m.node(r.choice(lowering.DYADIC), depth)
+            return m.node(r.choice(DYADIC), depth)
         if k < .6:
-            return m.node(r.choice(lowering.TEMPORAL), r.choice((0, 1, 1, 2)))
+            return m.node(r.choice(TEMPORAL), r.choice((0, 1, 1, 2)))
         if k < .7:
-            return ('monadic', r.choice(lowering.MONADIC), m.tree(depth))
+            return ('monadic', r.choice(MONADIC), m.tree(depth))
         return m.tree(depth + 1)
 
     def accepted(self):
-        return self.settings(), lowering.encode(self.tree())
+        return self.settings(), encode(self.tree())
 
     def larger(self):
         """Of more levels, up to the limit."""
         r, t = self.r, self.m.tree(self.r.choice((4, 5, 6)))
         for _ in range(r.choice((0, 0, 0, 5, 15, 24))):
-            t = r.choice((('monadic', r.choice(lowering.MONADIC), t), ('dyadic', r.choice(('And', 'IsLike', 'Plus')), t, ('id', 'a')),
+            t = r.choice((('monadic', r.choice(MONADIC), t), ('dyadic', r.choice(('And', 'IsLike', 'Plus')), t, ('id', 'a')),
                           ('array', [t]), ('function', 'f', [t])))
-        return self.settings(), lowering.encode(t)
+        return self.settings(), encode(t)
 
     def damaged(self, how):
-        return self.settings(), DAMAGE[how](self.r, lowering.encode(self.tree()))
+        return self.settings(), DAMAGE[how](self.r, encode(self.tree()))
 
     def stored(self):
         return self.r.choice(SMALL_TREES)
@@ -225,18 +195,18 @@ class Lowerings:
         r = self.r
         leaf = edge_leaf(r) if r.random() < .7 else bytes_changed(r, r.choice(LEAVES)) if r.random() < .5 else r.choice(LEAVES)
         if r.random() < .5:
-            leaf = r.choice((trees.monadic(r.choice((1, 7, 51)), leaf), trees.dyadic(r.choice((8, 26, 45, 49)), trees.A, leaf),
-                             trees.array(leaf, NULL), trees.function(b'f', leaf)))
+            leaf = r.choice((records.monadic(r.choice((1, 7, 51)), leaf), records.dyadic(r.choice((8, 26, 45, 49)), trees.A, leaf),
+                             records.array(leaf, NULL), records.function(b'f', leaf)))
         return self.settings(), leaf
 
     def settings_damaged(self):
         how = self.r.choice((flipped, bytes_changed, cut_or_lengthened))
-        return how(self.r, self.settings()), self.r.choice((NULL, trees.A, b'', trees.rec(14)))
+        return how(self.r, self.settings()), self.r.choice((NULL, trees.A, b'', records.record(14)))
 
     def settings_edges(self):
         r = self.r
         names = [edge_name(r) if r.random() < .3 else b'NC' for _ in range(3)]
-        return trees.rec(100, bytes([r.choice((0, 1, 7, 9, 10, 14, 15, 15, 16, 255))]) + trees.names(*names)), lowering.encode(self.tree())
+        return records.settings_bytes(r.choice((0, 1, 7, 9, 10, 14, 15, 15, 16, 255)), *names), encode(self.tree())
 
     def random_bytes(self):
         r = self.r
@@ -252,49 +222,49 @@ class Lowerings:
         if depth == 0 or kind < 9 or kind > 13:
             size = {2: 1, 3: 9, 5: 4, 6: 7}.get(kind, r.randrange(7))
             some = bytes(r.choice(SPECIAL) if r.random() < .5 else r.randrange(16) for _ in range(size))
-            return r.choice(LEAVES) if r.random() < .75 else trees.A if r.random() < .5 else trees.rec(kind, some)
+            return r.choice(LEAVES) if r.random() < .75 else trees.A if r.random() < .5 else records.record(kind, some)
         below = [self.soup(depth - 1) for _ in range({9: 1, 10: 2, 13: 2}.get(kind, r.randrange(4)))]
         if r.random() < .03:
             below = below[1:] or [NULL, NULL]
-        operator = r.choice(tuple(trees.MONADIC)) if kind == 9 else r.choice((r.randrange(53), 8, 14, 26, 29, 31, 34, 47))
+        operator = r.choice(trees.MONADIC_NUMBERS) if kind == 9 else r.choice((r.randrange(53), 8, 14, 26, 29, 31, 34, 47))
         head = {9: struct.pack('<H', operator), 10: struct.pack('<H', operator), 11: b'\1f'}.get(kind, b'')
-        return trees.rec(kind, head + b''.join(below))
+        return records.record(kind, head + b''.join(below))
 
     def deep(self):
         """30 to 34 levels, with something right or wrong at the bottom."""
         r = self.r
-        t = r.choice((NULL, trees.A, r.choice(LEAVES), trees.rec(14), trees.rec(2, b'\2'), b'\0', b'\1\0\0\0\0\0', trees.array(), INTERVAL))
+        t = r.choice((NULL, trees.A, r.choice(LEAVES), records.record(14), records.record(2, b'\2'), b'\0', b'\1\0\0\0\0\0', records.array(), INTERVAL))
         levels = r.choice((29, 30, 31, 31, 32, 33))
         while levels > 0:
             k = r.randrange(7)
             if k == 6 and levels >= 2:
-                t, levels = trees.dyadic(r.choice((26, 27, 29, 31, 34)), trees.interval(t, trees.B), trees.C), levels - 2
+                t, levels = records.dyadic(r.choice((26, 27, 29, 31, 34)), records.interval(t, trees.B), trees.C), levels - 2
                 continue
-            t = r.choice((lambda: trees.monadic(r.choice((1, 7, 16, 17, 51)), t), lambda: trees.array(t), lambda: trees.array(NULL, t), lambda: trees.function(b'f', t),
-                          lambda: trees.dyadic(14, t, NULL), lambda: trees.dyadic(8, NULL, t)))()
+            t = r.choice((lambda: records.monadic(r.choice((1, 7, 16, 17, 51)), t), lambda: records.array(t), lambda: records.array(NULL, t), lambda: records.function(b'f', t),
+                          lambda: records.dyadic(14, t, NULL), lambda: records.dyadic(8, NULL, t)))()
             levels -= 1
         return self.settings(), t
 
     def tree_limit(self):
         """32,766 to 32,770 bytes, right but for the size; sometimes the settings are wrong too, or the last record."""
         r = self.r
-        size = LONGEST_TREE + r.choice((-2, -1, 0, 0, 1, 1, 2))
+        size = PLANNER.tree + r.choice((-2, -1, 0, 0, 1, 1, 2))
         items, used = [], 6
         while size - used > 4103 + 10:
-            item = lowering.encode(self.tree()) if r.random() < .2 else trees.text(b'y' * r.randint(3000, 4096))
+            item = encode(self.tree()) if r.random() < .2 else records.string(b'y' * r.randint(3000, 4096))
             if used + len(item) + 10 > size:
                 continue
             items.append(item)
             used += len(item)
-        items.append(trees.text(b'z' * (size - used - 7)))
-        tree = trees.array(*items)
+        items.append(records.string(b'z' * (size - used - 7)))
+        tree = records.array(*items)
         if r.random() < .1:
             tree = tree[:-1] + b'\0'
         return (self.settings() if r.random() < .9 else b''), tree
 
     def text_limit(self):
         """A text of 65,533 to 65,538 bytes, most of it written several times."""
-        r, want = self.r, LONGEST_TEXT + self.r.choice((-2, -1, 0, 0, 0, 1, 1, 1, 2, 3))
+        r, want = self.r, PLANNER.text + self.r.choice((-2, -1, 0, 0, 0, 1, 1, 1, 2, 3))
         g = self.m.settings()
         t = ('array', [('str', r.randrange(4), 'x' * 3900)] * 3)
         for _ in range(2):
@@ -303,25 +273,25 @@ class Lowerings:
         n = want - len(lowering.text(g, full(0)))
         for _ in range(9):    # the filler's own marks count too
             n += want - len(lowering.text(g, full(n)))
-        return lowering.settings_record(g), lowering.encode(full(n))
+        return settings_record(g), encode(full(n))
 
     def doubled_ends(self):
         """Ends that are written twice at each level: texts past every limit from a small tree, or an end that is left out."""
         r, t = self.r, self.m.end(1)
         for _ in range(r.randint(8, 29)):
             side = ('interval', r.choice((('id', 'b'), ('unbounded',), ('null',))), ('id', 'c')) if r.random() < .7 else ('id', 'd')
-            op = r.choice(lowering.MIXED if r.random() < .8 else ('TDisjoint',))
+            op = r.choice(INSTANT_OR_INTERVAL if r.random() < .8 else ('TDisjoint',))
             t = ('dyadic', op, t, side) if r.random() < .5 else ('dyadic', op, side, t)
             if r.random() < .1:
                 t = ('dyadic', r.choice(('TAfter', 'TBefore')), ('id', 'a'), ('interval', t, ('id', 'e')))
-        return self.settings(), lowering.encode(t)
+        return self.settings(), encode(t)
 
     def empty(self):
         r = self.r
-        return r.choice((b'', self.settings(), lowering.settings_record((7, 'NC', 'NA', 'NCA')))), r.choice((b'', b'', NULL))
+        return r.choice((b'', self.settings(), settings_record(SHEET_SETTINGS))), r.choice((b'', b'', NULL))
 
     def too_long(self):
-        return self.r.choice((self.settings(), b'')), bytes(LONGEST_TREE + self.r.choice((1, 2, 1000, 33000)))
+        return self.r.choice((self.settings(), b'')), bytes(PLANNER.tree + self.r.choice((1, 2, 1000, 33000)))
 
     def large(self):
         return self.r.choice(LARGE_TREES)
@@ -331,24 +301,23 @@ class Readings:
     """Texts and rows."""
 
     def __init__(self, r):
-        self.r, self.m = r, lowering.Maker(0)
-        self.m.r = r
+        self.r, self.m = r, filters.Maker(r)
 
     def parts(self):
-        cells = texts.some_row(self.r)
-        return texts.expression(self.r, cells, self.r.choice((0, 0, 1, 2))), cells
+        cells = readings.some_row(self.r)
+        return readings.expression(self.r, cells, self.r.choice((0, 0, 1, 2))), cells
 
     def grammar(self):
         tokens, cells = self.parts()
-        return texts.joined(self.r, tokens), texts.row_of(cells)
+        return readings.joined(self.r, tokens), records.row(cells)
 
     def tokens_bent(self):
         tokens, cells = self.parts()
-        return texts.joined(self.r, texts.bent(self.r, tokens)), texts.row_of(cells)
+        return readings.joined(self.r, readings.bent(self.r, tokens)), records.row(cells)
 
     def row_bent(self):
         tokens, cells = self.parts()
-        return texts.joined(self.r, tokens), texts.bent_row(self.r, texts.row_of(cells))
+        return readings.joined(self.r, tokens), readings.bent_row(self.r, records.row(cells))
 
     def text_damaged(self):
         text, row = self.grammar()
@@ -370,11 +339,11 @@ class Readings:
         cells = [(edge_name(r) if r.random() < .3 else b'c%d' % k, r.choice((None, value()))) for k in range(r.randint(1, 4))]
         n, v = r.choice(cells)
         other = edge_text(r, b'v', (0, 1, 64))
-        return r.choice((b"%s='%s'" % (n, v or b''), b'"%s"<\'%s\'' % (n, other), b'TRUE', n + b' NOT NULL')), texts.row_of(cells)
+        return r.choice((b"%s='%s'" % (n, v or b''), b'"%s"<\'%s\'' % (n, other), b'TRUE', n + b' NOT NULL')), records.row(cells)
 
     def token_soup(self):
         r = self.r
-        return b' '.join(r.choice(WORDS) for _ in range(r.randint(1, 9))), texts.row_of([(b'a', b'x'), (b'b', None)])
+        return b' '.join(r.choice(WORDS) for _ in range(r.randint(1, 9))), records.row([(b'a', b'x'), (b'b', None)])
 
     def random_bytes(self):
         r = self.r
@@ -394,10 +363,10 @@ class Readings:
         if k == 0:
             return ('monadic', r.choice(('IsNull', 'IsNotNull')), column())
         if k == 1:
-            return ('dyadic', r.choice(('Eq', 'Neq', 'Lt', 'Gt', 'Lte', 'Gte')), column(), ('str', 0, '2024-01-0%d' % r.randint(1, 5)))
+            return ('dyadic', r.choice(RELATIONS), column(), ('str', 0, '2024-01-0%d' % r.randint(1, 5)))
         if k < 5:
-            op = r.choice(lowering.TEMPORAL)
-            side = lambda: leaf() if op in lowering.MIXED and r.random() < .5 else ('interval', leaf(), leaf())
+            op = r.choice(TEMPORAL)
+            side = lambda: leaf() if op in INSTANT_OR_INTERVAL and r.random() < .5 else ('interval', leaf(), leaf())
             return ('dyadic', op, side(), side())
         if k == 5:
             return ('monadic', 'Neg', self.time_filter(depth - 1))
@@ -406,10 +375,10 @@ class Readings:
     def lowered(self):
         """The text of a time filter, on a row that holds its columns or lacks one."""
         r = self.r
-        text = lowering.text((7, 'NC', 'NA', 'NCA'), self.time_filter(r.choice((0, 1, 2)))).encode()
+        text = lowering.text(SHEET_SETTINGS, self.time_filter(r.choice((0, 1, 2)))).encode()
         names = list('abcd') if r.random() < .9 else list('abc')
         r.shuffle(names)
-        return text, texts.row_of([(n.encode(), None if r.random() < .2 else b'2024-01-0%d' % r.randint(1, 5)) for n in names])
+        return text, records.row([(n.encode(), None if r.random() < .2 else b'2024-01-0%d' % r.randint(1, 5)) for n in names])
 
     def brackets(self):
         """62 to 66 brackets, with NOTs and tests between."""
@@ -420,7 +389,7 @@ class Readings:
             tail += r.choice((b')', b')', b') OR b IS NULL', b') '))
         if r.random() < .1:
             tail = tail[:-2]
-        return text + r.choice((b'TRUE', b"a<'y'", b'NULL', b'zz=a', b'')) + tail, texts.row_of([(b'a', b'x'), (b'b', None)])
+        return text + r.choice((b'TRUE', b"a<'y'", b'NULL', b'zz=a', b'')) + tail, records.row([(b'a', b'x'), (b'b', None)])
 
     def names(self):
         """Names near one another, in both writings, at the edges of the name rule."""
@@ -435,7 +404,7 @@ class Readings:
                 n = r.choice((r.choice(known)[0], r.choice(known)[0].swapcase(), r.choice((b'n' * 65, b'aNd', b'isnull', b'Like', b'1a', b'a1', b''))))
             return b'"' + n + b'"' if r.random() < .5 else n
 
-        return b' OR '.join(b'%s %s %s' % (pick(), r.choice(texts.SIGNS), pick()) for _ in range(r.randint(1, 3))), texts.row_of(cells)
+        return b' OR '.join(b'%s %s %s' % (pick(), r.choice(readings.SIGNS), pick()) for _ in range(r.randint(1, 3))), records.row(cells)
 
     def wide_row(self):
         """Up to some hundred columns in any order, some equal in another letter case."""
@@ -446,23 +415,23 @@ class Readings:
             made.insert(r.randrange(len(made)), r.choice(made).swapcase())
         cells = [(n, r.choice((None, b'', b'v%d' % r.randrange(9)))) for n in made]
         ask = [r.choice(made) if r.random() < .995 else b'gone' for _ in range(r.choice((2, 20, 60)))]
-        return b' OR '.join(b'%s<%s' % pair for pair in zip(ask[::2], ask[1::2])), texts.row_of(cells)
+        return b' OR '.join(b'%s<%s' % pair for pair in zip(ask[::2], ask[1::2])), records.row(cells)
 
     def limits(self):
         """Texts of 65,534 to 65,536 bytes, rows of 32,767 to 32,769."""
         r = self.r
-        text = texts.sized_text(LONGEST_TEXT + r.choice((-1, 0, 1))) if r.random() < .5 else b'AAA IS NULL'
-        row = texts.sized_row(LONGEST_ROW + r.choice((-1, 0, 1))) if r.random() < .6 else texts.row_of([(b'a', b'x')])
+        text = reading_edges.sized_text(SQL + r.choice((-1, 0, 1))) if r.random() < .5 else b'AAA IS NULL'
+        row = reading_edges.sized_row(ROW + r.choice((-1, 0, 1))) if r.random() < .6 else records.row([(b'a', b'x')])
         return text, (row[:-1] if r.random() < .1 else row)
 
     def too_long(self):
         r = self.r
         if r.random() < .5:
-            return r.choice((b' ', b'(', b'a')) * (LONGEST_TEXT + r.choice((1, 1, 2, 900))), r.choice((b'', b'\0', texts.row_of([(b'a', b'x')])))
-        return r.choice((b'TRUE', b'', b'(')), bytes(LONGEST_ROW + r.choice((1, 1, 2, 900)))
+            return r.choice((b' ', b'(', b'a')) * (SQL + r.choice((1, 1, 2, 900))), r.choice((b'', b'\0', records.row([(b'a', b'x')])))
+        return r.choice((b'TRUE', b'', b'(')), bytes(ROW + r.choice((1, 1, 2, 900)))
 
     def empty(self):
-        return self.r.choice((b'', b'', b'TRUE')), self.r.choice((b'', b'', texts.row_of([(b'a', b'x')])))
+        return self.r.choice((b'', b'', b'TRUE')), self.r.choice((b'', b'', records.row([(b'a', b'x')])))
 
 
 # ---- how often each kind comes, beside the others

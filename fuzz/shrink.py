@@ -1,8 +1,9 @@
 """Makes the inputs of a disagreement smaller, as long as the library and the expectation still part in the same way."""
 import multiprocessing, time
 
-from cases import NULL, put_in, trees
+from cases import NULL, records_of, replaced, resized, trees
 from library import Library, check_lowering, check_reading
+from model import calls
 import expected
 
 SECONDS = 20
@@ -10,18 +11,18 @@ SECONDS = 20
 
 def smaller(data, which, part):
     """Candidates, the smallest first: a record in the place of one that holds it, NULL for a record, runs of bytes left out."""
-    if which == 'L' and part == 1 and trees.answer(trees.SETTINGS, data) in (0, 7):
-        found = list(trees.records_of(data))
+    if which == 'L' and part == 1 and calls.check(trees.SETTINGS, data) in (0, 7):
+        found = list(records_of(data))
         for at, stop, above in found:
             for p, q, _ in found:
                 if at <= p and q <= stop and q - p < stop - at:
-                    yield put_in(data, above, at, stop, data[p:q])
+                    yield replaced(data, above, at, stop, data[p:q])
             if stop - at > len(NULL):
-                yield put_in(data, above, at, stop, NULL)
-            yield put_in(data, above, at, stop, b'')
+                yield replaced(data, above, at, stop, NULL)
+            yield replaced(data, above, at, stop, b'')
             for n in (0, 1, (stop - at - 6) // 2):    # a shorter body
                 if 0 < stop - at - 6 - n:
-                    yield trees.resized(data, above, at, stop, data[at + 6:at + 6 + n])
+                    yield resized(data, above, at, stop, data[at + 6:at + 6 + n])
     step = len(data)
     while step:
         for at in range(0, len(data), step):
