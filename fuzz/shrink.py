@@ -3,8 +3,7 @@ import multiprocessing, time
 
 from cases import NULL, records_of, replaced, resized, trees
 from library import Library, check_lowering, check_reading
-from model import calls
-import expected
+from model import c as c_numbers, calls
 
 SECONDS = 20
 
@@ -33,8 +32,8 @@ def smaller(data, which, part):
 def again(library, which, a, b, lent):
     """What disagrees on these inputs; the buffer keeps its distance from the text's length."""
     if which == 'R':
-        return lent, check_reading(library, a, b, expected.read(a, b), *lent)
-    want = expected.lowered(a, b)
+        return lent, check_reading(library, a, b, c_numbers.read(a, b), *lent)
+    want = calls.heard(calls.lowered, a, b)
     room = lent[0] if isinstance(want, int) else max(0, len(want) + lent[3]) if len(lent) > 3 else lent[0]
     return (room, *lent[1:]), check_lowering(library, a, b, want, room, lent[1], lent[2])
 
@@ -47,7 +46,7 @@ def signature(which, found):
 def reduce(path, which, a, b, lent, found, pipe):
     library, until = Library(path), time.time() + SECONDS
     if which == 'L':
-        want = expected.lowered(a, b)
+        want = calls.heard(calls.lowered, a, b)
         lent = (*lent, 0 if isinstance(want, int) else lent[0] - len(want))
     goal, best, moved = signature(which, found), (a, b, lent, found), True
     while moved and time.time() < until:

@@ -6,8 +6,9 @@ from model.limits import FLAGS, MANTISSA, PLANNER, PRECISION
 from model.names import is_name
 from model.operators import BETWEEN, DYADIC, INSTANT_OR_INTERVAL, MONADIC, TEMPORAL
 from model.records import SHEET_SETTINGS, Settings, encode, levels
+from model.strings import is_str
 
-STR_LETTERS = ''.join(chr(code) for code in range(0x20, 0x7F) if code != 0x27)
+STR_LETTERS = ''.join(chr(code) for code in range(0x80) if is_str(bytes([code])))
 
 
 class Maker:

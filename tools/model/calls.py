@@ -35,10 +35,14 @@ def check(settings, tree):
     return answer if isinstance(answer, int) else 0
 
 
+def fitted(answer, room):
+    """What is heard with a buffer of `room` bytes, where with one of any length it is this text or number."""
+    return BUFFER if isinstance(answer, bytes) and len(answer) > room else answer
+
+
 def to_sql(settings, tree, room):
     """The text as bytes, or the number of a refusal of 1 to 9, for a buffer of `room` bytes."""
-    answer = heard(lowered, settings, tree)
-    return answer if isinstance(answer, int) or len(answer) <= room else BUFFER
+    return fitted(heard(lowered, settings, tree), room)
 
 
 def reading(text, row):
