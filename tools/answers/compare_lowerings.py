@@ -6,7 +6,7 @@ usage: python3 tools/answers/compare_lowerings.py ORACLE [COUNT] [SEED]
        ORACLE: the program that ../shared/oracle/build.py makes; COUNT: of random trees, 20,000; SEED: 1
 
 Exits with 1 if a text differs, if fewer than the corners and 99 of 100 of COUNT were compared (those past a limit are left out), or if fewer
-than 53 operators stood at a root."""
+than 6 monadic and 48 dyadic operators stood at a root."""
 import os
 import sys
 
@@ -14,7 +14,7 @@ sys.path.insert(0, os.path.join(os.path.dirname(os.path.abspath(__file__)), '..'
 from answers import counts, rust
 from generators import filters
 from model import lowering
-from model.operators import NAMES
+from model.operators import DYADIC, MONADIC
 
 CORNERS = 1648
 SHOWN = 5
@@ -38,10 +38,10 @@ def random_and_corners(oracle, count, seed):
     """As `compared`; stops on a disagreement and on a count that is short."""
     cases = [*filters.corners(), *filters.accepted(count, seed)]
     agree, differ = compared(oracle, cases)
-    roots = {tree[1] for _, tree, _ in agree if tree[0] in ('monadic', 'dyadic')}
+    roots = {tree[:2] for _, tree, _ in agree if tree[0] in ('monadic', 'dyadic')}
     print('%d trees, %d agree, %d differ, %d operators at the root, %d bytes of text'
           % (len(cases), len(agree), differ, len(roots), sum(len(text) for *_, text in agree)))
-    counts.stop_if_wrong(differ, ('trees', len(agree), CORNERS + count * 99 // 100), ('operators at the root', len(roots), len(NAMES)))
+    counts.stop_if_wrong(differ, ('trees', len(agree), CORNERS + count * 99 // 100), ('operators at the root', len(roots), len(MONADIC) + len(DYADIC)))
     return agree
 
 

@@ -79,6 +79,21 @@ class Refusals(unittest.TestCase):
         for tree in (nested(32), records.date(2000, 2, 29), ident(b'n' * 64), records.string(b'x' * 4096, 3), records.num(10 ** 15 - 1, 9)):
             self.assertIsInstance(calls.to_sql(SETTINGS, tree, 100000), bytes)
 
+    def test_tree_sizes(self):
+        longest = records.string(b'x' * 4096)
+        for size, number in ((32768, 9), (32769, 2)):
+            tree = array(*[longest] * 7, records.string(b'x' * (size - 6 - 7 * len(longest) - 7)))
+            self.assertEqual(len(tree), size)
+            self.refused(number, tree, room=0)
+
+    def test_text_sizes(self):
+        """Three strings in an array of 12,300 bytes of text, written four times, and four strings more."""
+        longest, tree = ('str', 0, 'x' * 4096), ('array', [('str', 0, 'x' * 4096)] * 3)
+        for _ in range(2):
+            tree = ('dyadic', 'TEquals', tree, ('interval', A, B))
+        for size, number in ((3973, 9), (3974, 8)):
+            self.refused(number, encode(('dyadic', 'And', tree, ('array', [longest] * 3 + [('str', 0, 'y' * size)]))), room=65534)
+
     def test_a_long_text(self):
         tree = A
         for _ in range(30):
@@ -97,7 +112,8 @@ class Reading(unittest.TestCase):
                 ('true', b"a='x'", held), ('false', b'NOT a >= "a"', held), ('unknown', b'b <> NULL', held), ('true', b"'ab' < 'abc'", b''),
                 ('true', b'TRUE OR FALSE AND FALSE', b''), ('true', b'b IS NULL AND a NOT NULL', held), (10, b' ' * 65536, b'\0'), (11, b'(', b'\0'),
                 (11, b'TRUE', row([(b'a', b''), (b'A', b'')])), (12, b'zz = ', held), (12, b'(' * 65 + b'TRUE' + b')' * 65, held),
-                ('true', b'(' * 64 + b'TRUE' + b')' * 64, held), (13, b'TRUE OR zz IS NULL', held)):
+                ('true', b'(' * 64 + b'TRUE' + b')' * 64, held), (13, b'TRUE OR zz IS NULL', held),
+                ('true', b'TRUE'.rjust(65535), b''), (10, b'TRUE'.rjust(65536), b''), (11, b'TRUE', bytes(32768)), (10, b'TRUE', bytes(32769))):
             self.assertEqual(calls.read(text, cells), answer, text[:80])
 
 
