@@ -7,12 +7,21 @@ from generators.edits import records_of, replaced, resized
 from model import lowering, records
 from model.limits import MANTISSA, NAME, PLANNER, ROW, SPATIAL, SQL, STR
 from model.names import RESERVED
-from model.operators import DYADIC, INSTANT_OR_INTERVAL, MONADIC, RELATIONS, TEMPORAL
+from model.operators import DYADIC, INSTANT_OR_INTERVAL, MONADIC, NAMES, NUMBER, RELATIONS, TEMPORAL
 from model.records import SHEET_SETTINGS, encode, settings_record
 
 NULL, INTERVAL = trees.NULL, records.interval(trees.A, trees.B)
 SPECIAL = [0, 1, 2, 3, 4, 9, 10, 13, 14, 15, 16, 23, 24, 27, 31, 32, 39, 52, 53, 59, 60, 64, 65, 99, 100, 127, 128, 200, 255]
 WORDS = [b'AND', b'OR', b'NOT', b'NULL', b'IS', b'TRUE', b'FALSE', b'(', b')', b'<', b'>', b'<=', b'>=', b'=', b'<>', b'!=', b'a', b'b', b'"a"', b"'x'", b"''", b'zz']
+
+
+def numbers(words):
+    return [NUMBER[word] for word in words.split()]
+
+
+AND, EQ = numbers('And Eq')
+SPANNING, TEMPORAL_NUMBERS = numbers(' '.join(INSTANT_OR_INTERVAL)), numbers(' '.join(TEMPORAL))
+SOUP = numbers('Eq And TAfter TDisjoint TEquals TIntersects IsBetween')
 
 
 def parted(cases, size):
@@ -112,7 +121,7 @@ def length_changed(r, tree):
 def kind_or_operator_changed(r, tree):
     out, (at, stop, _) = bytearray(tree), r.choice(list(records_of(tree)))
     if out[at + 4] in (9, 10) and stop - at >= 8 and r.random() < .7:
-        struct.pack_into('<H', out, at + 6, r.choice((r.randrange(53), r.randrange(53), r.randrange(26, 41), 53, 256, 65535)))
+        struct.pack_into('<H', out, at + 6, r.choice((r.randrange(len(NAMES)), r.randrange(len(NAMES)), r.choice(TEMPORAL_NUMBERS), len(NAMES), 256, 65535)))
     else:
         struct.pack_into('<H', out, at + 4, r.choice((r.randrange(14), r.randrange(14), 14, 100, 256 + r.randrange(14), 65535)))
     return bytes(out)
@@ -195,7 +204,8 @@ class Lowerings:
         r = self.r
         leaf = edge_leaf(r) if r.random() < .7 else bytes_changed(r, r.choice(LEAVES)) if r.random() < .5 else r.choice(LEAVES)
         if r.random() < .5:
-            leaf = r.choice((records.monadic(r.choice((1, 7, 51)), leaf), records.dyadic(r.choice((8, 26, 45, 49)), trees.A, leaf),
+            leaf = r.choice((records.monadic(r.choice(numbers('Minus Neg IsNull')), leaf),
+                             records.dyadic(r.choice(numbers('Eq TAfter IsLike IsInList')), trees.A, leaf),
                              records.array(leaf, NULL), records.function(b'f', leaf)))
         return self.settings(), leaf
 
@@ -226,7 +236,7 @@ class Lowerings:
         below = [self.soup(depth - 1) for _ in range({9: 1, 10: 2, 13: 2}.get(kind, r.randrange(4)))]
         if r.random() < .03:
             below = below[1:] or [NULL, NULL]
-        operator = r.choice(trees.MONADIC_NUMBERS) if kind == 9 else r.choice((r.randrange(53), 8, 14, 26, 29, 31, 34, 47))
+        operator = r.choice(trees.MONADIC_NUMBERS) if kind == 9 else r.choice([r.randrange(len(NAMES))] + SOUP)
         head = {9: struct.pack('<H', operator), 10: struct.pack('<H', operator), 11: b'\1f'}.get(kind, b'')
         return records.record(kind, head + b''.join(below))
 
@@ -238,10 +248,11 @@ class Lowerings:
         while levels > 0:
             k = r.randrange(7)
             if k == 6 and levels >= 2:
-                t, levels = records.dyadic(r.choice((26, 27, 29, 31, 34)), records.interval(t, trees.B), trees.C), levels - 2
+                t, levels = records.dyadic(r.choice(SPANNING), records.interval(t, trees.B), trees.C), levels - 2
                 continue
-            t = r.choice((lambda: records.monadic(r.choice((1, 7, 16, 17, 51)), t), lambda: records.array(t), lambda: records.array(NULL, t), lambda: records.function(b'f', t),
-                          lambda: records.dyadic(14, t, NULL), lambda: records.dyadic(8, NULL, t)))()
+            t = r.choice((lambda: records.monadic(r.choice(trees.MONADIC_NUMBERS[:5]), t), lambda: records.array(t), lambda: records.array(NULL, t),
+                          lambda: records.function(b'f', t),
+                          lambda: records.dyadic(AND, t, NULL), lambda: records.dyadic(EQ, NULL, t)))()
             levels -= 1
         return self.settings(), t
 

@@ -235,13 +235,12 @@ def random_tree(rng, depth):
     if kind == 9:
         return monadic(rng.choice(MONADIC_NUMBERS), sub())
     if kind == 10:
-        often = [NUMBER[name] for name in 'TAfter TContains TDuring IsBetween IsNotBetween'.split()]
-        o = rng.choice(DYADIC_NUMBERS + often * 4)
-        if o in range(NUMBER[TEMPORAL[0]], NUMBER[TEMPORAL[-1]] + 1) and rng.random() < .7:
-            return dyadic(o, interval(sub(), sub()), interval(sub(), sub()))
-        if o in (NUMBER[name] for name in BETWEEN) and rng.random() < .7:
-            return dyadic(o, sub(), array(sub(), sub()))
-        return dyadic(o, sub(), sub())
+        name = rng.choice(DYADIC + ['TAfter', 'TContains', 'TDuring', *BETWEEN] * 4)
+        if name in TEMPORAL and rng.random() < .7:
+            return dyadic(NUMBER[name], interval(sub(), sub()), interval(sub(), sub()))
+        if name in BETWEEN and rng.random() < .7:
+            return dyadic(NUMBER[name], sub(), array(sub(), sub()))
+        return dyadic(NUMBER[name], sub(), sub())
     if kind == 11:
         return function(b'f%d' % rng.randrange(100), *few())
     if kind == 12:

@@ -1,12 +1,11 @@
 """Which settings and trees are accepted (document 01, "Records"; refusals 1 and 3 to 7 of "What a caller hears")."""
 import calendar
+from functools import partial
 
 from . import limits, operators, records, strings
 from .limits import PLANNER
 from .names import is_name
 from .refusals import DEPTH, FIELD, FRAME, KIND, PLACE, SETTINGS, require
-
-MONADIC, DYADIC = ({operators.NUMBER[name] for name in some} for some in (operators.MONADIC, operators.DYADIC))
 
 
 def settings_of(data):
@@ -40,21 +39,15 @@ def record_at(data, at, end, depth, limit):
     kind, start, stop = framed
     require(depth <= limit.depth, DEPTH)
     require(kind < len(records.KINDS), KIND)
-    body = data[start:stop]
-    if kind in LEAVES:
-        return (records.KINDS[kind], *LEAVES[kind](body)), stop
+    name, body = records.KINDS[kind], data[start:stop]
+    fields = FIELDS[name](body)
     before = records.before_records(kind, body)
-    if kind in (9, 10):
-        require(len(body) >= before, FIELD)
-        number = records.OPERATOR.unpack_from(body)[0]
-        require(number in (MONADIC if kind == 9 else DYADIC), KIND)
-        return (records.KINDS[kind], operators.NAMES[number], *exactly(kind - 8, data, start + before, stop, depth + 1, limit)), stop
-    if kind == 13:
-        return ('interval', *exactly(2, data, start, stop, depth + 1, limit)), stop
-    if kind == 12:
-        return ('array', to_end(data, start, stop, depth + 1, limit)), stop
-    require(before <= len(body) and is_name(body[1:before]), FIELD)
-    return ('function', body[1:before].decode(), to_end(data, start + before, stop, depth + 1, limit)), stop
+    if before is None:
+        return (name, *fields), stop
+    inside = data, start + before, stop, depth + 1, limit
+    if name in COUNTS:
+        return (name, *fields, *exactly(COUNTS[name], *inside)), stop
+    return (name, *fields, to_end(*inside)), stop
 
 
 def exactly(count, data, at, end, depth, limit):
@@ -74,12 +67,28 @@ def to_end(data, at, end, depth, limit):
     return trees
 
 
-# ---- the fields of the kinds without records, or refusal 6
+# ---- what stands in a body before its records, or refusal 6; 5 for an operator
 
 
 def nothing(body):
     require(body == b'', FIELD)
     return ()
+
+
+def records_alone(body):
+    return ()
+
+
+def operator_of(permitted, body):
+    require(len(body) >= records.OPERATOR.size, FIELD)
+    number = records.OPERATOR.unpack_from(body)[0]
+    require(number < len(operators.NAMES) and operators.NAMES[number] in permitted, KIND)
+    return (operators.NAMES[number],)
+
+
+def function_name_of(body):
+    require(body and len(body) > body[0], FIELD)
+    return id_of(body[1:1 + body[0]])
 
 
 def bool_of(body):
@@ -123,7 +132,11 @@ def id_of(body):
     return (body.decode(),)
 
 
-LEAVES = dict(enumerate((nothing, nothing, bool_of, num_of, str_of, date_of, timestamp_of, spatial_of, id_of)))
+FIELDS = {
+    'null': nothing, 'unbounded': nothing, 'bool': bool_of, 'num': num_of, 'str': str_of, 'date': date_of, 'timestamp': timestamp_of,
+    'spatial': spatial_of, 'id': id_of, 'monadic': partial(operator_of, frozenset(operators.MONADIC)),
+    'dyadic': partial(operator_of, frozenset(operators.DYADIC)), 'function': function_name_of, 'array': records_alone, 'interval': records_alone}
+COUNTS = {'monadic': 1, 'dyadic': 2, 'interval': 2}    # of records, where they are not any number
 
 
 # ---- refusal 7

@@ -128,7 +128,7 @@ class Independence(unittest.TestCase):
             used = {word for node in ast.walk(tree) for word in
                     ([alias.name for alias in node.names] if isinstance(node, ast.Import) else
                      [node.module] if isinstance(node, ast.ImportFrom) and not node.level else [])}
-            self.assertLessEqual(used, {'calendar', 're', 'struct', 'sys', 'typing'}, name)
+            self.assertLessEqual(used, {'calendar', 'functools', 're', 'struct', 'sys', 'typing'}, name)
 
 
 if __name__ == '__main__':
