@@ -3,17 +3,24 @@
 The form of a case is that of the replay program that reads it (crates/*_replay/src/main.rt), and of the programs `lower` and `read`."""
 import os
 import struct
+import sys
 
 CRATES = os.path.join(os.path.dirname(os.path.abspath(__file__)), '..', '..', 'crates')
+checking = False    # set by make_all.py
 TRUTHS = {'false': 0, 'true': 1, 'unknown': 2}
 
 
 def write(data, *path):
-    """The bytes or the text to a file below crates/."""
-    path = os.path.join(CRATES, *path)
+    """The bytes or the text to a file below crates/; while checking they must be there already."""
+    path, data = os.path.join(CRATES, *path), data if isinstance(data, bytes) else data.encode()
+    if checking:
+        with open(path, 'rb') as f:
+            if f.read() != data:
+                sys.exit('%s is another than it is made' % os.path.relpath(path))
+        return
     os.makedirs(os.path.dirname(path), exist_ok=True)
     with open(path, 'wb') as f:
-        f.write(data if isinstance(data, bytes) else data.encode())
+        f.write(data)
 
 
 def framed(*parts):
