@@ -11,9 +11,8 @@ import sys
 sys.path.insert(0, os.path.join(os.path.dirname(os.path.abspath(__file__)), '..'))
 from answers import counts, stored
 from model import calls
+from model.limits import PLANNER
 from programs.cases import LOWER, LOWER_CUT, READ, READ_CUT
-
-ROOM = 65536
 
 
 def line_of(answer):
@@ -21,7 +20,7 @@ def line_of(answer):
 
 
 def main():
-    models = {'lower': lambda settings, tree: calls.to_sql(settings, tree, ROOM), 'read': calls.read}
+    models = {'lower': lambda settings, tree: calls.to_sql(settings, tree, PLANNER.text), 'read': calls.read}
     differ = 0
     for name, cases in (('lower', LOWER), ('read', READ)):
         for parts, line in cases:

@@ -5,9 +5,10 @@ import os
 import struct
 import sys
 
+from model.c import TRUTH
+
 CRATES = os.path.join(os.path.dirname(os.path.abspath(__file__)), '..', '..', 'crates')
 checking = False    # set by make_all.py
-TRUTHS = {'false': 0, 'true': 1, 'unknown': 2}
 
 
 def write(data, *path):
@@ -48,4 +49,4 @@ def lowering_case(settings, tree, room, answer):
 
 def reading_case(text, row, answer):
     """The answer in a byte (0 false, 1 true, 2 unknown, 10 to 13), the lengths of text and row in three bytes each, text, row."""
-    return bytes([TRUTHS.get(answer, answer)]) + len(text).to_bytes(3, 'little') + len(row).to_bytes(3, 'little') + text + row
+    return bytes([TRUTH.get(answer, answer)]) + len(text).to_bytes(3, 'little') + len(row).to_bytes(3, 'little') + text + row

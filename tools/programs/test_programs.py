@@ -13,6 +13,7 @@ from answers.stored import framed
 from cql2 import proved
 from generators import filters, readings, trees
 from model import calls
+from model.limits import PLANNER
 from model.records import encode, row as row_of, settings_record
 from programs.cases import LOWER, NULL, READ, ROW_N, SETTINGS, SHEET_J, TEXT_J
 
@@ -67,7 +68,7 @@ class Programs(unittest.TestCase):
         cases = [(settings_record(settings), encode(tree)) for settings, tree in filters.accepted(2000, 7)] + list(trees.mutations(2000, 7))
         told = answers('lower', b''.join(framed(*case) for case in cases))
         for case, line in zip(cases, told):
-            want = calls.to_sql(*case, 65536)
+            want = calls.to_sql(*case, PLANNER.text)
             self.assertEqual(line, want.decode() if isinstance(want, bytes) else 'refused %d' % want, case)
         self.assertEqual(len(told), len(cases))
         self.assertTrue(set(told) >= {'refused 3', 'refused 5', 'refused 6', 'refused 7'})
