@@ -1,7 +1,9 @@
 """Makes the inputs of a disagreement smaller, as long as the library and the expectation still part in the same way."""
 import multiprocessing, time
 
-from cases import NULL, records_of, replaced, resized, trees
+from damage import NULL
+from generators.edits import records_of, replaced, resized
+from generators.trees import SETTINGS
 from library import Library, check_lowering, check_reading
 from model import c as c_numbers, calls
 
@@ -10,7 +12,7 @@ SECONDS = 20
 
 def smaller(data, which, part):
     """Candidates, the smallest first: a record in the place of one that holds it, NULL for a record, runs of bytes left out."""
-    if which == 'L' and part == 1 and calls.check(trees.SETTINGS, data) in (0, 7):
+    if which == 'L' and part == 1 and calls.check(SETTINGS, data) in (0, 7):
         found = list(records_of(data))
         for at, stop, above in found:
             for p, q, _ in found:

@@ -41,7 +41,8 @@ def random_and_corners(oracle, count, seed):
     roots = {tree[:2] for _, tree, _ in agree if tree[0] in ('monadic', 'dyadic')}
     print('%d trees, %d agree, %d differ, %d operators at the root, %d bytes of text'
           % (len(cases), len(agree), differ, len(roots), sum(len(text) for *_, text in agree)))
-    counts.stop_if_wrong(differ, ('trees', len(agree), CORNERS + count * 99 // 100), ('operators at the root', len(roots), len(MONADIC) + len(DYADIC)))
+    counts.stop_if_wrong(differ, ('trees', len(agree), CORNERS + count * 99 // 100),
+                         ('operators at the root', len(roots), len(MONADIC) + len(DYADIC)))
     return agree
 
 
