@@ -1,22 +1,16 @@
 #!/usr/bin/env python3
 """Writes damaged.h: what a reader that shares nothing with the proved one answers to sheet J's text and to its row with one byte changed.
 
-usage: python3 tests/c/damaged.py READER >tests/c/damaged.h     READER: the file of the independent reader, tools/texts/reference.py"""
-import importlib.util
+usage: python3 tests/c/damaged.py >tests/c/damaged.h"""
 import itertools
-import struct
+import os
 import sys
 
+sys.path.insert(0, os.path.join(os.path.dirname(os.path.abspath(__file__)), '..', '..', 'tools'))
+from model import c, records
+
 TEXT = b'("c" IS NOT NULL AND (a < b)) OR ("b" IS NOT NULL AND (a > c))'
-ANSWERS = {'false': 0, 'true': 1, 'unknown': 2}
-
-
-def column(name, value):
-    body = bytes([len(name)]) + name + (b'\0' if value is None else b'\1' + value)
-    return struct.pack('<IH', len(body) + 2, 200) + body
-
-
-ROW = column(b'a', b'x') + column(b'b', None) + column(b'c', b'y')
+ROW = records.row([(b'a', b'x'), (b'b', None), (b'c', b'y')])
 
 
 def changed(data):
@@ -33,22 +27,12 @@ def table(name, answers):
     return 'static const struct run %s[] = {\n    %s};\n' % (name, ',\n    '.join(lines))
 
 
-def main(path):
-    spec = importlib.util.spec_from_file_location('reader', path)
-    reader = importlib.util.module_from_spec(spec)
-    spec.loader.exec_module(reader)
-
-    def answer(text, row):
-        found = reader.read(text, row)
-        return ANSWERS[found] if found in ANSWERS else -found
-
+def main():
     print('/* Written by tests/c/damaged.py: the answers of an independent reader, by runs of equal ones, for each byte and each value of it. */')
     print('struct run {\n    int answer, times;\n};\n')
-    print(table('damaged_texts', [answer(text, ROW) for text in changed(TEXT)]))
-    print(table('damaged_rows', [answer(TEXT, row) for row in changed(ROW)]), end='')
+    print(table('damaged_texts', [c.read(text, ROW) for text in changed(TEXT)]))
+    print(table('damaged_rows', [c.read(TEXT, row) for row in changed(ROW)]), end='')
 
 
 if __name__ == '__main__':
-    if len(sys.argv) != 2:
-        sys.exit(__doc__)
-    main(sys.argv[1])
+    sys.exit(__doc__) if len(sys.argv) != 1 else main()
