@@ -4,7 +4,7 @@
    driver count INPUTS INPUT SIDE TIMES  only makes the calls, for callgrind to count
 
    INPUTS: for each input a letter (L lowering, R reading), a byte (1: also the other sides), a count of cases in four bytes; for each case four
-   byte strings behind their lengths in four bytes: settings, tree, -, - or text, row, the SQL that makes the table, the query. */
+   byte strings after their lengths in four bytes: settings, tree, -, - or text, row, the SQL that makes the table, the query. */
 #define _GNU_SOURCE
 #include <sqlite3.h>
 #include <stdint.h>

@@ -1,12 +1,15 @@
 """The inputs of bench/run: filters, texts and rows of a bench's log, larger ones of the same kind, and the worst known."""
-import os, random, struct, sys
+import os, random, sys
 
-sys.path.insert(0, os.path.join(os.path.dirname(os.path.abspath(__file__)), '..', 'tools', 'lowering'))
-from lowering import encode, settings_record, text
+sys.path.insert(0, os.path.join(os.path.dirname(os.path.abspath(__file__)), '..', 'tools'))
+from generators.reading_edges import three_letter_names
+from model import records
+from model.limits import BRACKETS, PLANNER, SQL
+from model.lowering import text
+from model.records import SHEET_SETTINGS, encode, settings_record
+from model.strings import quoted
 
-G = (7, 'NC', 'NA', 'NCA')
-SETTINGS = settings_record(G)
-LONGEST_TREE, LONGEST_TEXT = 32768, 65535
+SETTINGS = settings_record(SHEET_SETTINGS)
 
 
 def name(n): return ('id', n)
@@ -15,12 +18,7 @@ def word(s, flags=0): return ('str', flags, s)
 def two(op, x, y): return ('dyadic', op, x, y)
 def one(op, x): return ('monadic', op, x)
 def span(x, y): return ('interval', x, y)
-def row(cells): return b''.join(cell(n, v) for n, v in cells)
-
-
-def cell(n, v):
-    body = bytes([len(n)]) + n.encode() + (b'\0' if v is None else b'\1' + v.encode())
-    return struct.pack('<IH', len(body) + 2, 200) + body
+def row(cells): return records.row([(n.encode(), None if v is None else v.encode()) for n, v in cells])
 
 
 ENTERED, EXITED, LABEL, MASS = map(name, ('entered', 'exited', 'label', 'mass'))
@@ -88,7 +86,7 @@ def nested(op, levels, leaf, side):
 CELLS = [('fid', '17'), ('label', 'bolt'), ('shelf', 'top'), ('mass', '12.5'), ('entered', '2024-02-03'), ('exited', None)]
 LEFT = CELLS[:-1] + [('exited', '2024-02-20')]    # the same stay after its end: some of the texts are then true
 MORE = [('c%d' % n, 'value %d' % n) for n in range(54)]
-TEXTS = [text(G, t) for t in TIME_FILTERS]
+TEXTS = [text(SHEET_SETTINGS, t) for t in TIME_FILTERS]
 
 
 def repeated(part, glue, size):
@@ -97,20 +95,15 @@ def repeated(part, glue, size):
 
 def names(count, order):
     """A row of columns without values, three letters each."""
-    letters, made, n = 'ABCDEFGHIJKLMNOPQRSTUVWXYZ', [], 0
-    while len(made) < count:
-        x = letters[n // 676 % 26] + letters[n // 26 % 26] + letters[n % 26]
-        n += 1
-        if x not in ('AND', 'DIV', 'NOT'):
-            made.append(x)
+    made = [x.decode() for x in three_letter_names(count)]
     if order == 'mixed':
         random.Random(7).shuffle(made)
     return [(x, None) for x in (reversed(made) if order == 'down' else made)]
 
 
 def table(cells):
-    quoted = ['NULL' if v is None else "'%s'" % v for _, v in cells]
-    return 'CREATE TABLE t (%s); INSERT INTO t VALUES (%s);' % (', '.join('"%s" TEXT' % n for n, _ in cells), ', '.join(quoted))
+    values = ['NULL' if v is None else quoted(v) for _, v in cells]
+    return 'CREATE TABLE t (%s); INSERT INTO t VALUES (%s);' % (', '.join('"%s" TEXT' % n for n, _ in cells), ', '.join(values))
 
 
 def lowering(trees):
@@ -141,14 +134,14 @@ def growth():
 
 def worst():
     """Label and input."""
-    huge = filled(lambda x: ('array', x), [ITEM], LONGEST_TREE - 100)
+    huge = filled(lambda x: ('array', x), [ITEM], PLANNER.tree - 100)
     doubled = nested('TDisjoint', 29, name('a'), span(name('b'), name('c')))
     down = names(2970, 'down')
     mixed = [n for n, _ in names(2970, 'mixed')] * 5
-    asked = ' OR '.join('%s=%s' % pair for pair in zip(mixed[::2], mixed[1::2]))[:LONGEST_TEXT].rsplit(' OR ', 1)[0]
+    asked = ' OR '.join('%s=%s' % pair for pair in zip(mixed[::2], mixed[1::2]))[:SQL].rsplit(' OR ', 1)[0]
     long = ['n' * 61 + n for n, _ in names(442, 'mixed')]
-    alike = ' OR '.join('%s=%s' % pair for pair in zip(long * 3, long[7:] * 3))[:LONGEST_TEXT].rsplit(' OR ', 1)[0]
-    brackets = '(' * 64 + 'TRUE' + ')' * 64
+    alike = ' OR '.join('%s=%s' % pair for pair in zip(long * 3, long[7:] * 3))[:SQL].rsplit(' OR ', 1)[0]
+    brackets = '(' * BRACKETS + 'TRUE' + ')' * BRACKETS
     return [
         ('29 TDisjoint inside one another', lowering([doubled])),
         ('an unwritten end of 32 KB', lowering([two('TAfter', name('a'), span(huge, name('b')))])),
@@ -157,9 +150,9 @@ def worst():
         ('row of 2,970 names, last first', reading(['TRUE'], down, False)),
         ('the same, a text of 11,900 names', reading([asked], down, False)),
         ('442 names alike in 61 of 64 bytes', reading([alike], [(n, None) for n in long], False)),
-        ('64 brackets, 481 times', reading([repeated(brackets, ' OR ', LONGEST_TEXT)], CELLS, False)),
+        ('64 brackets, 481 times', reading([repeated(brackets, ' OR ', SQL)], CELLS, False)),
         ('16,382 NOTs', reading(['NOT ' * 16382 + 'TRUE'], CELLS, False)),
-        ('one quoted text of 64 KB', reading(["'%s'=mass" % ('x' * (LONGEST_TEXT - 7))], CELLS, False))]
+        ('one quoted text of 64 KB', reading(["'%s'=mass" % ('x' * (SQL - 7))], CELLS, False))]
 
 
 def deep_arrays():
@@ -178,11 +171,11 @@ def checked():
     """Trees that are refused with 7 after all records were read: what the check alone costs."""
     wrong = span(ENTERED, EXITED)
     return [('a mixed filter', lowering([two('And', MIXED_FILTERS[1], wrong)])),
-            ('a 32 KB tree', lowering([two('And', large(LONGEST_TREE - 100)[0], wrong)]))]
+            ('a 32 KB tree', lowering([two('And', large(PLANNER.tree - 100)[0], wrong)]))]
 
 
 def compared():
     """Label and input, of which the other sides take part."""
-    return [('time filters', lowering(TIME_FILTERS)), ('mixed filters', lowering(MIXED_FILTERS)), ('32 KB trees', lowering(large(LONGEST_TREE)))], [
+    return [('time filters', lowering(TIME_FILTERS)), ('mixed filters', lowering(MIXED_FILTERS)), ('32 KB trees', lowering(large(PLANNER.tree)))], [
         ('small texts, 6 columns', both(TEXTS)), ('small texts, 60 columns', both(TEXTS, MORE)),
         ('text of 2 KB, 6 columns', reading([' OR '.join('(%s)' % t for t in TEXTS * 3)], CELLS))]

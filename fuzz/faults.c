@@ -25,7 +25,7 @@ static int64_t faulty_to_sql(const uint8_t *s, size_t sn, const uint8_t *t, size
     switch (FAULT) {
     case 1: /* 1 a buffer of the text's exact length is refused */
         return n == (int64_t)room && n > 0 ? -9 : n;
-    case 2: /* 2 the byte behind the text is written */
+    case 2: /* 2 the byte after the text is written */
         if (n >= 0 && n < (int64_t)room)
             out[n] = 0;
         return n;
@@ -46,13 +46,13 @@ static int64_t faulty_to_sql(const uint8_t *s, size_t sn, const uint8_t *t, size
         return n == -9 && room == 65534 ? -8 : n;
     case 8: /* 8 a tree of 32,768 bytes is refused */
         return tn == 32768 && n != -1 ? -2 : n;
-    case 9: /* 9 the byte behind the tree is read */
+    case 9: /* 9 the byte after the tree is read */
         sink = t[tn];
         return n;
     case 10: /* 10 the byte before the settings is read */
         sink = s[-1];
         return n;
-    case 11: /* 11 the byte behind the buffer is written */
+    case 11: /* 11 the byte after the buffer is written */
         if (n == (int64_t)room)
             out[n] = 0;
         return n;

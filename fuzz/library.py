@@ -1,13 +1,15 @@
 """The library's two calls on lent bytes that lie between pages which no program may touch, with marks beside them."""
 import ctypes, mmap, random
 
+from model import c as c_numbers
+
 PAGE = mmap.PAGESIZE
 MARK = bytes(range(0x9d, 0xbd))
 NOISE = random.Random(9).randbytes(160000)    # what a lent buffer holds before the call
 
 
 class Lent:
-    """Room for one lent slice. It lies against the page behind it or the page before it; on its other side are marks."""
+    """Room for one lent slice. It lies against the page after it or the page before it; on its other side are marks."""
 
     def __init__(self, pages):
         self.size = pages * PAGE
@@ -66,7 +68,7 @@ class Library:
 def check_lowering(library, settings, tree, want, room, noise, at_end):
     """Nothing, or what was expected and what came."""
     out = NOISE[noise:noise + room]
-    right = (want, out) if isinstance(want, int) else (-9, out) if len(want) > room else (len(want), want + out[len(want):])
+    right = c_numbers.left(want, out)
     answer, after, touched = library.lower(settings, tree, out, at_end)
     if (answer, after) == right and not touched:
         return None

@@ -1,27 +1,29 @@
 """Makes the inputs of a disagreement smaller, as long as the library and the expectation still part in the same way."""
 import multiprocessing, time
 
-from cases import NULL, put_in, trees
+from damage import NULL
+from generators.edits import records_of, replaced, resized
+from generators.trees import SETTINGS
 from library import Library, check_lowering, check_reading
-import expected
+from model import c as c_numbers, calls
 
 SECONDS = 20
 
 
 def smaller(data, which, part):
     """Candidates, the smallest first: a record in the place of one that holds it, NULL for a record, runs of bytes left out."""
-    if which == 'L' and part == 1 and trees.answer(trees.SETTINGS, data) in (0, 7):
-        found = list(trees.records_of(data))
+    if which == 'L' and part == 1 and calls.check(SETTINGS, data) in (0, 7):
+        found = list(records_of(data))
         for at, stop, above in found:
             for p, q, _ in found:
                 if at <= p and q <= stop and q - p < stop - at:
-                    yield put_in(data, above, at, stop, data[p:q])
+                    yield replaced(data, above, at, stop, data[p:q])
             if stop - at > len(NULL):
-                yield put_in(data, above, at, stop, NULL)
-            yield put_in(data, above, at, stop, b'')
+                yield replaced(data, above, at, stop, NULL)
+            yield replaced(data, above, at, stop, b'')
             for n in (0, 1, (stop - at - 6) // 2):    # a shorter body
                 if 0 < stop - at - 6 - n:
-                    yield trees.resized(data, above, at, stop, data[at + 6:at + 6 + n])
+                    yield resized(data, above, at, stop, data[at + 6:at + 6 + n])
     step = len(data)
     while step:
         for at in range(0, len(data), step):
@@ -32,8 +34,8 @@ def smaller(data, which, part):
 def again(library, which, a, b, lent):
     """What disagrees on these inputs; the buffer keeps its distance from the text's length."""
     if which == 'R':
-        return lent, check_reading(library, a, b, expected.read(a, b), *lent)
-    want = expected.lowered(a, b)
+        return lent, check_reading(library, a, b, c_numbers.read(a, b), *lent)
+    want = calls.heard(calls.lowered, a, b)
     room = lent[0] if isinstance(want, int) else max(0, len(want) + lent[3]) if len(lent) > 3 else lent[0]
     return (room, *lent[1:]), check_lowering(library, a, b, want, room, lent[1], lent[2])
 
@@ -46,7 +48,7 @@ def signature(which, found):
 def reduce(path, which, a, b, lent, found, pipe):
     library, until = Library(path), time.time() + SECONDS
     if which == 'L':
-        want = expected.lowered(a, b)
+        want = calls.heard(calls.lowered, a, b)
         lent = (*lent, 0 if isinstance(want, int) else lent[0] - len(want))
     goal, best, moved = signature(which, found), (a, b, lent, found), True
     while moved and time.time() < until:

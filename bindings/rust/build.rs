@@ -22,7 +22,10 @@ fn expect_target() {
 
 fn build(repository: &Path) {
     println!("cargo:warning=proving and building target/staticlib/libcapi.a by `rt staticlib capi`");
-    let log = match Command::new("rt").args(["staticlib", "capi"]).current_dir(repository).output() {
+    // tools/cql2/rt runs one rt at a time on target/; it needs python3, which a machine with the kit may lack.
+    let args = ["staticlib", "capi"];
+    let alone = Command::new("python3").arg("tools/cql2/rt").args(args).current_dir(repository).output();
+    let log = match alone.or_else(|_| Command::new("rt").args(args).current_dir(repository).output()) {
         Ok(log) => log,
         Err(e) => fail(&format!("`rt staticlib capi` did not start ({e}); install the Rattle kit, or set WENDUULIG_LIB to the path of libcapi.a")),
     };

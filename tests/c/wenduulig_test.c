@@ -5,6 +5,7 @@
 #include <stdlib.h>
 #include <string.h>
 
+#include "damaged.h"
 #include "wenduulig.h"
 
 enum { SCRATCH = 70000, FILL = 0xA5, STACK = 128 * 1024 };
@@ -446,28 +447,41 @@ static void test_damage(void)
     check(all, "each tree with a changed byte leaves what is lent as it was");
 }
 
-/* Each byte of a text and of a row changed to each other: an answer in range. */
-static void test_damaged_reading(void)
+/* The row of sheet J's text on which damage is tried. */
+static void make_damaged_row(void)
 {
-    int all = 1;
-    for (size_t i = 0; i < sizeof sheet_j - 1; i++)
+    row.n = 0;
+    put_column(&row, "a", "x");
+    put_column(&row, "b", NULL);
+    put_column(&row, "c", "y");
+}
+
+/* How many answers differ from the table's, with each byte of one of the two inputs changed to each value. */
+static int count_wrong(int in_text, const struct run *runs, size_t count)
+{
+    int wrong = 0, left = runs[0].times;
+    size_t at = 0, n = in_text ? sizeof sheet_j - 1 : row.n;
+    for (size_t i = 0; i < n; i++)
         for (unsigned x = 0; x < 256; x++) {
-            char sql[sizeof sheet_j];
-            memcpy(sql, sheet_j, sizeof sql);
-            sql[i] = (char)x;
-            row.n = 0;
-            put_column(&row, "a", "x");
-            put_column(&row, "b", NULL);
-            put_column(&row, "c", "y");
-            row.at[i % row.n] = (uint8_t)(x % 7 == 0 ? x : row.at[i % row.n]);
-            uint8_t *s = exact_copy(sql, sizeof sql - 1);
+            uint8_t *s = exact_copy(sheet_j, sizeof sheet_j - 1);
             uint8_t *r = exact_copy(row.at, row.n);
-            int32_t answer = wenduulig_read(s, sizeof sql - 1, r, row.n);
-            all = all && ((answer >= 0 && answer <= 2) || (answer >= -13 && answer <= -10));
+            (in_text ? s : r)[i] = (uint8_t)x;
+            while (left == 0 && at + 1 < count)
+                left = runs[++at].times;
+            wrong += wenduulig_read(s, sizeof sheet_j - 1, r, row.n) != runs[at].answer;
+            left--;
             free(s);
             free(r);
         }
-    check(all, "each text and row with a changed byte has an answer in range");
+    return wrong + (left != 0 || at + 1 != count);
+}
+
+/* Each byte of a text and of a row changed to each other: the answer of a reader that shares nothing with this one. */
+static void test_damaged_reading(void)
+{
+    make_damaged_row();
+    check(count_wrong(1, damaged_texts, sizeof damaged_texts / sizeof *damaged_texts) == 0, "each text with a changed byte has its answer");
+    check(count_wrong(0, damaged_rows, sizeof damaged_rows / sizeof *damaged_rows) == 0, "each row with a changed byte has its answer");
 }
 
 /* The deepest inputs, on a stack of 128 KiB: with a guard page behind it a larger need ends the program. */

@@ -3,11 +3,13 @@ import argparse
 import sqlite3
 import sys
 
-from . import lowering, proved, records, table
+from . import differences, lowering, prepare, proved, records, table
+from .columns import NoTable, Table
 from .encode import KNOWN, Encoder
-from .errors import BadInput, guarded
+from .errors import BadInput, Parted, guarded, some, told
 from .geopackage import GeoPackage
-from .reading import read_filter
+from .looking import CLOCKS
+from .reading import is_text_encoding, read_filter
 
 ABOUT = 'Shows the SQL text of a CQL2-JSON filter, lowered by the proved program, and with a GeoPackage the rows that it picks.'
 MORE = '''examples:
@@ -23,9 +25,13 @@ operators:
   t_intersects t_meets t_metBy t_overlappedBy t_overlaps t_startedBy t_starts
   a_containedBy a_contains a_equals a_overlaps
 
+warnings:
+  Where the text is known to do something else than the filter says, or SQLite cannot run it, a line on standard error names the place
+  in the filter, what will happen and the way out (docs/DIFFERENCES.md has each). With a GeoPackage its columns' types are looked at too.
+
 exit status:
   0  done
-  1  the filter is refused: the line names document 01's rule, and the place in the filter
+  1  the filter is refused: the line names document 01's rule, and the place in the filter; or --strict, and there is a warning
   2  bad JSON, an unknown operator, a missing file, a text that SQLite cannot run: one line says which
 '''
 
@@ -64,6 +70,7 @@ def parser():
     p.add_argument('-t', '--table', metavar='NAME', help='its table (may be left out if there is only one)')
     p.add_argument('--rows', metavar='N', type=whole(0, 10 ** 9), default=40, help='show at most N rows (default 40; 0: all)')
     p.add_argument('--spatialite', action='store_true', help='load SpatiaLite, for the s_ operators')
+    p.add_argument('--strict', action='store_true', help='refuse a filter that has a warning')
     p.add_argument('--function', metavar='NAME', type=function_name, action='append', default=[],
                    help='take NAME for a function of the database; may be repeated')
     p.add_argument('--srid', metavar='N', type=whole(0, 2 ** 32 - 1), default=4326, help='reference system of written geometries (default 4326)')
@@ -75,19 +82,18 @@ def parser():
 
 
 def filter_bytes(source):
-    """What the argument names: standard input, the JSON itself, or a file."""
+    """What the argument names: standard input, the JSON itself, or a file; and a name for it in errors."""
     if source == '-':
-        return sys.stdin.buffer.read()
+        return sys.stdin.buffer.read(), 'the filter'
     if source.lstrip('\ufeff \t\r\n')[:1] in ('{', '[', '"') or source.strip() in ('true', 'false', 'null'):
-        return source.encode('utf-8', 'surrogateescape')
+        return source.encode('utf-8', 'surrogateescape'), 'the filter'
     try:
         with open(source, 'rb') as f:
-            return f.read()
+            return f.read(), 'the filter %s' % source
     except (OSError, ValueError) as e:
+        if is_text_encoding(source):
+            raise BadInput('the filter is CQL2-Text, and CQL2-JSON is due, as {"op": "=", "args": [{"property": "label"}, "cup"]}')
         raise BadInput('cannot read the filter %s: %s' % (source, getattr(e, 'strerror', None) or e))
-
-
-CLOCKS = (b'CURRENT_DATE', b'CURRENT_TIME', b'CURRENT_TIMESTAMP')
 
 
 def check_columns(tree, package, name):
@@ -96,8 +102,8 @@ def check_columns(tree, package, name):
     known = {column.lower() for column in columns}
     for node in (node for node, _ in tree.walk() if node.kind == records.ID):
         if node.head.decode().lower() not in known:
-            raise BadInput('the table "%s" has no column %s; it has %s' % (name, node.head.decode(), ', '.join(columns)), node.place)
-        if node.head.upper() in CLOCKS:
+            raise BadInput('the table "%s" has no column %s; it has %s' % (name, node.head.decode(), some(columns)), node.place)
+        if node.head.decode().upper() in CLOCKS:
             raise BadInput('SQLite takes the name %s for the time of today, not for the column' % node.head.decode(), node.place)
 
 
@@ -107,7 +113,7 @@ def show_rows(package, name, sql, most):
         shown = cursor.fetchmany(most) if most else cursor.fetchall()
         count = len(shown) + sum(1 for _ in cursor)
     except sqlite3.Error as e:
-        raise BadInput('SQLite stopped: %s' % e)
+        raise BadInput('SQLite stopped in %s: %s' % (package.path, e))
     if sys.stderr.isatty():
         print('\r\033[K', end='', file=sys.stderr, flush=True)
     for line in table.lines([d[0] for d in cursor.description], shown):
@@ -117,19 +123,44 @@ def show_rows(package, name, sql, most):
     print('%d of %d rows' % (count, package.count(name)))
 
 
+def warnings_of(value, tree, sql, settings, scratch, where):
+    """What is known to part between the filter and its text; what SQLite cannot run for a reason of its own comes last."""
+    found = differences.find(value, where)
+    other = None if any(one.cannot for one in found) else prepare.found(scratch, settings, tree, sql)
+    return found + [other] if other else found
+
+
+def tell(found, strict):
+    """A line for each warning; with --strict they are refusals."""
+    for one in found:
+        told('filter', differences.line(one), 0)
+    if strict and found:
+        raise Parted('refused (--strict): %d warning%s' % (len(found), '' if len(found) == 1 else 's'))
+
+
 def run(arguments):
     options = parser().parse_args(arguments)
     if options.geopackage is None and (options.table is not None or options.spatialite):
         raise BadInput('--table and --spatialite go with --geopackage (see ./filter --help)')
-    tree = Encoder(options.precision, options.srid, options.function).filter(read_filter(filter_bytes(options.filter)))
+    value = read_filter(*filter_bytes(options.filter))
+    tree = Encoder(options.precision, options.srid, options.function).filter(value)
     collations = (options.ci, options.ai, options.cai)
     package = GeoPackage(options.geopackage, collations, options.spatialite) if options.geopackage is not None else None
     name = package.table(options.table) if package else None
     proved.build(['lower'])
-    sql = lowering.lower(records.settings(options.precision, *collations), tree)
+    settings = records.settings(options.precision, *collations)
+    sql = lowering.lower(settings, tree)
     if package:
         check_columns(tree, package, name)
+    scratch = prepare.Scratch(tree, collations)
+    where = Table(package, name, options.spatialite, options.srid, scratch.readable) if package else NoTable(options.srid, scratch.readable)
+    found = warnings_of(value, tree, sql, settings, scratch, where)
+    # on a GeoPackage what SQLite cannot run ends the command, and is said once
+    ending = [one for one in found if one.cannot] if package and scratch.error(sql) and not options.strict else []
+    tell([one for one in found if one not in ending], options.strict)
     print(sql)
+    if ending:
+        raise BadInput('SQLite cannot run this text: %s; %s' % (scratch.error(sql), ending[0].instead), ending[0].place)
     if package:
         print()
         show_rows(package, name, sql, options.rows)

@@ -41,6 +41,7 @@ KNOWN.update({'a_' + name: ('A' + name[0].upper() + name[1:], [ITEMS] * 2, CONDI
 
 DAY = re.compile(r'([0-9]{4})-([0-9]{2})-([0-9]{2})')
 CLOCK = re.compile(DAY.pattern + r'T([0-9]{2}):([0-9]{2}):([0-9]{2})(?:\.([0-9]+))?Z')
+OFFSET = re.compile(DAY.pattern + r'T[0-9]{2}:[0-9]{2}(?::[0-9]{2}(?:\.[0-9]+)?)?([+-][0-9]{2}(?::?[0-9]{2})?)')
 
 
 class Encoder:
@@ -82,6 +83,8 @@ class Encoder:
             return self.spatial(self.wkt.box(value, place), place)
         if 'type' in value:
             return self.spatial(self.wkt.geometry(value, place), place)
+        if 'filter' in value:
+            raise BadInput('this is a request that holds a filter: give the value of its member "filter" alone', place)
         raise BadInput('an object with "op", "property", "date", "timestamp", "interval", "bbox" or "type" is due', place)
 
     def property(self, name, place, _):
@@ -192,12 +195,17 @@ def day(value, place):
 
 def stamp(value, place):
     match = CLOCK.fullmatch(value)
+    if not match and OFFSET.fullmatch(value):
+        raise BadInput('"%s" has an offset from UTC, %s: a timestamp is written in UTC, YYYY-MM-DDTHH:MM:SSZ'
+                       % (shortened(value), OFFSET.fullmatch(value).group(4)), place)
     if not match:
         raise BadInput('"%s" is not written as a timestamp, YYYY-MM-DDTHH:MM:SSZ' % shortened(value), place)
     *fields, fraction = match.groups()
+    rule = None
     if fraction and fraction.strip('0'):
         fields[5] = 255    # the record has no place for it: let it be refused like any other second that is none
-    return Node(TIMESTAMP, place, struct.pack('<HBBBBB', *map(int, fields)))
+        rule = 'the timestamp has a fraction of a second, .%s, and only whole seconds are taken' % shortened(fraction)
+    return Node(TIMESTAMP, place, struct.pack('<HBBBBB', *map(int, fields)), rule=rule)
 
 
 # What others write, where the nearest spelling would say the opposite.

@@ -1,5 +1,6 @@
 """What can keep a command from its answer. Each is told to the user as one line, with an exit status, and never by a traceback."""
 import os
+import signal
 import sqlite3
 import sys
 
@@ -20,6 +21,10 @@ class Refused(Exception):
         self.number, self.place = number, place
 
 
+class Parted(Exception):
+    """A text that is known to part from its filter, where --strict is given: exit status 1."""
+
+
 class Disagreement(Exception):
     """The proved reader and SQLite say different things of a row: exit status 1."""
 
@@ -35,7 +40,7 @@ def guarded(name, work, enough=0):
         work()
         sys.stdout.flush()
         return 0
-    except (Refused, Disagreement) as e:
+    except (Refused, Parted, Disagreement) as e:
         return told(name, e, 1)
     except (BadInput, sqlite3.Error) as e:
         return told(name, e, 2)
@@ -45,15 +50,30 @@ def guarded(name, work, enough=0):
         return told(name, 'an argument is not UTF-8 text', 2)
     except MemoryError:
         return told(name, 'there is not enough memory', 2)
-    except KeyboardInterrupt:
-        return told(name, 'stopped', 130)
+    except KeyboardInterrupt as e:
+        return told(name, 'stopped', 128 + getattr(e, 'number', signal.SIGINT))
     except OSError as e:
         # what is still to be written has nowhere to go, and must not be tried again at exit
         os.dup2(os.open(os.devnull, os.O_WRONLY), sys.stdout.fileno())
-        return enough if isinstance(e, BrokenPipeError) else told(name, e.strerror or e, 2)
+        return enough if isinstance(e, BrokenPipeError) else told(name, of_system(e), 2)
+    except Exception as e:
+        # a fault of the command itself, which must not look like a refusal
+        return told(name, 'a fault in this command (%s: %s): please report the call' % (type(e).__name__, e), 2)
+
+
+def of_system(e):
+    """What the system says, with the file that it is about."""
+    return '%s%s' % ('%s: ' % e.filename if isinstance(e.filename, str) else '', e.strerror or e)
+
+
+def some(names, most=12):
+    """A list in words, cut where it is long."""
+    left = len(names) - most
+    return ', '.join(names[:most]) + (', … (%d more)' % left if left > 0 else '')
 
 
 def told(name, message, status):
+    """Says it in one line on standard error; gives the status."""
     line = ' '.join(str(message).split())
     # names out of a filter or a file may hold what a terminal would obey
     line = ''.join(c if c.isprintable() else c.encode('unicode_escape', 'backslashreplace').decode() for c in line)

@@ -6,7 +6,7 @@ import time
 import unicodedata
 from urllib.parse import quote
 
-from .errors import BadInput
+from .errors import BadInput, some
 
 APPLICATION_IDS = (0x47504B47, 0x47503130, 0x47503131)    # GPKG; GP10 and GP11 of versions 1.0 and 1.1
 
@@ -68,25 +68,57 @@ class GeoPackage:
 
     def table(self, name):
         """The table of that name, or the only one with rows of features or attributes."""
-        found = [row[0] for row in self.connection.execute(
+        found = [row[0] for row in self.ask(
             "SELECT table_name FROM gpkg_contents WHERE typeof(table_name) = 'text' AND data_type IN ('features', 'attributes') ORDER BY 1")]
         if name is None and len(found) == 1:
             name = found[0]
         if name is None:
-            has = 'the tables ' + ', '.join(found) if found else 'no table of features or attributes'
+            has = 'the tables ' + some(found) if found else 'no table of features or attributes'
             raise BadInput('%s has %s; name one with --table' % (self.path, has))
         if name not in found:
-            raise BadInput('%s has no table "%s"; it has %s' % (self.path, name, ', '.join(found) or 'none'))
+            raise BadInput('%s has no table "%s"; it has %s' % (self.path, name, some(found) or 'none'))
         if not self.columns(name):
             raise BadInput('%s lists a table "%s" that is not there' % (self.path, name))
         return name
 
     def columns(self, table):
         """As SELECT * has them: generated ones too, hidden ones of virtual tables not."""
-        return [row[1] for row in self.connection.execute('PRAGMA table_xinfo(%s)' % quoted(table)) if row[6] != 1]
+        return [row[1] for row in self.ask('PRAGMA table_xinfo(%s)' % quoted(table)) if row[6] != 1]
+
+    def declared(self, table):
+        """For each column its name, its declared type, and whether it may be NULL."""
+        for _, name, kind, not_null, _, key, hidden in self.ask('PRAGMA table_xinfo(%s)' % quoted(table)):
+            if hidden != 1:
+                yield name, kind, not not_null and not (key and kind.upper() == 'INTEGER')
+
+    def geometries(self, table):
+        """The reference system of each column that the GeoPackage lists as a geometry."""
+        try:
+            return {name.lower(): srid for name, srid in self.connection.execute(
+                "SELECT column_name, srs_id FROM gpkg_geometry_columns WHERE lower(table_name) = lower(?) AND typeof(column_name) = 'text' "
+                "AND typeof(srs_id) = 'integer'", [table])}
+        except sqlite3.Error:
+            return {}    # a GeoPackage of attributes alone has no such list
+
+    def has_null(self, table, column):
+        return bool(self.ask('SELECT 1 FROM %s WHERE %s IS NULL LIMIT 1' % (quoted(table), quoted(column))))
+
+    def collation(self, table, column):
+        """The name of the collation by which SQLite compares the column: the program that it makes of a comparison has it."""
+        for _, code, _, _, _, told, *_ in self.ask("EXPLAIN SELECT 1 FROM %s WHERE +%s = 'x'" % (quoted(table), quoted(column))):
+            if code in ('Eq', 'Ne') and told:
+                return told.rsplit('-', 1)[0]
+        return 'BINARY'
 
     def count(self, table):
-        return self.connection.execute('SELECT count(*) FROM %s' % quoted(table)).fetchone()[0]
+        return self.ask('SELECT count(*) FROM %s' % quoted(table))[0][0]
+
+    def ask(self, sql):
+        """All rows of a question of this command's own."""
+        try:
+            return self.connection.execute(sql).fetchall()
+        except sqlite3.Error as e:
+            raise BadInput('cannot read %s: %s' % (self.path, e))
 
     def select(self, table, sql):
         """A cursor over the rows that the text selects."""
@@ -108,7 +140,12 @@ class GeoPackage:
         try:
             return self.connection.execute(sql)
         except sqlite3.Error as e:
+            if not isinstance(e, sqlite3.OperationalError) or str(e).startswith(OF_THE_FILE):
+                raise BadInput('cannot read %s: %s' % (self.path, e))
             raise BadInput(explained(str(e)))
+
+
+OF_THE_FILE = ('database is locked', 'disk I/O error', 'unable to open')    # what SQLite says of the file, not of the text
 
 
 def quoted(name):

@@ -54,7 +54,7 @@ def explained(number, settings, tree):
 def told(number, node):
     """The words and the place for the record that breaks the rule."""
     if number == 6:
-        return RULES[node.kind], node.place + ('.op' if node.kind == records.FUNCTION else '')
+        return node.rule or RULES[node.kind], node.place + ('.op' if node.kind == records.FUNCTION else '')
     stray = [child for child in node.children if child.kind == records.INTERVAL]
     name = records.OPERATORS[int.from_bytes(node.head[:2], 'little')] if node.kind == records.DYADIC else ''
     if name.startswith('T'):

@@ -1,4 +1,4 @@
-"""The proved programs `lower` and `read`: built by `rt` where that is needed, and run on many cases at once."""
+"""The proved programs `lower` and `read`: built by `rt` where that is needed, one build at a time, and run on many cases at once."""
 import os
 import re
 import shutil
@@ -8,6 +8,7 @@ import sys
 import threading
 import time
 
+from . import locking, stamps
 from .errors import BadInput
 
 ROOT = os.path.abspath(os.path.join(os.path.dirname(os.path.abspath(__file__)), '..', '..'))
@@ -18,29 +19,30 @@ def path_of(name):
 
 
 def build(names):
-    """Has `rt` prove and build the programs. It proves only what changed: that is minutes after a fresh clone, and no time after that."""
-    if shutil.which('rt') is None:
+    """Has `rt` prove and build the programs where they are not built from the crates as they stand: minutes after a fresh clone."""
+    if shutil.which(stamps.command()[0]) is None:
         if all(os.access(path_of(name), os.X_OK) for name in names):
             return
         raise BadInput('the proved program is not built, and `rt` of the Rattle kit is not on the PATH')
-    with subprocess.Popen(['rt', 'check', *names], cwd=ROOT, stdout=subprocess.PIPE, stderr=subprocess.STDOUT, text=True, errors='replace') as rt:
-        last = follow(rt.stdout, len(needed(names)))
-    if rt.returncode != 0:
+    if stamps.built(ROOT, names):
+        return
+    check_writable('rt check ' + ' '.join(names))
+    with locking.held(ROOT):
+        if stamps.built(ROOT, names):
+            return    # whoever held the lock has built them
+        status, last = locking.run([*stamps.command(), 'check', *names], ROOT, lambda output: follow(output, len(stamps.needed(ROOT, names))))
+    if status != 0:
         raise BadInput('`rt check %s` failed: %s' % (' '.join(names), last))
 
 
-def needed(names):
-    """The crates of the repository that the programs rest on, themselves among them."""
-    with open(os.path.join(ROOT, 'crates.txt'), encoding='utf-8') as f:
-        lines = [line.split('#')[0].partition(':') for line in f]
-    uses = {name.strip(): rest.split() for name, colon, rest in lines if colon}
-    found, left = set(), list(names)
-    while left:
-        name = left.pop()
-        if name in uses and name not in found:
-            found.add(name)
-            left += uses[name]
-    return found
+def check_writable(words):
+    """Before a build: one line, where `rt` would fail at every step."""
+    target = os.path.join(ROOT, 'target')
+    parts = [os.path.join(target, part) for part in ('bin', 'log', 'obj', 'rlib', 'stamp')]
+    for path in [target] + parts if os.path.isdir(target) else [ROOT]:
+        if os.path.exists(path) and not os.access(path, os.W_OK | os.X_OK):
+            raise BadInput('the proved programs are not built from the crates as they stand, and you may not write %s; '
+                           'have its owner run `%s` there' % (path, words))
 
 
 def follow(output, total):
@@ -49,15 +51,17 @@ def follow(output, total):
     ended = threading.Event()
     ticking = threading.Thread(target=tick, args=(started, ended), daemon=True)
     ticking.start()
-    for line in output:
-        last = line.strip() or last
-        told = re.match(r'rt: (\w+) proved \((.*)\)', line)
-        done += told is not None
-        if told and 'unchanged' not in line:
-            clear = '\r\033[K' if sys.stderr.isatty() else ''
-            print('%sproved %2d of %d: %-10s %5s' % (clear, done, total, told.group(1), told.group(2)), file=sys.stderr, flush=True)
-    ended.set()
-    ticking.join()
+    try:
+        for line in output:
+            last = line.strip() or last
+            told = re.match(r'rt: (\w+) proved \((.*)\)', line)
+            done += told is not None
+            if told and 'unchanged' not in line:
+                clear = '\r\033[K' if sys.stderr.isatty() else ''
+                print('%sproved %2d of %d: %-10s %5s' % (clear, done, total, told.group(1), told.group(2)), file=sys.stderr, flush=True)
+    finally:
+        ended.set()
+        ticking.join()
     return last
 
 

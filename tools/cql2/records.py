@@ -14,10 +14,12 @@ def record(kind, body=b''):
 
 
 class Node:
-    """A record to be: its kind, the bytes of its body that stand before its children, the children, and its place in the filter."""
+    """A record to be: its kind, the bytes of its body that stand before its children, the children, and its place in the filter.
 
-    def __init__(self, kind, place, head=b'', children=()):
-        self.kind, self.place, self.head, self.children = kind, place, head, list(children)
+    `rule` has the words for a refusal of this record where its kind's would not say why."""
+
+    def __init__(self, kind, place, head=b'', children=(), rule=None):
+        self.kind, self.place, self.head, self.children, self.rule = kind, place, head, list(children), rule
 
     def encode(self):
         return record(self.kind, self.head + b''.join(child.encode() for child in self.children))

@@ -12,8 +12,8 @@ from .test_texts import A, AB, CD, DAY, interval, op, point
 FILTER = os.path.join(proved.ROOT, 'filter')
 
 
-def run(*arguments, data=b'', **more):
-    return subprocess.run([sys.executable, FILTER, *arguments], input=data, capture_output=True, timeout=600, **more)
+def run(*arguments, data=b'', python=sys.executable, **more):
+    return subprocess.run([python, FILTER, *arguments], input=data, capture_output=True, timeout=600, **more)
 
 
 def nested(levels):
@@ -31,6 +31,7 @@ def doubled(times):
     return value
 
 
+IS_TEXT = 'the filter is CQL2-Text, and CQL2-JSON is due, as {"op": "=", "args": [{"property": "label"}, "cup"]}'
 BAD = [    # a filter that is not as CQL2-JSON has it, and what the line says
     ('', 'the filter is empty'),
     ('{', 'the filter is not JSON: Expecting property name enclosed in double quotes at line 1, column 2'),
@@ -79,6 +80,13 @@ BAD = [    # a filter that is not as CQL2-JSON has it, and what the line says
     (op('t_after', A, {'date': '2024-01-01\n'}), '$.args[1].date: "2024-01-01 " is not written as a date, YYYY-MM-DD'),
     (op('t_after', A, {'timestamp': '2024-01-01T00:00:00'}),
      '$.args[1].timestamp: "2024-01-01T00:00:00" is not written as a timestamp, YYYY-MM-DDTHH:MM:SSZ'),
+    (op('t_after', A, {'timestamp': '2024-01-01T00:00:00+02:00'}),
+     '$.args[1].timestamp: "2024-01-01T00:00:00+02:00" has an offset from UTC, +02:00: a timestamp is written in UTC, YYYY-MM-DDTHH:MM:SSZ'),
+    (op('t_after', A, interval('2024-01-01T00:00:00.5-0530', '..')),
+     '$.args[1].interval[0]: "2024-01-01T00:00:00.5-0530" has an offset from UTC, -0530: a timestamp is written in UTC, YYYY-MM-DDTHH:MM:SSZ'),
+    ("label = 'cup'", IS_TEXT), ('t_after(entry, DATE(\'2026-03-01\'))', IS_TEXT), ('"a" IS NULL', IS_TEXT), ('NOT (a > 1)', IS_TEXT),
+    ('S_INTERSECTS(place, POINT(1 2))', IS_TEXT), ('tray IN (\'left\', \'right\')', IS_TEXT),
+    ({'filter': op('=', A, 1), 'filter-lang': 'cql2-json'}, '$: this is a request that holds a filter: give the value of its member "filter" alone'),
     (op('t_after', A, interval('2024-01-01')), '$.args[1].interval: an interval is a list of two ends'),
     (op('t_after', A, interval('soon', '..')), '$.args[1].interval[0]: "soon" is not written as a date, YYYY-MM-DD'),
     (op('t_after', A, interval('..', 1)), '$.args[1].interval[1]: an interval takes a date, timestamp, "..", property or function here, not a number'),
@@ -128,7 +136,10 @@ REFUSED = [    # a filter that document 01 refuses: the number, the place, the b
     (op('t_after', A, {'date': '2023-02-29'}), 6, '$.args[1].date', 'there is no such day'),
     (op('t_after', A, interval('0000-01-01', '..')), 6, '$.args[1].interval[0]', 'there is no such day'),
     (op('t_after', A, {'timestamp': '2024-01-01T24:00:00Z'}), 6, '$.args[1].timestamp', 'there is no such time'),
-    (op('t_after', A, {'timestamp': '2024-01-01T00:00:00.5Z'}), 6, '$.args[1].timestamp', 'there is no such time'),
+    (op('t_after', A, {'timestamp': '2024-01-01T00:00:00.5Z'}), 6, '$.args[1].timestamp',
+     'the timestamp has a fraction of a second, .5, and only whole seconds are taken'),
+    (op('t_after', A, interval('2024-01-01T00:00:00.001Z', '..')), 6, '$.args[1].interval[0]',
+     'the timestamp has a fraction of a second, .001, and only whole seconds are taken'),
     (op('s_within', A, {'type': 'LineString', 'coordinates': [[1.1234567, 2.1234567]] * 300}), 6, '$.args[1]',
      'the geometry written as text is longer than 4,096'),
     # the first in reading order is named, as document 01 has it
@@ -185,6 +196,15 @@ class Errors(unittest.TestCase):
     def test_files_and_options(self):
         self.assertEqual(self.line(run('no/such.json'), 2), 'cannot read the filter no/such.json: No such file or directory')
         self.assertEqual(self.line(run('/'), 2), 'cannot read the filter /: Is a directory')
+        self.assertEqual(self.line(run("label = 'cup'"), 2), IS_TEXT)
+        self.assertEqual(self.line(run('not in.json'), 2), 'cannot read the filter not in.json: No such file or directory')
+        with tempfile.TemporaryDirectory() as folder:
+            for data, words in ((b'', 'is empty'), (b'{', 'is not JSON: Expecting property name enclosed in double quotes at line 1, column 2'),
+                                (b'a = 1', IS_TEXT.removeprefix('the filter ')), (b'\xff', 'is not UTF-8 text (byte 0)')):
+                path = os.path.join(folder, 'f.json')
+                with open(path, 'wb') as f:
+                    f.write(data)
+                self.assertEqual(self.line(run(path), 2), 'the filter %s %s' % (path, words))
         self.assertEqual(self.line(run(), 2), 'the following arguments are required: FILTER (see ./filter --help)')
         self.assertEqual(self.line(run('true', '--precision', '16'), 2),
                          'argument --precision: a whole number from 0 to 15 is due (see ./filter --help)')

@@ -9,7 +9,7 @@ import unittest
 
 from demo import log
 
-from . import checking, geopackage, proved, table
+from . import checking, geopackage, proved, spatialite, table
 from .errors import Disagreement
 from .test_errors import run
 from .test_texts import interval, op, sql_of
@@ -138,13 +138,17 @@ fid  label  tray    entry       exit        place
         path = self.other('cut.gpkg')
         with open(path, 'r+b') as f:
             f.truncate(5000)
-        self.assertIn('malformed', self.line('true', '-g', path))
+        self.assertRegex(self.line('true', '-g', path), 'filter: cannot (open|read) %s: database disk image is malformed' % path)
 
     def test_tables(self):
         self.assertEqual(self.line('true', '-g', self.path, '-t', 'nights'),
                          'filter: %s has no table "nights"; it has stays' % self.path)
         two = self.other('two.gpkg', "INSERT INTO gpkg_contents (table_name, data_type) VALUES ('nights', 'attributes')")
         self.assertEqual(self.line('true', '-g', two), 'filter: %s has the tables nights, stays; name one with --table' % two)
+        many = self.other('many.gpkg', *["INSERT INTO gpkg_contents (table_name, data_type) VALUES ('t%03d', 'attributes')" % k for k in range(300)])
+        self.assertEqual(self.line('true', '-g', many), 'filter: %s has the tables stays, %s, … (289 more); name one with --table'
+                         % (many, ', '.join('t%03d' % k for k in range(11))))
+        self.assertTrue(self.line('true', '-g', many, '-t', 'x').endswith(', … (289 more)'))
         self.assertEqual(self.line('true', '-g', two, '-t', 'nights'), 'filter: %s lists a table "nights" that is not there' % two)
         none = self.other('none.gpkg', 'DELETE FROM gpkg_contents')
         self.assertEqual(self.line('true', '-g', none), 'filter: %s has no table of features or attributes; name one with --table' % none)
@@ -165,14 +169,16 @@ fid  label  tray    entry       exit        place
         self.assertEqual(self.line('true', '-t', 'stays'), 'filter: --table and --spatialite go with --geopackage (see ./filter --help)')
 
     def test_texts_that_sqlite_cannot_run(self):
-        cannot = 'filter: SQLite cannot run this text: '
+        cannot, fid = 'filter: %sSQLite cannot run this text: ', {'property': 'fid'}
         self.assertEqual(self.line(json.dumps(op('isNull', {'property': 'zz'})), '-g', self.path),
                          'filter: $.args[0].property: the table "stays" has no column zz; it has fid, label, tray, entry, exit, place')
         self.assertEqual(self.line(json.dumps(op('s_intersects', LABEL, {'bbox': [1, 2, 3, 4]})), '-g', self.path),
-                         cannot + 'spatial functions need SpatiaLite (--spatialite)')
-        self.assertEqual(self.line(json.dumps(op('=', LABEL, op('^', 2, 3))), '-g', self.path), cannot + 'unrecognized token: "^"')
-        self.assertEqual(self.line(json.dumps(op('in', LABEL, [TRAY, 'x'])), '-g', self.path), cannot + 'row value misused')
-        self.assertEqual(self.line(json.dumps(op('f', LABEL)), '--function', 'f', '-g', self.path), cannot + 'no such function: f')
+                         cannot % '' + 'spatial functions need SpatiaLite (--spatialite)')
+        self.assertEqual(self.line(json.dumps(op('=', fid, op('^', 2, 3))), '-g', self.path), cannot % '$.args[1]: ' + 'unrecognized token: "^"; '
+                         'say it by other operators, or by a function of your database with --function')
+        self.assertEqual(self.line(json.dumps(op('in', LABEL, [TRAY, 'x'])), '-g', self.path),
+                         cannot % '$.args[1][0]: ' + 'row value misused; join comparisons by `or`')
+        self.assertEqual(self.line(json.dumps(op('f', LABEL)), '--function', 'f', '-g', self.path), cannot % '' + 'no such function: f')
 
     def test_broken_pipe(self):
         command = "%s true -g '%s' --rows 0 | head -n 1" % (os.path.join(proved.ROOT, 'filter'), self.path)
@@ -180,17 +186,19 @@ fid  label  tray    entry       exit        place
         self.assertEqual((done.stdout, done.stderr), (b'TRUE\n', b''))
 
     def test_spatialite(self):
-        if not hasattr(self.package.connection, 'enable_load_extension'):
-            self.assertIn('this Python cannot load SQLite extensions', self.line('true', '-g', self.path, '--spatialite'))
-            return
+        python = spatialite.python()
+        if python is None:
+            self.skipTest(spatialite.MISSING)
         box = op('s_intersects', {'property': 'place'}, {'bbox': [0, 0, 0.5, 0.25]})
-        done = run(json.dumps(box), '-g', self.path, '--spatialite', '--rows', '0')
-        if done.stderr:
-            self.assertEqual(done.stderr, b'filter: SpatiaLite is not there: apt-get install -y libsqlite3-mod-spatialite\n')
-            return
+        done = run(json.dumps(box), '-g', self.path, '--spatialite', '--rows', '0', '--srid', '4294967295', python=python)
         places = [struct.unpack('<dd', row[5][13:]) for row in self.package.select('stays', 'TRUE')]
         inside = sum(x <= 0.5 and y <= 0.25 for x, y in places)
-        self.assertEqual(done.stdout.decode().splitlines()[-1], '%d of 200 rows' % inside)
+        self.assertEqual((done.stdout.decode().splitlines()[-1:], done.stderr), (['%d of 200 rows' % inside], b''))
+
+    def test_a_python_without_extensions(self):
+        if hasattr(self.package.connection, 'enable_load_extension'):
+            self.skipTest('this Python can load extensions')
+        self.assertIn('this Python cannot load SQLite extensions', self.line('true', '-g', self.path, '--spatialite'))
 
 
 if __name__ == '__main__':

@@ -1,20 +1,18 @@
-"""Random filters, right ones and ones with faults, against the independent scripts: the same text or the same refusal, and the right place."""
+"""Random filters, right ones and ones with faults, against tools/model: the same text or the same refusal, and the right place."""
 import json
 import os
 import random
 import sys
 import unittest
 
-TOOLS = os.path.join(os.path.dirname(os.path.abspath(__file__)), '..')
-sys.path[:0] = [os.path.join(TOOLS, 'lowering'), os.path.join(TOOLS, 'trees')]
-import lowering as reference
-import make as checker
+sys.path.insert(0, os.path.join(os.path.dirname(os.path.abspath(__file__)), '..'))
+from model import calls
 
 from . import lowering, proved, records
 from .encode import Encoder
-from .errors import BadInput, Refused
+from .errors import Refused
 from .reading import read_filter
-from .test_texts import SETTINGS, decoded, op
+from .test_texts import SETTINGS, op
 
 
 class Maker:
@@ -102,9 +100,8 @@ class Random(unittest.TestCase):
         trees = list(self.trees())
         tally = {}
         for (data, tree), line in zip(trees, proved.run('lower', [(settings, tree.encode()) for _, tree in trees])):
-            number = checker.answer(settings, tree.encode())
-            text = 'refused %d' % number if number else reference.text(SETTINGS, decoded(tree.encode())[0])
-            self.assertEqual(line, text if len(text) < 65536 else 'refused 8', data)
+            due = calls.heard(calls.lowered, settings, tree.encode())
+            self.assertEqual(line, due.decode() if isinstance(due, bytes) else 'refused %d' % due, data)
             tally[lowering.refusal_of(line)] = tally.get(lowering.refusal_of(line), 0) + 1
         self.assertTrue(all(tally.get(n, 0) > 20 for n in (None, 6, 7)), tally)
 
@@ -114,7 +111,7 @@ class Random(unittest.TestCase):
         for data, tree in self.trees():
             if seen == 60:
                 break
-            if checker.answer(settings, tree.encode()) not in (6, 7):
+            if calls.check(settings, tree.encode()) not in (6, 7):
                 continue
             seen += 1
             with self.assertRaises(Refused) as first:

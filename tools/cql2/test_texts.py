@@ -1,19 +1,18 @@
-"""Tests of the texts: every operator and kind of value, by hand, against the independent reference of tools/lowering, and against the Rust.
+"""Tests of the texts: every operator and kind of value, by hand, against tools/model, and against the Rust.
 
-  python3 -m unittest discover -s tools                 all tests of the command and of the programs
-  ORACLE=FILE python3 -m unittest discover -s tools     also compares every text with that of the oracle program FILE"""
+  tests/run                                             all tests, with the oracle where ../shared is at hand
+  ORACLE=FILE python3 -m unittest discover -s tools     those of the command and of the programs; FILE is the oracle program"""
 import json
 import os
-import struct
-import subprocess
 import sys
-import tempfile
 import unittest
 
-sys.path.insert(0, os.path.join(os.path.dirname(os.path.abspath(__file__)), '..', 'lowering'))
-import lowering as reference
+sys.path.insert(0, os.path.join(os.path.dirname(os.path.abspath(__file__)), '..'))
+from model import checker
+from model import lowering as model
+from model.records import encode
 
-from . import lowering, proved, records
+from . import lowering, proved, records, rust
 from .encode import KNOWN, Encoder
 from .reading import read_filter
 
@@ -153,33 +152,6 @@ def sql_of(data):
     return lowering.lower(records.settings(*SETTINGS), tree_of(data))
 
 
-def decoded(data):
-    """The reference's tree of a record, and the bytes behind it."""
-    size, kind = struct.unpack_from('<IH', data)
-    body, rest = data[6:4 + size], data[4 + size:]
-    names = 'null unbounded bool num str date timestamp spatial id monadic dyadic function array interval'.split()
-    name = names[kind]
-    form = {'bool': '<?', 'num': '<qB', 'date': '<HBB', 'timestamp': '<HBBBBB'}.get(name)
-    if form:
-        return (name, *struct.unpack(form, body)), rest
-    if name in ('null', 'unbounded'):
-        return (name,), rest
-    if name in ('str', 'spatial', 'id'):
-        skip = {'str': 1, 'spatial': 4, 'id': 0}[name]
-        head = (int.from_bytes(body[:skip], 'little'),) if skip else ()
-        return (name, *head, body[skip:].decode()), rest
-    skip = {'monadic': 2, 'dyadic': 2, 'function': 1 + (body[0] if body else 0)}.get(name, 0)
-    children, left = [], body[skip:]
-    while left:
-        child, left = decoded(left)
-        children.append(child)
-    if name in ('monadic', 'dyadic'):
-        return (name, reference.NAMES[int.from_bytes(body[:2], 'little')], *children), rest
-    if name == 'interval':
-        return (name, *children), rest
-    return ((name, body[1:skip].decode(), children) if name == 'function' else (name, children)), rest
-
-
 class Texts(unittest.TestCase):
     @classmethod
     def setUpClass(cls):
@@ -209,32 +181,30 @@ class Texts(unittest.TestCase):
             look(data)
         self.assertEqual(set(KNOWN) - used, set())
 
-    def test_texts_of_the_reference(self):
+    def test_texts_of_the_model(self):
         for data, text in self.cases():
             with self.subTest(data):
                 encoded = tree_of(data).encode()
-                tree, rest = decoded(encoded)
-                self.assertEqual((rest, reference.encode(tree)), (b'', encoded))
-                self.assertEqual(reference.text(SETTINGS, tree), text)
+                tree = checker.tree_of(encoded)
+                self.assertEqual(encode(tree), encoded)
+                self.assertEqual(model.text(SETTINGS, tree), text)
 
-    @unittest.skipUnless(os.environ.get('ORACLE'), 'ORACLE names no program')
+    @unittest.skipUnless(rust.program(), rust.MISSING)
     def test_texts_of_the_rust(self):
         cases = list(self.cases())
-        with tempfile.TemporaryDirectory() as folder:
-            asked, told = os.path.join(folder, 'cases'), os.path.join(folder, 'answers')
-            with open(asked, 'wb') as f:
-                for data, _ in cases:
-                    for part in (records.settings(*SETTINGS), tree_of(data).encode()):
-                        f.write(struct.pack('<I', len(part)) + part)
-            subprocess.run([os.environ['ORACLE'], 'lower', asked, told], check=True)
-            with open(told, 'rb') as f:
-                answers = f.read()
-        at = 0
-        for data, text in cases:
-            size = int.from_bytes(answers[at + 1:at + 5], 'little')
+        told = rust.answers([(records.settings(*SETTINGS), tree_of(data).encode()) for data, _ in cases])
+        for (data, text), answer in zip(cases, told):
             with self.subTest(data):
-                self.assertEqual(answers[at:at + 1] + answers[at + 5:at + 5 + size], b'T' + text.encode())
-            at += 5 + size
+                self.assertEqual(answer, ('T', text))
+
+    def test_where_the_tree_is_not_that_of_the_rusts_reader(self):
+        """README says how `and` and `or` of more than two are grouped, here and there."""
+        with open(os.path.join(proved.ROOT, 'README.md'), encoding='utf-8') as f:
+            told = f.read()
+        for name in ('and', 'or'):
+            self.assertEqual(sql_of(op(name, A, B, C, D)), '(a AND b) AND (c AND d)'.replace('AND', name.upper()))
+        self.assertIn('`and` and `or` of more than two conditions are halved here, `(a AND b) AND (c AND d)`', told)
+        self.assertIn('read from the left, `((a AND b) AND c) AND d`', told)
 
     def test_many_conditions_are_not_deep(self):
         text = sql_of(op('or', *[op('=', A, k) for k in range(300)]))

@@ -58,10 +58,20 @@ def stays(count, seed):
 
 
 def make(path, count=200, seed=2026):
-    """Writes the GeoPackage anew."""
+    """Writes the GeoPackage anew: beside its place, and then there in one step, so that another who reads it has a whole one."""
     os.makedirs(os.path.dirname(path), exist_ok=True)
-    if os.path.exists(path):
-        os.remove(path)
+    beside = '%s.%d' % (path, os.getpid())
+    if os.path.exists(beside):
+        os.remove(beside)
+    try:
+        write(beside, count, seed)
+        os.replace(beside, path)
+    finally:
+        if os.path.exists(beside):
+            os.remove(beside)
+
+
+def write(path, count, seed):
     connection = sqlite3.connect(path)
     with connection:
         connection.executescript(TABLES)

@@ -1,7 +1,20 @@
 #!/usr/bin/env python3
 """Runs the smallest texts of docs/DIFFERENCES.md on SQLite and prints what it makes of each.
-usage: python3 tools/differences/sqlite.py"""
+
+usage: python3 tools/differences/sqlite.py
+
+Exits with 1 if an answer is not the one that stands beside the text here, or if fewer than 35 texts were run."""
+import os
 import sqlite3
+import sys
+
+sys.path.insert(0, os.path.join(os.path.dirname(os.path.abspath(__file__)), '..'))
+from answers import counts
+from model.lowering import text as text_of
+from model.records import SHEET_SETTINGS
+
+TEXTS = 35
+ANDS_TAKEN = 28
 
 
 def fold(a, b):
@@ -9,73 +22,81 @@ def fold(a, b):
 
 
 def ask(expression, row, kind):
-    base = sqlite3.connect(":memory:")
-    base.create_collation("NC", fold)
-    source = ""
+    base = sqlite3.connect(':memory:')
+    base.create_collation('NC', fold)
+    source = ''
     if row:
-        base.execute("CREATE TABLE t (%s)" % ", ".join('"%s" %s' % (name, kind) for name in row))
-        base.execute("INSERT INTO t VALUES (%s)" % ",".join("?" * len(row)), list(row.values()))
-        source = " FROM t"
+        base.execute('CREATE TABLE t (%s)' % ', '.join('"%s" %s' % (name, kind) for name in row))
+        base.execute('INSERT INTO t VALUES (%s)' % ','.join('?' * len(row)), list(row.values()))
+        source = ' FROM t'
     try:
-        return base.execute("SELECT (%s)%s" % (expression, source)).fetchone()[0]
+        return base.execute('SELECT (%s)%s' % (expression, source)).fetchone()[0]
     except sqlite3.Error as error:
-        return "error: %s" % error
+        return 'error: %s' % error
+    finally:
+        base.close()
 
 
-CASES = [
-    ("a BETWEEN 0 AND (b = c)", {"a": 5, "b": 9, "c": 1}, "NUMERIC"),
-    ("a BETWEEN 0 AND b = c", {"a": 5, "b": 9, "c": 1}, "NUMERIC"),
-    ("(a = b) COLLATE NC", {"a": "x", "b": "X"}, "TEXT"),
-    ("a = b COLLATE NC", {"a": "x", "b": "X"}, "TEXT"),
-    ("a > (b > c)", {"a": 3, "b": 2, "c": 1}, "NUMERIC"),
-    ("a > b > c", {"a": 3, "b": 2, "c": 1}, "NUMERIC"),
-    ("(NOT a) > b", {"a": 1, "b": 0}, "NUMERIC"),
-    ("NOT a > b", {"a": 1, "b": 2}, "NUMERIC"),
-    ("a COLLATE NC COLLATE BINARY = 'X'", {"a": "x"}, "TEXT"),
-    ("a COLLATE BINARY COLLATE NC = 'X'", {"a": "x"}, "TEXT"),
-    ("'x' IN ('X' COLLATE NC)", {}, ""),
-    ("'x' IN ('X' COLLATE NC, 'y')", {}, ""),
-    ("a COLLATE BINARY = 'X' COLLATE NC", {"a": "x"}, "TEXT"),
-    ("a LIKE ('X')", {"a": "x"}, "TEXT"),
-    ("a COLLATE BINARY LIKE ('X')", {"a": "x"}, "TEXT"),
-    (r"a LIKE ('10\%')", {"a": r"10\5"}, "TEXT"),
-    ("2 ^ 3", {}, ""),
-    ("7 div 2", {}, ""),
-    ("(1, 2) @> (1, 2)", {}, ""),
-    ("(1, 2) <@ (1, 2)", {}, ""),
-    ("(1, 2) && (1, 2)", {}, ""),
-    ("() = ()", {}, ""),
-    ("7 / 2", {}, ""),
-    ("(1, 2) = (2, 1)", {}, ""),
-    ("a IN ((b, 2))", {"a": 1, "b": 1}, "NUMERIC"),
-    ("a IN b", {"a": 1, "b": 1}, "NUMERIC"),
-    ('NOT ("b" IS NOT NULL AND (a > c))', {"a": "2", "b": None, "c": "1"}, "TEXT"),
-    ('"zz" IS NOT NULL', {"a": "1"}, "TEXT"),
-    ("A = a", {"a": "1"}, "TEXT"),
-    ("rowid", {"a": "1"}, "TEXT"),
-    ("'2024-01-01' < '-2021-01-01'", {}, ""),
-    ("'2024-01-01' < '2024-01-01T00:00:00'", {}, ""),
-    ("'2024-01-01T00:00:00' = '2024-01-01T00:00:00.000Z'", {}, ""),
+CASES = [    # a text, a row, the declared type of its columns, and SQLite's answer
+    ("a BETWEEN 0 AND (b = c)", {"a": 5, "b": 9, "c": 1}, "NUMERIC", 0),
+    ("a BETWEEN 0 AND b = c", {"a": 5, "b": 9, "c": 1}, "NUMERIC", 1),
+    ("(a = b) COLLATE NC", {"a": "x", "b": "X"}, "TEXT", 0),
+    ("a = b COLLATE NC", {"a": "x", "b": "X"}, "TEXT", 1),
+    ("a > (b > c)", {"a": 3, "b": 2, "c": 1}, "NUMERIC", 1),
+    ("a > b > c", {"a": 3, "b": 2, "c": 1}, "NUMERIC", 0),
+    ("(NOT a) > b", {"a": 1, "b": 2}, "NUMERIC", 0),
+    ("NOT a > b", {"a": 1, "b": 2}, "NUMERIC", 1),
+    ("a COLLATE NC COLLATE BINARY = 'X'", {"a": "x"}, "TEXT", 0),
+    ("a COLLATE BINARY COLLATE NC = 'X'", {"a": "x"}, "TEXT", 1),
+    ("'x' IN ('X' COLLATE NC)", {}, "", 1),
+    ("'x' IN ('X' COLLATE NC, 'y')", {}, "", 0),
+    ("a COLLATE BINARY = 'X' COLLATE NC", {"a": "x"}, "TEXT", 0),
+    ("a LIKE ('X')", {"a": "x"}, "TEXT", 1),
+    ("a COLLATE BINARY LIKE ('X')", {"a": "x"}, "TEXT", 1),
+    (r"a LIKE ('10\%')", {"a": r"10\5"}, "TEXT", 1),
+    ("2 ^ 3", {}, "", 'error: unrecognized token: "^"'),
+    ("7 div 2", {}, "", 'error: near "div": syntax error'),
+    ("(1, 2) @> (1, 2)", {}, "", 'error: unrecognized token: "@"'),
+    ("(1, 2) <@ (1, 2)", {}, "", 'error: unrecognized token: "@"'),
+    ("(1, 2) && (1, 2)", {}, "", 'error: near "&": syntax error'),
+    ("() = ()", {}, "", 'error: near ")": syntax error'),
+    ("7 / 2", {}, "", 3),
+    ("(1, 2) = (2, 1)", {}, "", 0),
+    ("a IN ((b, 2))", {"a": 1, "b": 1}, "NUMERIC", 'error: row value misused'),
+    ("a IN b", {"a": 1, "b": 1}, "NUMERIC", 'error: no such table: b'),
+    ('NOT ("b" IS NOT NULL AND (a > c))', {"a": "2", "b": None, "c": "1"}, "TEXT", 1),
+    ('"zz" IS NOT NULL', {"a": "1"}, "TEXT", 1),
+    ("A = a", {"a": "1"}, "TEXT", 1),
+    ("rowid", {"a": "1"}, "TEXT", 1),
+    ("'2024-01-01' < '-2021-01-01'", {}, "", 0),
+    ("'2024-01-01' < '2024-01-01T00:00:00'", {}, "", 1),
+    ("'2024-01-01T00:00:00' = '2024-01-01T00:00:00.000Z'", {}, "", 0),
 ]
 
 
-def deepest():
-    """How many ANDs over TDisjoint of intervals, each the right operand of the next, SQLite takes."""
-    text = '("a" IS NOT NULL AND "d" NOT NULL AND (b < c)) OR ("b" IS NOT NULL AND "c" NOT NULL AND (a > d))'
-    row = {"a": "1", "b": "2", "c": "3", "d": "4"}
-    for count in range(1, 31):
-        text = "TRUE AND (%s)" % text
-        answer = ask(text, row, "TEXT")
-        if isinstance(answer, str):
-            return "%d ANDs: %s" % (count, answer)
-    return "30 ANDs are taken"
+def ands_over_disjoint(count):
+    """So many Ands over TDisjoint of intervals, each the right operand of the next."""
+    names = [('id', name) for name in 'abcd']
+    tree = ('dyadic', 'TDisjoint', ('interval', *names[:2]), ('interval', *names[2:]))
+    for _ in range(count):
+        tree = ('dyadic', 'And', ('bool', 1), tree)
+    return text_of(SHEET_SETTINGS, tree)
 
 
 def main():
-    print("SQLite", sqlite3.sqlite_version)
-    for expression, row, kind in CASES:
-        print("%-52s %-30s %s" % (expression, row or "", ask(expression, row, kind)))
-    print(deepest())
+    print('SQLite', sqlite3.sqlite_version)
+    row, differ = {'a': '1', 'b': '2', 'c': '3', 'd': '4'}, 0
+    deep = [(ands_over_disjoint(count), row, 'TEXT') for count in (ANDS_TAKEN, ANDS_TAKEN + 1)]
+    cases = CASES + [(*deep[0], 1), (*deep[1], 'error: parser stack overflow')]
+    for expression, row, kind, due in cases:
+        said = ask(expression, row, kind)
+        print('%-52s %-30s %s' % (expression if len(expression) < 100 else expression[:80] + '..', row or '', said))
+        if said != due:
+            differ += 1
+            print('differs: %r, and not %r' % (said, due))
+    print('%d texts, %d differ' % (len(cases), differ))
+    counts.stop_if_wrong(differ, ('texts', len(cases), TEXTS))
 
 
-main()
+if __name__ == '__main__':
+    sys.exit(__doc__) if len(sys.argv) != 1 else main()

@@ -8,12 +8,14 @@ import subprocess
 import sys
 import unittest
 
-TOOLS = os.path.join(os.path.dirname(os.path.abspath(__file__)), '..')
-sys.path[:0] = [TOOLS, os.path.join(TOOLS, 'texts')]
-import reference
-
+sys.path.insert(0, os.path.join(os.path.dirname(os.path.abspath(__file__)), '..'))
+from answers.stored import framed
 from cql2 import proved
-from programs.make import LOWER, NULL, READ, ROW_N, SETTINGS, SHEET_J, TEXT_J, column, framed
+from generators import filters, readings, trees
+from model import calls
+from model.limits import PLANNER
+from model.records import encode, row as row_of, settings_record
+from programs.cases import LOWER, NULL, READ, ROW_N, SETTINGS, SHEET_J, TEXT_J
 
 
 def answers(name, data):
@@ -56,29 +58,34 @@ class Programs(unittest.TestCase):
     def test_a_slow_pipe(self):
         for name, cases in (('lower', LOWER[:1] + LOWER[4:]), ('read', READ[:5] + READ[9:])):
             process = subprocess.Popen([proved.path_of(name)], stdin=subprocess.PIPE, stdout=subprocess.PIPE)
-            for byte in b''.join(case for case, _ in cases):
+            for byte in b''.join(framed(*parts) for parts, _ in cases):
                 process.stdin.write(bytes([byte]))
                 process.stdin.flush()
             told = process.communicate()[0].decode().split('\n')[:-1]
             self.assertEqual(told, [line for _, line in cases])
 
-    def test_readings_of_the_reference(self):
+    def test_lowerings_of_the_model(self):
+        cases = [(settings_record(settings), encode(tree)) for settings, tree in filters.accepted(2000, 7)] + list(trees.mutations(2000, 7))
+        told = answers('lower', b''.join(framed(*case) for case in cases))
+        for case, line in zip(cases, told):
+            want = calls.to_sql(*case, PLANNER.text)
+            self.assertEqual(line, want.decode() if isinstance(want, bytes) else 'refused %d' % want, case)
+        self.assertEqual(len(told), len(cases))
+        self.assertTrue(set(told) >= {'refused 3', 'refused 5', 'refused 6', 'refused 7'})
+
+    def test_readings_of_the_model(self):
         r = random.Random(7)
-        atoms = lambda: r.choice((b'a', b'"b"', b'c', b"'2024-01-01'", b"'x'", b'NULL', b'zz', b'1'))
-        def text(depth):
-            if depth == 0 or r.random() < .3:
-                return r.choice((b'TRUE', b'FALSE', b'NULL', b'a IS NULL', b'"b" NOT NULL', b'c IS NOT NULL',
-                                 atoms() + r.choice((b'<', b' > ', b'<=', b'>=', b'=', b'<>', b' != ')) + atoms()))
-            return r.choice((lambda: b'NOT ' + text(depth - 1), lambda: b'(' + text(depth - 1) + b')',
-                             lambda: text(depth - 1) + b' AND ' + text(depth - 1), lambda: text(depth - 1) + b' or ' + text(depth - 1)))()
-        value = lambda: r.choice((None, b'', b'x', b'2024-01-01', b'2024-01-02'))
-        cases = [(text(r.randrange(6)), b''.join(column(n, value()) for n in (b'a', b'b', b'c')[:r.choice((3, 3, 3, 2))])) for _ in range(5000)]
+        cases = []
+        for _ in range(5000):
+            cells = readings.some_row(r)
+            cases.append((readings.joined(r, readings.expression(r, cells, r.randrange(5))), row_of(cells)))
+        cases += list(readings.random_readings(1000, 7))
         told = answers('read', b''.join(framed(*case) for case in cases))
         for case, line in zip(cases, told):
-            want = reference.read(*case)
+            want = calls.read(*case)
             self.assertEqual(line, want if isinstance(want, str) else 'refused %d' % want, case)
         self.assertEqual(len(told), len(cases))
-        self.assertTrue(set(told) >= {'true', 'false', 'unknown', 'refused 12', 'refused 13'})
+        self.assertEqual(set(told), {'true', 'false', 'unknown', 'refused 11', 'refused 12', 'refused 13'})
 
 
 if __name__ == '__main__':

@@ -10,9 +10,9 @@ use std::mem;
 /// civil fields ([`Date`], [`Timestamp`]) and a WKT text ([`G`]). Any tree may be built; the proved checker behind
 /// [`to_sql`](crate::to_sql) refuses what breaks a rule.
 ///
-/// A tree may be as deep as memory allows: encoding and dropping use no recursion (so `E` implements `Drop`; take parts
-/// out of it by reference or by [`std::mem::take`]). `Clone`, `Debug`, `==` and `Hash` do recurse.
-#[derive(Clone, Debug, Default, PartialEq, Eq, Hash)]
+/// A tree may be as deep as memory allows: encoding, cloning, comparing, hashing, showing and dropping use no recursion
+/// (so `E` implements `Drop`; take parts out of it by reference or by [`std::mem::take`]).
+#[derive(Default)]
 pub enum E {
     /// NULL.
     #[default]
@@ -235,7 +235,7 @@ impl E {
     }
 
     /// The kind's number, 0 to 13.
-    fn kind(&self) -> u16 {
+    pub(crate) fn kind(&self) -> u16 {
         match self {
             E::Null => 0,
             E::Unbounded => 1,
@@ -283,7 +283,7 @@ impl E {
     }
 
     /// The trees inside this one, the last first: a stack hands them out in order.
-    fn children(&self) -> impl Iterator<Item = &E> {
+    pub(crate) fn children(&self) -> impl Iterator<Item = &E> {
         let (pair, list): ([Option<&E>; 2], &[E]) = match self {
             E::Monadic(_, x) => ([Some(x), None], &[]),
             E::Dyadic(_, x, y) | E::Interval(x, y) => ([Some(y), Some(x)], &[]),

@@ -35,6 +35,7 @@ mod record;
 mod refusal;
 mod row;
 mod settings;
+mod walks;
 
 pub use expr::{Call, Date, Num, QString, Timestamp, E, G};
 pub use op::Op;

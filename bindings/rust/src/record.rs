@@ -15,7 +15,7 @@ pub(crate) fn end(out: &mut [u8], start: usize) {
     out[start..start + 4].copy_from_slice(&length.to_le_bytes());
 }
 
-/// A name behind its length byte. A length past 255 is written as 255: a name of more than 64 bytes is refused in any case.
+/// A name after its length byte. A length past 255 is written as 255: a name of more than 64 bytes is refused in any case.
 pub(crate) fn named(out: &mut Vec<u8>, name: &str) {
     out.push(u8::try_from(name.len()).unwrap_or(u8::MAX));
     out.extend_from_slice(name.as_bytes());

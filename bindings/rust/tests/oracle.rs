@@ -1,5 +1,6 @@
 //! Random trees, encoded here and lowered by the proved call, against the Rust itself: the oracle of shared/oracle.
-//! Found beside the repository, or by WENDUULIG_ORACLE (its program, or the folder of its build.py); skipped where neither is.
+//! WENDUULIG_ORACLE names its program; tests/run builds it where ../shared is at hand. Without it cargo reports these tests
+//! as ignored, each by its name.
 mod random;
 
 use random::Random;
@@ -9,38 +10,14 @@ use std::fs;
 use std::io::Write;
 use std::path::{Path, PathBuf};
 use std::process::Command;
-use std::sync::OnceLock;
 use wenduulig::{to_sql, Op, Settings, E};
 
-/// The oracle's program; a line says so where there is none.
-fn oracle() -> Option<&'static Path> {
-    static PROGRAM: OnceLock<Option<PathBuf>> = OnceLock::new();
-    let program = PROGRAM.get_or_init(find_oracle).as_deref();
-    if program.is_none() {
-        writeln!(std::io::stderr(), "skipped: no oracle at ../../../shared/oracle, and WENDUULIG_ORACLE names none")
-            .ok();
-    }
+/// The oracle's program. A test that needs it and has none fails: without it these tests are not to be run.
+fn oracle() -> PathBuf {
+    let program =
+        env::var_os("WENDUULIG_ORACLE").map(PathBuf::from).expect("WENDUULIG_ORACLE names the oracle's program");
+    assert!(program.is_file(), "there is no program at {}", program.display());
     program
-}
-
-/// Builds it into cargo's folder for tests if only its sources are there.
-fn find_oracle() -> Option<PathBuf> {
-    let beside = Path::new(env!("CARGO_MANIFEST_DIR")).join("../../../shared/oracle");
-    let place = env::var_os("WENDUULIG_ORACLE").map_or(beside, PathBuf::from);
-    if place.is_file() {
-        return Some(place);
-    }
-    let sources = place.join("build.py");
-    if !sources.is_file() {
-        return None;
-    }
-    let folder = Path::new(env!("CARGO_TARGET_TMPDIR")).join("oracle");
-    let program = folder.join("oracle");
-    if !program.is_file() {
-        let built = Command::new("python3").arg(&sources).arg(&folder).output().expect("python3");
-        assert!(built.status.success(), "{}", String::from_utf8_lossy(&built.stderr));
-    }
-    Some(program)
 }
 
 /// What the oracle answers: a text, or a letter for a panic (P), an error (E) or bytes that it cannot decode (D).
@@ -121,12 +98,11 @@ fn expect_all(seen: &BTreeSet<String>) {
 }
 
 #[test]
+#[ignore = "WENDUULIG_ORACLE must name the oracle's program"]
 fn random_trees_against_the_rust() {
-    let Some(program) = oracle() else {
-        return;
-    };
+    let program = oracle();
     let cases = cases(6000);
-    let told = answers(program, &cases);
+    let told = answers(&program, &cases);
     assert_eq!(told.len(), cases.len());
     let (mut compared, mut seen) = (0, BTreeSet::new());
     for ((settings, e), (letter, want)) in cases.iter().zip(told) {
@@ -143,10 +119,9 @@ fn random_trees_against_the_rust() {
 
 /// The Rust's own names and order of the operators.
 #[test]
+#[ignore = "WENDUULIG_ORACLE must name the oracle's program"]
 fn operators_against_the_rust() {
-    let Some(program) = oracle() else {
-        return;
-    };
+    let program = oracle();
     let told = Command::new(program).arg("ops").output().expect("the oracle").stdout;
     let told = String::from_utf8(told).expect("a text");
     let theirs: Vec<&str> = told.lines().filter_map(|line| line.split('\t').nth(1)).collect();

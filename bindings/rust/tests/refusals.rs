@@ -1,4 +1,6 @@
 //! Each refusal, by the safe API or by raw bytes, with its number and words; lent bytes after it; trees of any depth.
+use std::collections::hash_map::DefaultHasher;
+use std::hash::{Hash, Hasher};
 use wenduulig::{read, read_bytes, to_sql, to_sql_bytes, to_sql_into, Op, Refusal, Row, Settings, E, TEXT_MAX};
 
 fn lower(e: &E) -> Result<String, Refusal> {
@@ -157,10 +159,17 @@ fn words() {
     assert!(error.to_string().contains("balanced"));
 }
 
-/// A chain of 100,000 levels is encoded, refused and dropped on the small stack of a test's thread.
+fn hashed(e: &E) -> u64 {
+    let mut hasher = DefaultHasher::new();
+    e.hash(&mut hasher);
+    hasher.finish()
+}
+
+/// A chain of 200,000 levels is encoded, refused, copied, compared, hashed, shown and dropped on the small stack of a
+/// test's thread.
 #[test]
 fn any_depth() {
-    let chain = |wrap: fn(E) -> E| (0..100_000).fold(E::Null, |e, _| wrap(e));
+    let chain = |wrap: fn(E) -> E| (0..200_000).fold(E::Null, |e, _| wrap(e));
     for deep in [
         chain(|e| E::monadic(Op::Neg, e)),
         chain(|e| E::dyadic(Op::And, E::id("a"), e)),
@@ -169,5 +178,9 @@ fn any_depth() {
         chain(|e| E::interval(e, E::Null)),
     ] {
         assert_eq!(lower(&deep), Err(Refusal::TreeTooLong));
+        let copy = deep.clone();
+        assert!(copy == deep && hashed(&copy) == hashed(&deep));
+        let shown = format!("{deep:?}");
+        assert!(shown.len() > 1_000_000 && shown.matches("Null").count() >= 1, "{}", shown.len());
     }
 }

@@ -1,4 +1,5 @@
 //! Random trees from a fixed seed: all kinds, operators and flags, nested at every place.
+#![allow(dead_code)] // each test takes a part of it
 use wenduulig::{Date, Num, Op, QString, Settings, Timestamp, E, G};
 
 /// Numbers from a seed (splitmix64).

@@ -1,0 +1,171 @@
+"""Settings and trees: right ones, ones at the limits, and damaged ones."""
+import struct
+
+from damage import DAMAGE, INTERVAL, LARGE_TREES, LEAVES, NULL, SMALL_TREES, SPECIAL, bytes_changed, cut_or_lengthened, flipped
+from edges import edge_leaf, edge_name
+from generators import filters, trees
+from model import lowering, records
+from model.limits import PLANNER
+from model.operators import DYADIC, INSTANT_OR_INTERVAL, MONADIC, NAMES, NUMBER, TEMPORAL
+from model.records import SHEET_SETTINGS, encode, settings_record
+
+
+def numbers(names):
+    return [NUMBER[name] for name in names]
+
+
+AND, EQ = numbers(('And', 'Eq'))
+SPANNING = numbers(INSTANT_OR_INTERVAL)
+SOUP = numbers('Eq And TAfter TDisjoint TEquals TIntersects IsBetween'.split())
+
+
+class Lowerings:
+    """Settings and trees. Each method makes one kind; the answer is (settings, tree)."""
+
+    def __init__(self, r):
+        self.r, self.m = r, filters.Maker(r)
+
+    def settings(self):
+        return settings_record(self.m.settings())
+
+    def tree(self):
+        """One that is accepted, mostly: an operator at the root or any tree."""
+        r, m = self.r, self.m
+        depth, k = r.choice((0, 1, 1, 1, 2, 2, 3)), r.random()
+        if k < .35:
+            return m.node(r.choice(DYADIC), depth)
+        if k < .6:
+            return m.node(r.choice(TEMPORAL), r.choice((0, 1, 1, 2)))
+        if k < .7:
+            return ('monadic', r.choice(MONADIC), m.tree(depth))
+        return m.tree(depth + 1)
+
+    def accepted(self):
+        return self.settings(), encode(self.tree())
+
+    def larger(self):
+        """Of more levels, up to the limit."""
+        r, t = self.r, self.m.tree(self.r.choice((4, 5, 6)))
+        for _ in range(r.choice((0, 0, 0, 5, 15, 24))):
+            t = r.choice((('monadic', r.choice(MONADIC), t), ('dyadic', r.choice(('And', 'IsLike', 'Plus')), t, ('id', 'a')),
+                          ('array', [t]), ('function', 'f', [t])))
+        return self.settings(), encode(t)
+
+    def damaged(self, how):
+        return self.settings(), DAMAGE[how](self.r, encode(self.tree()))
+
+    def stored(self):
+        return self.r.choice(SMALL_TREES)
+
+    def stored_damaged(self):
+        settings, tree = self.r.choice(SMALL_TREES)
+        return settings, self.r.choice((flipped, bytes_changed, cut_or_lengthened))(self.r, tree or NULL)
+
+    def leaves(self):
+        """Leaves at the edges of their rules, in an accepted tree."""
+        r = self.r
+        leaf = edge_leaf(r) if r.random() < .7 else bytes_changed(r, r.choice(LEAVES)) if r.random() < .5 else r.choice(LEAVES)
+        if r.random() < .5:
+            leaf = r.choice((records.monadic(r.choice(numbers(('Minus', 'Neg', 'IsNull'))), leaf),
+                             records.dyadic(r.choice(numbers(('Eq', 'TAfter', 'IsLike', 'IsInList'))), trees.A, leaf),
+                             records.array(leaf, NULL), records.function(b'f', leaf)))
+        return self.settings(), leaf
+
+    def settings_damaged(self):
+        how = self.r.choice((flipped, bytes_changed, cut_or_lengthened))
+        return how(self.r, self.settings()), self.r.choice((NULL, trees.A, b'', records.record(14)))
+
+    def settings_edges(self):
+        r = self.r
+        names = [edge_name(r) if r.random() < .3 else b'NC' for _ in range(3)]
+        return records.settings_bytes(r.choice((0, 1, 7, 9, 10, 14, 15, 15, 16, 255)), *names), encode(self.tree())
+
+    def random_bytes(self):
+        r = self.r
+        return self.settings() if r.random() < .9 else r.randbytes(r.randrange(20)), r.randbytes(r.choice((0, 1, 5, 6, 7, 8, 12, 20, 60)))
+
+    def random_records(self, depth=3):
+        """Frames that fit, with any kind, operator and body."""
+        return self.settings(), self.soup(depth)
+
+    def soup(self, depth):
+        r = self.r
+        kind = r.choice((2, 3, 4, 5, 6, 7, 8, 8, 9, 10, 10, 10, 11, 12, 13, 13, r.randrange(16)))
+        if depth == 0 or kind < 9 or kind > 13:
+            size = {2: 1, 3: 9, 5: 4, 6: 7}.get(kind, r.randrange(7))
+            some = bytes(r.choice(SPECIAL) if r.random() < .5 else r.randrange(16) for _ in range(size))
+            return r.choice(LEAVES) if r.random() < .75 else trees.A if r.random() < .5 else records.record(kind, some)
+        below = [self.soup(depth - 1) for _ in range({9: 1, 10: 2, 13: 2}.get(kind, r.randrange(4)))]
+        if r.random() < .03:
+            below = below[1:] or [NULL, NULL]
+        operator = r.choice(trees.MONADIC_NUMBERS) if kind == 9 else r.choice([r.randrange(len(NAMES))] + SOUP)
+        head = {9: struct.pack('<H', operator), 10: struct.pack('<H', operator), 11: b'\1f'}.get(kind, b'')
+        return records.record(kind, head + b''.join(below))
+
+    def deep(self):
+        """30 to 34 levels, with something right or wrong at the bottom."""
+        r = self.r
+        t = r.choice((NULL, trees.A, r.choice(LEAVES), records.record(14), records.record(2, b'\2'), b'\0', b'\1\0\0\0\0\0', records.array(),
+                      INTERVAL))
+        levels = r.choice((29, 30, 31, 31, 32, 33))
+        while levels > 0:
+            k = r.randrange(7)
+            if k == 6 and levels >= 2:
+                t, levels = records.dyadic(r.choice(SPANNING), records.interval(t, trees.B), trees.C), levels - 2
+                continue
+            t = r.choice((lambda: records.monadic(r.choice(trees.MONADIC_NUMBERS[:5]), t), lambda: records.array(t), lambda: records.array(NULL, t),
+                          lambda: records.function(b'f', t),
+                          lambda: records.dyadic(AND, t, NULL), lambda: records.dyadic(EQ, NULL, t)))()
+            levels -= 1
+        return self.settings(), t
+
+    def tree_limit(self):
+        """32,766 to 32,770 bytes, right but for the size; sometimes the settings are wrong too, or the last record."""
+        r = self.r
+        size = PLANNER.tree + r.choice((-2, -1, 0, 0, 1, 1, 2))
+        items, used = [], 6
+        while size - used > 4103 + 10:
+            item = encode(self.tree()) if r.random() < .2 else records.string(b'y' * r.randint(3000, 4096))
+            if used + len(item) + 10 > size:
+                continue
+            items.append(item)
+            used += len(item)
+        items.append(records.string(b'z' * (size - used - 7)))
+        tree = records.array(*items)
+        if r.random() < .1:
+            tree = tree[:-1] + b'\0'
+        return (self.settings() if r.random() < .9 else b''), tree
+
+    def text_limit(self):
+        """A text of 65,533 to 65,538 bytes, most of it written several times."""
+        r, want = self.r, PLANNER.text + self.r.choice((-2, -1, 0, 0, 0, 1, 1, 1, 2, 3))
+        g = self.m.settings()
+        t = ('array', [('str', r.randrange(4), 'x' * 3900)] * 3)
+        for _ in range(2):
+            t = ('dyadic', r.choice(('TEquals', 'TDisjoint', 'TIntersects')), t, ('interval', ('id', 'a'), ('id', 'b')))
+        full = lambda n: ('dyadic', 'And', t, ('array', [('str', 0, 'y' * 3700)] * (n // 3710) + [('str', 0, 'y' * (n % 3710))]))
+        n = want - len(lowering.text(g, full(0)))
+        for _ in range(9):    # the filler's own marks count too
+            n += want - len(lowering.text(g, full(n)))
+        return settings_record(g), encode(full(n))
+
+    def doubled_ends(self):
+        """Ends that are written twice at each level: texts past every limit from a small tree, or an end that is left out."""
+        r, t = self.r, self.m.end(1)
+        for _ in range(r.randint(8, 29)):
+            side = ('interval', r.choice((('id', 'b'), ('unbounded',), ('null',))), ('id', 'c')) if r.random() < .7 else ('id', 'd')
+            op = r.choice(INSTANT_OR_INTERVAL if r.random() < .8 else ('TDisjoint',))
+            t = ('dyadic', op, t, side) if r.random() < .5 else ('dyadic', op, side, t)
+            if r.random() < .1:
+                t = ('dyadic', r.choice(('TAfter', 'TBefore')), ('id', 'a'), ('interval', t, ('id', 'e')))
+        return self.settings(), encode(t)
+
+    def empty(self):
+        r = self.r
+        return r.choice((b'', self.settings(), settings_record(SHEET_SETTINGS))), r.choice((b'', b'', NULL))
+
+    def too_long(self):
+        return self.r.choice((self.settings(), b'')), bytes(PLANNER.tree + self.r.choice((1, 2, 1000, 33000)))
+
+    def large(self):
+        return self.r.choice(LARGE_TREES)

@@ -1,0 +1,71 @@
+"""What is known of a table's columns: the family of values that each is declared for, whether it may be NULL, and its reference system."""
+import re
+
+NUMBER, TEXT, DATE, DATETIME, TIMESTAMP, BOOLEAN, GEOMETRY, UNKNOWN = 'number', 'text', 'date', 'DATETIME', 'timestamp', 'boolean', 'geometry', 'unknown'
+TEXTS = {TEXT, DATE, DATETIME, TIMESTAMP}    # SQLite holds and compares all of these as texts
+NUMBERS = {NUMBER, BOOLEAN}
+GEOMETRIES = ('GEOMETRY', 'POINT', 'LINESTRING', 'POLYGON', 'MULTIPOINT', 'MULTILINESTRING', 'MULTIPOLYGON', 'GEOMETRYCOLLECTION')
+
+
+def family(declared):
+    """By GeoPackage's names of types, and for others by the rules that SQLite takes a column's affinity from."""
+    name = re.sub(r'\(.*', '', declared or '').strip().upper()
+    if name in ('DATETIME', 'TIMESTAMP'):
+        return DATETIME
+    for words, found in ((('DATE',), DATE), (('BOOLEAN', 'BOOL'), BOOLEAN), (GEOMETRIES, GEOMETRY)):
+        if name in words:
+            return found
+    if 'INT' in name:
+        return NUMBER
+    if any(word in name for word in ('CHAR', 'CLOB', 'TEXT')):
+        return TEXT
+    return NUMBER if any(word in name for word in ('REAL', 'FLOA', 'DOUB', 'NUMERIC', 'DECIMAL')) else UNKNOWN
+
+
+class Column:
+    def __init__(self, declared='', nullable=True, srid=None):
+        self.family, self.nullable, self.srid = family(declared), nullable, srid
+        self.whole = 'INT' in (declared or '').upper()
+        self.fraction = any(word in (declared or '').upper() for word in ('REAL', 'FLOA', 'DOUB'))
+
+
+class NoTable:
+    """Where there is no GeoPackage at hand: any column may hold anything."""
+    open, spatialite = False, False
+
+    def __init__(self, srid, readable):
+        self.srid, self.readable = srid, readable
+
+    def column(self, name):
+        return Column()
+
+    def has_null(self, name):
+        return True
+
+    def is_geometry(self, name):
+        return True
+
+    def collation(self, name):
+        return 'BINARY'
+
+
+class Table:
+    """A GeoPackage's table; `srid` is that of written geometries, `readable` says whether SQLite can read a name that stands bare."""
+    open = True
+
+    def __init__(self, package, name, spatialite, srid, readable):
+        self.package, self.name, self.spatialite, self.srid, self.readable = package, name, spatialite, srid, readable
+        systems = package.geometries(name)
+        self.columns = {column.lower(): Column(declared, nullable, systems.get(column.lower())) for column, declared, nullable in package.declared(name)}
+
+    def column(self, name):
+        return self.columns.get(name.lower(), Column())
+
+    def has_null(self, name):
+        return self.column(name).nullable and self.package.has_null(self.name, name)
+
+    def is_geometry(self, name):
+        return self.column(name).srid is not None
+
+    def collation(self, name):
+        return self.package.collation(self.name, name)

@@ -1,0 +1,242 @@
+"""Random filters about time, texts and numbers on random rows: where SQLite picks other rows than CQL2 does, evaluated here without any text, there is a
+warning; and most filters have none."""
+import json
+import random
+import sqlite3
+import unittest
+
+from . import differences, lowering, prepare, proved, records, test_random
+from .columns import Column, NoTable
+from .geopackage import collation, without_accents
+from .reading import read_filter
+from .test_texts import SETTINGS, op, tree_of
+
+DAYS = ['2024-01-0%d' % k for k in range(1, 6)]
+BELOW, ABOVE = '', '~'    # open ends, as texts that sort before and after all instants
+RELATIONS = {
+    't_after': lambda a, b, c, d: a > d, 't_before': lambda a, b, c, d: b < c, 't_contains': lambda a, b, c, d: a < c and b > d,
+    't_disjoint': lambda a, b, c, d: b < c or a > d, 't_during': lambda a, b, c, d: a > c and b < d, 't_equals': lambda a, b, c, d: a == c and b == d,
+    't_finishedBy': lambda a, b, c, d: a < c and b == d, 't_finishes': lambda a, b, c, d: a > c and b == d,
+    't_intersects': lambda a, b, c, d: not (b < c or a > d), 't_meets': lambda a, b, c, d: b == c, 't_metBy': lambda a, b, c, d: a == d,
+    't_overlappedBy': lambda a, b, c, d: a > c and a < d and b > d, 't_overlaps': lambda a, b, c, d: a < c and b > c and b < d,
+    't_startedBy': lambda a, b, c, d: a == c and b > d, 't_starts': lambda a, b, c, d: a == c and b < d}
+INSTANTS = ('t_after', 't_before', 't_disjoint', 't_equals', 't_intersects')
+COMPARED = {'=': lambda x, y: x == y, '<>': lambda x, y: x != y, '<': lambda x, y: x < y, '>': lambda x, y: x > y, '<=': lambda x, y: x <= y,
+            '>=': lambda x, y: x >= y}
+
+
+class Maker:
+    """Filters over the dates a <= b and c <= d, the texts s and t, and the whole numbers m and n."""
+
+    def __init__(self, seed):
+        self.r = random.Random(seed)
+
+    def interval(self):
+        first, last = sorted(self.r.sample(DAYS, 2))
+        return {'interval': self.r.choice(([{'property': 'a'}, {'property': 'b'}], [{'property': 'c'}, {'property': 'd'}], [first, last], ['..', first],
+                                           [first, '..'], ['..', {'property': 'b'}], [{'property': 'c'}, '..']))}
+
+    def time(self):
+        name = self.r.choice(sorted(RELATIONS))
+        sides = [{'date': self.r.choice(DAYS)} if self.r.random() < .3 else {'property': self.r.choice('abcd')} for _ in range(2)]
+        return op(name, *[x if name in INSTANTS and self.r.random() < .4 else self.interval() for x in sides])
+
+    def character(self):
+        value = self.r.choice(({'property': 's'}, {'property': 't'}, 'x', 'X', 'xy', '%'))
+        for _ in range(self.r.choice((0, 0, 0, 1, 1, 2, 3))):
+            value = op(self.r.choice(('casei', 'accenti')), value)
+        return value
+
+    def text(self):
+        kind = self.r.random()
+        if kind < .2:
+            return op('like', self.character(), self.r.choice(('x%', '_', '%', op('casei', 'X%'))))
+        if kind < .4:
+            return op('in', self.character(), [op('casei', 'X') if self.r.random() < .3 else self.r.choice(('x', 'X', 'y')) for _ in range(self.r.choice((1, 2, 3)))])
+        return op(self.r.choice(sorted(COMPARED)), self.character(), self.character())
+
+    def number(self, depth):
+        if depth and self.r.random() < .5:
+            return op(self.r.choice('+-*/%'), self.number(depth - 1), self.number(depth - 1))
+        return self.r.choice(({'property': 'm'}, {'property': 'n'}, 2, 7, 0.5))
+
+    def condition(self, depth):
+        if depth and self.r.random() < .6:
+            name = self.r.choice(('and', 'or', 'not', 'not'))
+            return op(name, *[self.condition(depth - 1) for _ in range(1 if name == 'not' else 2)])
+        return self.r.choice((self.time, self.time, self.text, lambda: op(self.r.choice(sorted(COMPARED)), self.number(2), self.number(1)),
+                              lambda: op('isNull', {'property': self.r.choice('abst')}),
+                              lambda: op('isNull', self.time()) if self.r.random() < .3 else op('<', {'property': 'a'}, {'date': self.r.choice(DAYS)})))()
+
+    def row(self):
+        (a, b), (c, d) = (sorted(self.r.choice(DAYS) for _ in range(2)) for _ in range(2))
+        row = {'a': a, 'b': b, 'c': c, 'd': d, 's': self.r.choice(('x', 'X', 'xy', 'é')), 't': self.r.choice(('x', 'X', 'é', 'É')), 'm': self.r.randrange(-3, 9),
+               'n': self.r.randrange(1, 5)}
+        return {name: None if self.r.random() < .15 else value for name, value in row.items()}
+
+
+def ends(value, row):
+    """The two ends of a time operand, None for NULL."""
+    if 'interval' not in value:
+        x = row[value['property']] if 'property' in value else value['date']
+        return [x, x]
+    return [row[x['property']] if isinstance(x, dict) else ((BELOW, ABOVE)[k] if x == '..' else x) for k, x in enumerate(value['interval'])]
+
+
+def scalar(value, row):
+    """A text or a number; None for NULL."""
+    if not isinstance(value, dict):
+        return value
+    if 'property' in value or 'date' in value:
+        return row[value['property']] if 'property' in value else value['date']
+    args = [scalar(x, row) for x in value['args']]
+    if None in args:
+        return None
+    if value['op'] in ('casei', 'accenti'):
+        return args[0].lower() if value['op'] == 'casei' else without_accents(args[0])
+    if value['op'] in ('/', '%') and args[1] == 0:
+        return None
+    x, y = args
+    if value['op'] == '%':
+        return x - y * int(x / y)
+    return {'+': x + y, '-': x - y, '*': x * y}[value['op']] if value['op'] != '/' else x / y
+
+
+def matches(text, pattern):
+    if not pattern:
+        return not text
+    if pattern[0] == '%':
+        return any(matches(text[k:], pattern[1:]) for k in range(len(text) + 1))
+    return bool(text) and pattern[0] in ('_', text[0]) and matches(text[1:], pattern[1:])
+
+
+def truth(value, row):
+    """CQL2's answer: True, False, or None for unknown; a predicate with a NULL in it is unknown."""
+    name, args = value['op'], value['args']
+    if name in ('and', 'or', 'not'):
+        found = [truth(x, row) for x in args]
+        if name == 'not':
+            return None if found[0] is None else not found[0]
+        ended = name == 'or'
+        return ended if ended in found else None if None in found else not ended
+    if name == 'isNull':
+        return (truth(args[0], row) if 'op' in args[0] else scalar(args[0], row)) is None
+    if name in RELATIONS:
+        found = [x for side in args for x in ends(side, row)]
+        return None if None in found else RELATIONS[name](*found)
+    left = scalar(args[0], row)
+    if name == 'in':
+        return None if left is None else any(left == scalar(x, row) for x in args[1])
+    right = scalar(args[1], row)
+    if left is None or right is None:
+        return None
+    return matches(left, right) if name == 'like' else COMPARED[name](left, right)
+
+
+def by_time(data, value):
+    """The answer by instants of time: texts of one width, which sort as time does."""
+    found = [[timed(y, value) for y in x['interval']] if 'interval' in x else [timed(x, value)] * 2 for x in data['args']]
+    if data['op'] in COMPARED:
+        return COMPARED[data['op']](found[0][0], found[1][0])
+    return RELATIONS[data['op']](*found[0], *found[1])
+
+
+class Typed(NoTable):
+    """A table whose columns are all declared alike."""
+
+    def __init__(self, declared):
+        super().__init__(4326, lambda name: True)
+        self.declared = declared
+
+    def column(self, name):
+        return Column(self.declared)
+
+
+def timed(x, value):
+    """An instant with three digits after its seconds, of an operand or an end; the column's value for a property."""
+    if isinstance(x, dict):
+        x = value if 'property' in x else x.get('date') or x['timestamp']
+    return (x.replace('Z', '') if len(x) > 10 else x + 'T00:00:00').ljust(20, '.').ljust(23, '0')
+
+
+class Silence(unittest.TestCase):
+    def test_columns_of_dates_and_times(self):
+        """Every operator between a column and written instants around its values, in both orders: another answer than by time has a warning."""
+        literals = [{'date': '2024-01-02'}, {'timestamp': '2024-01-02T00:00:00Z'}, {'timestamp': '2024-01-02T12:00:00Z'}]
+        intervals = [{'interval': ['2024-01-02', '2024-01-03']}, {'interval': ['2024-01-02T00:00:00Z', '2024-01-02T12:00:00Z']},
+                     {'interval': ['2024-01-02', '2024-01-02T12:00:00Z']}]
+        column, both = {'property': 'a'}, {'interval': [{'property': 'a'}, {'property': 'a'}]}
+        filters = [op(name, *pair) for name in COMPARED for x in literals for pair in ((column, x), (x, column))]
+        filters += [op(name, *pair) for name in INSTANTS for x in literals + intervals for pair in ((column, x), (x, column))]
+        filters += [op(name, *pair) for name in RELATIONS for x in intervals for pair in ((both, x), (x, both))]
+        texts = proved.run('lower', [(records.settings(*SETTINGS), tree_of(data).encode()) for data in filters])
+        values = {'DATE': ['2024-01-01', '2024-01-02', '2024-01-03'],
+                  'DATETIME': ['2024-01-%sZ' % x for x in ('01T23:59:59.999', '02T00:00:00.000', '02T00:00:00.500', '02T12:00:00.000', '02T12:00:00.001')]}
+        tally = {True: 0, False: 0}
+        for declared, found in values.items():
+            for data, text in zip(filters, texts):
+                same = all(self.one(text, declared, value) == by_time(data, value) for value in found)
+                warned = bool(differences.find(read_filter(json.dumps(data).encode()), Typed(declared)))
+                self.assertTrue(same or warned, (declared, text))
+                tally[warned] += 1
+        self.assertTrue(min(tally.values()) > 30, tally)
+
+    def one(self, text, declared, value):
+        connection = sqlite3.connect(':memory:')
+        connection.execute('CREATE TABLE x (a %s)' % declared)
+        connection.execute('INSERT INTO x VALUES (?)', [value])
+        return connection.execute('SELECT %s FROM x' % text).fetchone()[0]
+
+    @classmethod
+    def setUpClass(cls):
+        proved.build(['lower'])
+
+    def test_what_sqlite_cannot_run(self):
+        """On filters of every operator: a warning that SQLite cannot run the text is right."""
+        filters = [test_random.Maker(seed, 10 ** 9).condition(seed % 12) for seed in range(3000)]
+        trees = [tree_of(data) for data in filters]
+        texts = proved.run('lower', [(records.settings(*SETTINGS), tree.encode()) for tree in trees])
+        wrong = 0
+        for data, tree, text in zip(filters, trees, texts):
+            scratch = prepare.Scratch(tree, SETTINGS[1:])
+            found = [one for one in differences.find(read_filter(json.dumps(data).encode()), NoTable(4326, scratch.readable)) if one.cannot]
+            # beside a constant SQLite drops what it would not take
+            constant = 'TRUE' in text or 'FALSE' in text
+            if lowering.refusal_of(text) is None and not constant and any('ST_ReducePrecision' not in one.happens for one in found):
+                self.assertIsNotNone(scratch.error(text), (data, found))
+                wrong += 1
+        self.assertGreater(wrong, 100)
+
+    def test_functions_with_names_like_operators(self):
+        for name in ('t_f', 's_f', 'a_f'):
+            data = op('not', op(name, {'property': 'a'}, {'property': 'b'}, {'date': DAYS[0]}))
+            self.assertEqual(differences.find(data, NoTable(4326, lambda name: True)), [])
+
+    def picks(self, texts, rows):
+        connection = sqlite3.connect(':memory:')
+        for name, key in zip(SETTINGS[1:], (str.lower, without_accents, lambda x: without_accents(x.lower()))):
+            connection.create_collation(name, collation(key))
+        connection.execute('CREATE TABLE x (a DATE, b DATE, c DATE, d DATE, s TEXT, t TEXT, m INTEGER, n INTEGER)')
+        connection.executemany('INSERT INTO x VALUES (?, ?, ?, ?, ?, ?, ?, ?)', [list(row.values()) for row in rows])
+        return [[row[0] - 1 for row in connection.execute('SELECT rowid FROM x WHERE ' + text)] for text in texts]
+
+    def test_no_difference_without_a_warning(self):
+        makers = [Maker(seed) for seed in range(4000)]
+        filters = [maker.condition(maker.r.randrange(4)) for maker in makers]
+        rows = [makers[0].row() for _ in range(60)]
+        texts = proved.run('lower', [(records.settings(*SETTINGS), tree_of(data).encode()) for data in filters])
+        silent = parted = 0
+        for data, picked in zip(filters, self.picks(texts, rows)):
+            warned = differences.find(read_filter(json.dumps(data).encode()), NoTable(4326, lambda name: True))
+            right = [k for k, row in enumerate(rows) if truth(data, row)]
+            if picked != right:
+                first = next(k for k in range(len(rows)) if (k in picked) != (k in right))
+                self.assertTrue(warned, '%s picks or leaves out %s' % (json.dumps(data), rows[first]))
+            silent += not warned
+            parted += picked != right
+        self.assertGreater(silent, 1000)
+        self.assertGreater(parted, 300)
+
+
+if __name__ == '__main__':
+    unittest.main()

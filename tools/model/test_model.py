@@ -1,0 +1,135 @@
+"""Tests of the model: document 01's sheets and its own examples, by hand, and that it stands by itself.
+
+  python3 -m unittest discover -s tools     all tests of the command, of the programs and of the model"""
+import ast
+import os
+import unittest
+
+from model import calls, lowering, records
+from model.records import SHEET_SETTINGS, array, dyadic, encode, ident, interval, monadic, null, row, settings_record
+
+SETTINGS = settings_record(SHEET_SETTINGS)
+A, B, C, D, G, H = (('id', name) for name in 'abcdgh')
+NULL, OPEN, ONE, TWO, X = ('null',), ('unbounded',), ('num', 1, 0), ('num', 2, 0), ('str', 0, 'x')
+TEXTS = [    # sheets A to M
+    (NULL, 'NULL'), (('num', -5, 1), '-0.5'), (('num', 1500, 2), '15'), (('dyadic', 'Eq', A, NULL), 'a = (NULL)'),
+    (('dyadic', 'IsInList', A, ('array', [ONE, TWO])), 'a IN (1, 2)'), (('dyadic', 'IsInList', A, ('array', [B, TWO])), 'a IN ((b, 2))'),
+    (('dyadic', 'IsLike', A, X), "a LIKE ('x')"), (('monadic', 'CaseI', ('monadic', 'AccentI', A)), 'a COLLATE NCA'),
+    (('dyadic', 'TAfter', ('interval', A, B), ('interval', C, D)), '"b" IS NOT NULL AND "c" NOT NULL AND (a > d)'),
+    (('dyadic', 'TDisjoint', A, ('interval', B, C)), '("c" IS NOT NULL AND (a < b)) OR ("b" IS NOT NULL AND (a > c))'),
+    (('dyadic', 'TIntersects', ('date', 2024, 2, 29), ('interval', OPEN, C)), "NOT(('2024-02-29' < '-2021-01-01') OR ('2024-02-29' > c))"),
+    (('dyadic', 'SWithin', G, ('spatial', 4326, 'POINT (1 2)')),
+     "ST_Within(ST_ReducePrecision(g, 1E-7), ST_GeomFromText('POINT (1 2)', 4326))"),
+    (('dyadic', 'SWithin', G, H), 'ST_Within(g, h)'),
+    (('timestamp', 2024, 2, 29, 1, 2, 3), "'2024-02-29T01:02:03'"), (('dyadic', 'TDisjoint', A, B), 'a != b'),
+    (('dyadic', 'AEquals', ('array', []), ('array', [])), '() = ()'), (('num', 0, 9), '0')]
+BYTES = [    # some trees as bytes, by hand
+    (NULL, '020000000000'), (('num', -5, 1), '0b0000000300fbffffffffffffff01'), (A, '03000000080061'),
+    (('dyadic', 'TAfter', A, ('interval', A, OPEN)), '1e0000000a001a00' '03000000080061' '0f0000000d00' '03000000080061' '020000000100')]
+
+
+def nested(levels):
+    tree = null()
+    for _ in range(levels - 1):
+        tree = monadic(7, tree)
+    return tree
+
+
+class Lowering(unittest.TestCase):
+    def test_texts(self):
+        for tree, text in TEXTS:
+            self.assertEqual(lowering.text(SHEET_SETTINGS, tree), text)
+            self.assertEqual(calls.to_sql(SETTINGS, encode(tree), len(text)), text.encode())
+            self.assertEqual(calls.to_sql(SETTINGS, encode(tree), len(text) - 1), 9)
+
+    def test_bytes(self):
+        self.assertEqual(SETTINGS.hex(), '0d0000006400' '07' '024e43' '024e41' '034e4341')
+        for tree, written in BYTES:
+            self.assertEqual(encode(tree).hex(), written)
+
+    def test_a_text_is_cut_only_past_its_limit(self):
+        for n, most in ((3, 5), (5, 5), (6, 5), (60, 5)):
+            self.assertEqual(lowering.Writer(SHEET_SETTINGS, most).text(('id', 'n' * n)), 'n' * min(n, most))
+
+
+class Refusals(unittest.TestCase):
+    def refused(self, number, tree, settings=SETTINGS, room=100000):
+        self.assertEqual(calls.to_sql(settings, tree, room), number)
+
+    def test_each(self):
+        a, b = ident(b'a'), ident(b'b')
+        for number, tree in ((2, bytes(32769)), (3, b''), (3, null() + b'\0'), (3, b'\1\0\0\0\0\0'), (4, nested(33)), (5, records.record(14)),
+                             (5, monadic(8, a)), (5, dyadic(7, a, b)), (6, ident(b'and')), (6, records.date(1900, 2, 29)),
+                             (6, records.string(b"it's")), (6, records.record(9, b'\7')), (7, interval(a, b)), (7, dyadic(28, a, b)),
+                             (7, dyadic(47, a, array(a)))):
+            self.refused(number, tree)
+        for settings in (b'', SETTINGS + b'\0', SETTINGS[:-1], records.settings_bytes(16, b'NC', b'NA', b'NCA'),
+                         records.settings_bytes(7, b'NC', b'NA')):
+            self.refused(1, null(), settings)
+
+    def test_order(self):
+        self.refused(1, bytes(32769), b'')
+        self.refused(3, records.array(b'\0', interval(null(), null())))
+        self.refused(6, array(ident(b'1'), records.record(14)))
+        self.refused(5, array(records.record(14), ident(b'1')))
+        self.refused(6, array(interval(null(), null()), ident(b'1')))
+        self.refused(4, nested(33)[:-6] + records.record(14))
+
+    def test_what_passes(self):
+        for tree in (nested(32), records.date(2000, 2, 29), ident(b'n' * 64), records.string(b'x' * 4096, 3), records.num(10 ** 15 - 1, 9)):
+            self.assertIsInstance(calls.to_sql(SETTINGS, tree, 100000), bytes)
+
+    def test_tree_sizes(self):
+        longest = records.string(b'x' * 4096)
+        for size, number in ((32768, 9), (32769, 2)):
+            tree = array(*[longest] * 7, records.string(b'x' * (size - 6 - 7 * len(longest) - 7)))
+            self.assertEqual(len(tree), size)
+            self.refused(number, tree, room=0)
+
+    def test_text_sizes(self):
+        """Three strings in an array of 12,300 bytes of text, written four times, and four strings more."""
+        longest, tree = ('str', 0, 'x' * 4096), ('array', [('str', 0, 'x' * 4096)] * 3)
+        for _ in range(2):
+            tree = ('dyadic', 'TEquals', tree, ('interval', A, B))
+        for size, number in ((3973, 9), (3974, 8)):
+            self.refused(number, encode(('dyadic', 'And', tree, ('array', [longest] * 3 + [('str', 0, 'y' * size)]))), room=65534)
+
+    def test_a_long_text(self):
+        tree = A
+        for _ in range(30):
+            tree = ('dyadic', 'TEquals', tree, ('interval', B, C))
+        self.refused(8, encode(tree), room=0)
+
+
+class Reading(unittest.TestCase):
+    def test_sheet_n(self):
+        held = row([(b'a', b'2024-01-02'), (b'b', None), (b'c', b'2024-01-01')])
+        self.assertEqual(calls.read(TEXTS[9][1].encode(), held), 'unknown')
+
+    def test_each(self):
+        held = row([(b'a', b'x'), (b'b', None)])
+        for answer, text, cells in (
+                ('true', b"a='x'", held), ('false', b'NOT a >= "a"', held), ('unknown', b'b <> NULL', held), ('true', b"'ab' < 'abc'", b''),
+                ('true', b'TRUE OR FALSE AND FALSE', b''), ('true', b'b IS NULL AND a NOT NULL', held), (10, b' ' * 65536, b'\0'), (11, b'(', b'\0'),
+                (11, b'TRUE', row([(b'a', b''), (b'A', b'')])), (12, b'zz = ', held), (12, b'(' * 65 + b'TRUE' + b')' * 65, held),
+                ('true', b'(' * 64 + b'TRUE' + b')' * 64, held), (13, b'TRUE OR zz IS NULL', held),
+                ('true', b'TRUE'.rjust(65535), b''), (10, b'TRUE'.rjust(65536), b''), (11, b'TRUE', bytes(32768)), (10, b'TRUE', bytes(32769))):
+            self.assertEqual(calls.read(text, cells), answer, text[:80])
+
+
+class Independence(unittest.TestCase):
+    def test_the_model_imports_nothing_of_the_project(self):
+        here = os.path.dirname(os.path.abspath(__file__))
+        for name in sorted(os.listdir(here)):
+            if not name.endswith('.py') or name.startswith('test_'):
+                continue
+            with open(os.path.join(here, name)) as f:
+                tree = ast.parse(f.read())
+            used = {word for node in ast.walk(tree) for word in
+                    ([alias.name for alias in node.names] if isinstance(node, ast.Import) else
+                     [node.module] if isinstance(node, ast.ImportFrom) and not node.level else [])}
+            self.assertLessEqual(used, {'calendar', 'functools', 're', 'struct', 'sys', 'typing'}, name)
+
+
+if __name__ == '__main__':
+    unittest.main()

@@ -1,0 +1,40 @@
+"""What the gate runs the programs `lower` and `read` on, with answers written by hand from document 01.
+
+The long parts are there because a program must answer, and go on with the next case, also where a part passes every limit and its own buffer."""
+from answers.stored import framed
+from model.operators import NUMBER
+from model.records import SHEET_SETTINGS, dyadic, ident, interval, null, row, settings_record
+
+SETTINGS, NULL = settings_record(SHEET_SETTINGS), null()
+A, B, C = map(ident, (b'a', b'b', b'c'))
+SHEET_J = dyadic(NUMBER['TDisjoint'], A, interval(B, C))
+TEXT_J = b'("c" IS NOT NULL AND (a < b)) OR ("b" IS NOT NULL AND (a > c))'
+ROW_N = row([(b'a', b'2024-01-02'), (b'b', None), (b'c', b'2024-01-01')])
+
+LOWER = [
+    ((SETTINGS, SHEET_J), TEXT_J.decode()),
+    ((SETTINGS, bytes(32769)), 'refused 2'),
+    ((SETTINGS, bytes(70000)), 'refused 2'),
+    ((bytes(70000), NULL), 'refused 1'),
+    ((SETTINGS, b''), 'refused 3'),
+    ((SETTINGS, interval(A, B)), 'refused 7'),
+    ((SETTINGS, NULL), 'NULL'),
+]
+READ = [
+    ((TEXT_J, ROW_N), 'unknown'),
+    ((TEXT_J, ROW_N.replace(b'2024-01-02', b'2023-12-31')), 'unknown'),
+    ((b"a > '2024-01-01'", ROW_N), 'true'),
+    ((b"a < c OR b IS NOT NULL", ROW_N), 'false'),
+    ((b"TRUE", b''), 'true'),
+    ((b' ' * 65535 + b' ', ROW_N), 'refused 10'),
+    ((b'TRUE', bytes(32769)), 'refused 10'),
+    ((b'TRUE', bytes(70000)), 'refused 10'),
+    ((b' ' * 65531 + b'TRUE', b''), 'true'),
+    ((b'TRUE', ROW_N[:-1]), 'refused 11'),
+    ((b'1 = 1', ROW_N), 'refused 12'),
+    ((b'd IS NULL', ROW_N), 'refused 13'),
+]
+
+# the last case of each: input that ends inside a part, which is answered by the line `incomplete`
+LOWER_CUT = framed(SETTINGS, SHEET_J)[:-1]
+READ_CUT = framed(b'TRUE')[:-1]
