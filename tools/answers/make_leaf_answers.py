@@ -1,5 +1,5 @@
 #!/usr/bin/env python3
-"""Writes leaves, records of the kinds 0 to 7, with the texts that the Rust writes, for crates/literal_replay: data/leaves.bin.
+"""Writes leaves, records of the kinds 0 to 7, with the texts that the Rust writes, for crates/literal_replay: data/cases.
 
 usage: python3 tools/answers/make_leaf_answers.py ORACLE     ORACLE: the program that ../shared/oracle/build.py makes
 
@@ -15,16 +15,14 @@ from generators import leaves
 from model.records import SHEET_SETTINGS, encode
 
 SEED, CASES = 4, 747
-ROOM = 65536    # the replay program has room for less than that
 
 
 def main(oracle):
     trees = [('null',), ('unbounded',), ('bool', 0), ('bool', 1), *leaves.fields(random.Random(SEED))]
     agree, differ = compared(oracle, [(SHEET_SETTINGS, tree) for tree in trees])
-    data = b''.join(stored.leaf_case(encode(tree), text) for _, tree, text in agree)
-    print('%d leaves, %d differ from the model, %d bytes' % (len(trees), differ, len(data)))
-    counts.stop_if_wrong(differ, ('leaves', len(trees), CASES), ('bytes left', ROOM - 1 - len(data), 0))
-    stored.write(data, 'literal_replay', 'data', 'leaves.bin')
+    print('%d leaves, %d differ from the model' % (len(trees), differ))
+    counts.stop_if_wrong(differ, ('leaves', len(trees), CASES))
+    stored.write_cases('literal_replay', [(encode(tree), text) for _, tree, text in agree])
 
 
 if __name__ == '__main__':

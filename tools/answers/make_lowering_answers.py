@@ -69,7 +69,7 @@ def main(oracle):
     texts = sum(isinstance(answer, bytes) for *_, answer in cases)
     print('%d cases, %d of them texts, %d differ from the model' % (len(cases), texts, len(differ)))
     counts.stop_if_wrong(len(differ), ('cases', len(cases), CASES), ('texts', texts, TEXTS))
-    stored.write(b''.join(stored.lowering_case(*case) for case in cases), 'gpkg_replay', 'data', 'cases')
+    stored.write_cases('gpkg_replay', [stored.lowering_case(*case) for case in cases])
 
 
 if __name__ == '__main__':

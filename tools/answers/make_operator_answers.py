@@ -26,7 +26,7 @@ def main(oracle):
         print('differs: Rust %r, model %r' % (line, right))
     print('%d operators, %d differ from the model' % (len(lines), len(differ)))
     counts.stop_if_wrong(len(differ), ('operators', len(lines), len(NAMES)))
-    stored.write(told, 'op_replay', 'stdin')
+    stored.write_cases('op_replay', [(line.encode(),) for line in lines])
 
 
 if __name__ == '__main__':

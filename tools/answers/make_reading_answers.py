@@ -22,7 +22,7 @@ def main():
     cases = edges + [others[k] for k in picked]
     print('%d cases' % len(cases))
     counts.stop_if_wrong(0, ('cases', len(cases), CASES))
-    stored.write(b''.join(stored.reading_case(*case) for case in cases), 'truth_replay', 'data', 'cases')
+    stored.write_cases('truth_replay', [stored.reading_case(*case) for case in cases])
 
 
 if __name__ == '__main__':

@@ -24,7 +24,7 @@ def main():
         len(cases), len(cases), tally[0], ' '.join(str(tally[n]) for n in range(1, 8)))
     print(line, end='')
     counts.stop_if_wrong(0, ('cases', len(cases), CASES), *(('answers %d' % n, tally[n], 1) for n in range(8)))
-    stored.write(b''.join(stored.tree_case(*case, answer, trees.SETTINGS) for case, answer in zip(cases, answers)), 'tree_replay', 'data', 'cases')
+    stored.write_cases('tree_replay', [(*case, bytes([answer])) for case, answer in zip(cases, answers)])
     stored.write(line, 'tree_replay', 'stdout')
 
 

@@ -1,6 +1,4 @@
-"""How the stored answers are written: where each list lies, and the form of its cases. All numbers little-endian.
-
-The form of a case is that of the replay program that reads it (crates/*_replay/src/main.rt), and of the programs `lower` and `read`."""
+"""How the stored answers are written: where they lie, and the form of a case, which is a run of parts, the last of them the answer."""
 import os
 import struct
 import sys
@@ -24,29 +22,22 @@ def write(data, *path):
         f.write(data)
 
 
+def write_cases(crate, cases):
+    """Each case a tuple of parts, for the replay program of that name."""
+    write(b''.join(framed(*case) for case in cases), crate, 'data', 'cases')
+
+
 def framed(*parts):
-    """Each part after its length in four bytes: standard input of `lower` and `read`, and what the oracle is asked."""
+    """Each part after its length in four bytes, little-endian: the form of stored cases, of standard input of `lower` and `read`, and of what the
+    oracle is asked."""
     return b''.join(struct.pack('<I', len(part)) + part for part in parts)
 
 
-def tree_case(settings, tree, answer, usual):
-    """The answer in a byte, 0 for accepted; a byte 1 if the settings are the usual ones, which are then not written; the lengths of settings and
-    tree in two and four bytes; settings, tree."""
-    written = b'' if settings == usual else settings
-    return struct.pack('<BBHI', answer, settings == usual, len(written), len(tree)) + written + tree
-
-
-def leaf_case(record, text):
-    """The record, the text's length in two bytes, the text."""
-    return record + struct.pack('<H', len(text)) + text
-
-
 def lowering_case(settings, tree, room, answer):
-    """The lengths of settings, tree, buffer and answer in four bytes each; settings, tree, answer: a byte 0 and the text, or the refusal's number."""
-    said = bytes([answer]) if isinstance(answer, int) else b'\0' + answer
-    return struct.pack('<4I', len(settings), len(tree), room, len(said)) + settings + tree + said
+    """The buffer's length in four bytes; the answer a byte 0 and the text, or the refusal's number."""
+    return settings, tree, struct.pack('<I', room), bytes([answer]) if isinstance(answer, int) else b'\0' + answer
 
 
 def reading_case(text, row, answer):
-    """The answer in a byte (0 false, 1 true, 2 unknown, 10 to 13), the lengths of text and row in three bytes each, text, row."""
-    return bytes([TRUTH.get(answer, answer)]) + len(text).to_bytes(3, 'little') + len(row).to_bytes(3, 'little') + text + row
+    """The answer a byte: 0 false, 1 true, 2 unknown, or the refusal's number."""
+    return text, row, bytes([TRUTH.get(answer, answer)])
