@@ -56,6 +56,24 @@
  *
  * Threads. There is no state: any number of calls may run at once, as long as no call's `out` overlaps bytes of another
  * call. Each needs less than 128 KiB of stack, and every call ends. Of the C library only memcpy and memset are called.
+ *
+ * An example: the text of TAfter(entry, 2024-02-29), and what it says of a row. It prints entry > '2024-02-29' and 1.
+ *
+ *    #include <stdio.h>
+ *    #include "wenduulig.h"
+ *    static const uint8_t settings[] = {13, 0, 0, 0, WENDUULIG_SETTINGS, 0, 7, 2, 'C', 'I', 2, 'A', 'I', 3, 'C', 'A', 'I'};
+ *    static const uint8_t tree[] = {25, 0, 0, 0, WENDUULIG_DYADIC, 0, WENDUULIG_T_AFTER, 0,    // 25: all after the length
+ *                                   7, 0, 0, 0, WENDUULIG_ID, 0, 'e', 'n', 't', 'r', 'y',
+ *                                   6, 0, 0, 0, WENDUULIG_DATE, 0, 2024 % 256, 2024 / 256, 2, 29};
+ *    static const uint8_t row[] = {19, 0, 0, 0, WENDUULIG_COLUMN, 0, 5, 'e', 'n', 't', 'r', 'y',
+ *                                  1, '2', '0', '2', '4', '-', '0', '3', '-', '0', '1'};       // 1: a value, not NULL
+ *    int main(void) {
+ *        static uint8_t out[WENDUULIG_TEXT_MAX];
+ *        int64_t n = wenduulig_to_sql(settings, sizeof settings, tree, sizeof tree, out, sizeof out);
+ *        if (n < 0) { printf("refused: %d\n", (int)-n); return 1; }
+ *        printf("%.*s\n%d\n", (int)n, (const char *)out, (int)wenduulig_read(out, (size_t)n, row, sizeof row));
+ *        return 0;
+ *    }
  */
 #ifndef WENDUULIG_H
 #define WENDUULIG_H
