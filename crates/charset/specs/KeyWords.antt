@@ -1,4 +1,4 @@
--- A word as one number, low byte first above a closing 1: how the code tells reserved words apart. No definition of document 01 rests on it.
+-- A word as one number, low byte first above a closing 1: how the code keeps reserved words apart. No definition of document 01 rests on it.
 use Prim.Native.Nat.{ℕ, _+_, _*_, _<_}
 use mathlib.Core.List.{List, [], _∷_}
 use mathlib.Core.Bool.{Bool}

@@ -50,7 +50,7 @@ pub fn is_name_start(b: u8) -> bool
     b == b'_'
 }
 
-// Most bytes of names are small letters, so these are told first, by two comparisons; then the capitals and the underscore, which lie below them, then the digits.
+// Most bytes of names are small letters, so these are looked at first, by two comparisons; then the capitals and the underscore, which lie below them, then the digits.
 pub fn is_name_byte(b: u8) -> bool
     ensures { λ r. ⌜ r ≡ nameByte b ⌝ }
 {
@@ -198,7 +198,7 @@ fn is_reserved_key(s: &[u8]) -> bool
     }
 }
 
-// Whether one of the fourteen words has n bytes and begins with the capital b: most names are told from them by these two, and only the others are compared with the words.
+// Whether one of the fourteen words has n bytes and begins with the capital b: most names differ from them in these two, and only the others are compared with the words.
 fn may_be_reserved(n: usize, b: u8) -> bool
     ensures { λ r. ⌜ r ≡ mayBe n b ⌝ }
 {

@@ -9,7 +9,7 @@ use lib.Seq.{sets}
 use lib.Dec.{ltb}
 use Rattle.prelude.specs.Choice.{pick}
 
--- the cap of the writers: one more than the longest text, so that a longer one is told from it
+-- the cap of the writers: one more than the longest text, so that a longer one can be seen
 abbrev pub countLimit : ℕ
 countLimit = 65536
 

@@ -1,4 +1,4 @@
--- Laws of specs/Emit.antt and specs/Lays.antt: when a text is laid, and texts laid one after the other. Counting stops at the cap, so a place is
+-- Laws of specs/Emit.antt and specs/LaysWords.antt: when a text is laid, and texts laid one after the other. Counting stops at the cap, so a place is
 -- exact wherever the text after it has room.
 use Prim.Native.Nat.{ℕ, suc, _+_, _≤_, _<_, min}
 use mathlib.Core.Path.{_≡_, refl, ap, sym, _∙_, subst}
@@ -12,7 +12,7 @@ use lib.Seq.{sets, sets-eq, length-sets, take-suc, length-take-le}
 use borrow.Author.Tests.{lt-ltb, le-ltb, ltb-true, ltb-false}
 use Rattle.prelude.specs.Choice.{pick}
 use Rattle.emit.specs.Emit.{ended, lacks, placed, Puts}
-use Rattle.emit.specs.Lays.{Lays}
+use Rattle.emit.specs.LaysWords.{Lays}
 
 -- ---- a run of bytes
 

@@ -1,3 +1,6 @@
+-- What is to be believed.
 pub mod Emit
-pub mod Lays
+-- Words of private contracts.
+pub mod LaysWords
+-- Laws.
 pub mod EmitLaws

@@ -1,4 +1,4 @@
--- `is_literal` over records that lie one behind the other: what is left to look at, as a list of trees.
+-- `is_literal` over records that lie one after the other: what is left to look at, as a list of trees.
 use Prim.Native.Nat.{ℕ, _+_, _-_, _≤_, _<_}
 use mathlib.Core.Path.{_≡_, refl, ap, sym, _∙_}
 use mathlib.Core.List.{List, [], _++_, append-assoc, append-nil}

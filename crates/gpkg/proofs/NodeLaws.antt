@@ -124,7 +124,7 @@ under-text g o (function n ts) e = absurd (let z : _≡_ {A = ℕ} 0 1 = cc in l
 under-text g o (array ts) e = absurd (let z : _≡_ {A = ℕ} 0 1 = cc in let v : ⊥ = omega arith in v)
 under-text g o (interval t u) e = absurd (let z : _≡_ {A = ℕ} 0 1 = cc in let v : ⊥ = omega arith in v)
 
--- what stands before the operand, the operand, and what stands behind it
+-- what stands before the operand, the operand, and what stands after it
 pub monadic-parts : (g : Settings) (o : Op) (t : Tree) → text g (monadic o t)
     ≡ beforeText (opNumber o) (word o) (isLiteralOrId t) ++ (text g (operandOf o t) ++ behindText g (opNumber o) (word o) (isLiteralOrId t) (twin o t))
 unfolding text monadicText operandOf twin beforeText behindText

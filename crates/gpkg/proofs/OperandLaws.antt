@@ -157,7 +157,7 @@ bound-at {s} {p} {z} (x then ts) d f a b n =
     let st : Stands s p z x = record { rest = encodes ts; there = d; past = n .exact x (encodes ts) d; starts = a; inside = b; fit = fit } in
     item x (stands-part st .1) fit
 
--- the records behind it
+-- the records after it
 record Behind (s : List ℕ) (z : ℕ) (ts : Trees) : Type 0 where
   pub rest : Trees
   pub there : drop z s ≡ encodes rest

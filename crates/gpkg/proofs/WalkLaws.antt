@@ -29,7 +29,7 @@ use Rattle.gpkg.specs.declared.ends.Flat as flat
 use Rattle.gpkg.specs.declared.ends.Flat.the-variants.{Words, Opened, Nothing}
 use Rattle.gpkg.specs.declared.ends.Piece.the-variants as pieces
 use Rattle.emit.specs.Emit.{countLimit, ended}
-use Rattle.emit.specs.Lays.{Lays}
+use Rattle.emit.specs.LaysWords.{Lays}
 use Rattle.gpkg.specs.Text.{text, texts, joined}
 use Rattle.op.specs.Spelling.{word}
 use Rattle.gpkg.specs.PlanWords.{Inside, part, Is, Are, Stands, EndOf, Node, one, two, nodeEnds, Bound, gone, item, sound, sounds, slot, endPiece, pieceOf, flatText, leafText, itemsOf, temporalOf, infixText, reducedText, leftBare, rightBare, twin, twinOf, operandOf, beforeText, behindText}
@@ -47,7 +47,7 @@ never e = absurd (let v : ⊥ = omega arith in v)
 
 -- Items.
 
--- the items behind the first, each after a comma
+-- the items after the first, each after a comma
 unfoldable pub after : Settings → Trees → List ℕ
 after g none = []
 after g (t then ts) = bytes ", " ++ (text g t ++ after g ts)

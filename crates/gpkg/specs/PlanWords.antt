@@ -188,7 +188,7 @@ rightBare op u = pick (between 41 op 44) true (pick (between 45 op 46) false (is
 unfoldable pub infixText : Bool → List ℕ → Bool → List ℕ
 infixText a w b = pick a (bytes " ") (bytes ") ") ++ (w ++ pick b (bytes " ") (bytes " ("))
 
--- what stands before and behind the operand of a monadic node: by the operator's number and word, whether the operand is bare, and whether it has a twin
+-- what stands before and after the operand of a monadic node: by the operator's number and word, whether the operand is bare, and whether it has a twin
 unfoldable pub beforeText : ℕ → List ℕ → Bool → List ℕ
 beforeText op w b =
     pick (between 51 op 52) (pick b [] (bytes "("))

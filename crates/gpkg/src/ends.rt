@@ -5,7 +5,7 @@ ghost use Prim.Native.Nat.{_+_, _≤_, _<_};
 ghost use lib.ListN.{length};
 ghost use Rattle.prelude.specs.Choice.{between};
 ghost use Rattle.emit.specs.Emit.{countLimit};
-ghost use Rattle.emit.specs.Lays.{Lays};
+ghost use Rattle.emit.specs.LaysWords.{Lays};
 ghost use Rattle.gpkg.specs.Text.{text};
 ghost use Rattle.tree.specs.Tests.{endsOf};
 ghost use Rattle.gpkg.specs.PlanWords.{endPiece, pieceOf, flatText, Is, IsOperand, Stands, Are, slot, temporalOf, Node, nodeEnds};

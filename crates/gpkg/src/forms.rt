@@ -9,7 +9,7 @@ ghost use lib.Dec.{eqb};
 ghost use Rattle.prelude.specs.Bytes.{bytes};
 ghost use Rattle.prelude.specs.Choice.{pick, both, negated, between, either};
 ghost use Rattle.emit.specs.Emit.{countLimit};
-ghost use Rattle.emit.specs.Lays.{Lays};
+ghost use Rattle.emit.specs.LaysWords.{Lays};
 ghost use Rattle.op.specs.Spelling.{word};
 ghost use Rattle.gpkg.specs.PlanWords.{precise, twinOf, infixText, reducedText, beforeText, behindText, collationFlags, leftBare, rightBare};
 ghost use Rattle.tree.specs.Accepted.{settingsIn};
@@ -144,7 +144,7 @@ fn collation_flags(op: usize, twin: bool) -> usize
     2
 }
 
-// What stands behind the operand of a node that has one.
+// What stands after the operand of a node that has one.
 pub(crate) fn put_behind(
     op: usize,
     bare: bool,
@@ -231,7 +231,7 @@ pub(crate) fn put_comma(p: usize, out: &mut [u8], at: usize) -> usize
     emit::put(b", ", out, at)
 }
 
-// Where a list's items start: behind a Function's name, or at an Array's body.
+// Where a list's items start: after a Function's name, or at an Array's body.
 pub(crate) fn items_at(s: &[u8], kind: usize) -> usize
     requires { ⌜ 6 ≤ length (now s) ⌝ }
     ensures { λ r. ⌜ (6 ≤ r) × (r ≤ length (now (s .entry))) × (r ≡ min (pick (eqb kind 12) 6 (7 + getD (now (s .entry)) 6 0)) (length (now (s .entry)))) ⌝ }

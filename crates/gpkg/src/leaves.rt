@@ -6,7 +6,7 @@ ghost use Rattle.record.specs.Record.{le16};
 ghost use Rattle.tree.specs.Parse.{nameAt};
 ghost use lib.ListN.{getD, drop};
 ghost use Rattle.emit.specs.Emit.{countLimit};
-ghost use Rattle.emit.specs.Lays.{Lays};
+ghost use Rattle.emit.specs.LaysWords.{Lays};
 ghost use Rattle.gpkg.specs.PlanWords.{leafText, collation, nameOf};
 ghost use Rattle.tree.specs.Accepted.{settingsIn};
 ghost use Rattle.literal.specs.Literal.{dateText, timestampText, quoted};

@@ -6,7 +6,7 @@ ghost use Rattle.record.specs.Record.{le16};
 ghost use lib.ListN.{length};
 ghost use Rattle.prelude.specs.Choice.{between};
 ghost use Rattle.emit.specs.Emit.{countLimit};
-ghost use Rattle.emit.specs.Lays.{Lays};
+ghost use Rattle.emit.specs.LaysWords.{Lays};
 ghost use Rattle.gpkg.specs.Text.{text, texts, joined};
 ghost use Rattle.op.specs.Spelling.{word};
 ghost use Rattle.gpkg.specs.PlanWords.{sound, sounds, temporalOf, Bound, Node};

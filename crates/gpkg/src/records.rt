@@ -36,7 +36,7 @@ pub(crate) fn least(a: usize, b: usize) -> usize
     if a <= b { a } else { b }
 }
 
-// What stands in s behind its first n bytes.
+// What stands in s after its first n bytes.
 pub(crate) fn rest(s: &[u8], n: usize) -> &[u8]
     ensures { λ r. ⌜ now r ≡ drop n (now (s .entry)) ⌝ }
 {
@@ -89,7 +89,7 @@ pub(crate) fn inside(a: usize, z: usize, n: usize) -> bool
     true
 }
 
-// `is_literal` without recursion: the records of nested arrays lie one behind the other.
+// `is_literal` without recursion: the records of nested arrays lie one after the other.
 fn is_literal(s: &[u8]) -> bool
     requires { ⌜ length (now s) ≤ 32768 ⌝ }
     ensures { λ r. ⌜ ((t : Tree) → now (s .entry) ≡ encode t → r ≡ isLiteral t) ⌝ }
@@ -121,7 +121,7 @@ pub(crate) fn is_literal_or_id(s: &[u8]) -> bool
     ensures { λ r. ⌜ ((t : Tree) → now (s .entry) ≡ encode t → r ≡ isLiteralOrId t) ⌝ }
 {
     let kind = record::word_at(s, KIND);
-    // An array is literal as its items are; of all others the kind tells.
+    // An array is literal as its items are; of all others the kind says.
     if kind == ARRAY {
         return is_literal(s);
     }

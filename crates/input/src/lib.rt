@@ -14,7 +14,7 @@ pub enum Part {
     End,
     // The input ended inside the part.
     Short,
-    // The part stands in the first bytes of the buffer, this many. A part that is longer than the buffer is told as long as the buffer, whose
+    // The part stands in the first bytes of the buffer, this many. A part that is longer than the buffer is reported as long as the buffer, whose
     // bytes then say nothing: a buffer that passes every limit has such a part refused for its length.
     Whole(usize),
 }

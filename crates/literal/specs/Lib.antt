@@ -1,2 +1,4 @@
+-- What is to be believed.
 pub mod Literal
+-- Laws.
 pub mod LiteralLaws

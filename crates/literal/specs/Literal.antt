@@ -6,6 +6,7 @@ use lib.IntN.{ℤ, pos, negsuc, natAbs}
 use lib.Dec.{ltb, eqb}
 use Rattle.prelude.specs.Choice.{pick}
 use Rattle.prelude.specs.Bytes.{bytes}
+use Rattle.charset.specs.Charset.{quotedForm}
 
 -- ---- words
 
@@ -53,7 +54,7 @@ numText m s = sign m ++ plain (natAbs m) s
 
 -- 's'
 unfoldable pub quoted : List ℕ → List ℕ
-quoted s = bytes "'" ++ (s ++ bytes "'")
+quoted s = quotedForm s
 
 -- ` COLLATE ` and a collation's name
 unfoldable pub collate : List ℕ → List ℕ

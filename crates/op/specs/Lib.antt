@@ -1,3 +1,5 @@
+-- What is to be believed.
 pub mod Op
-pub mod OpLaws
 pub mod Spelling
+-- Laws.
+pub mod OpLaws

@@ -1,4 +1,4 @@
--- A run of bytes that grows by one, and a text laid behind what a template holds.
+-- A run of bytes that grows by one, and a text laid after what a template holds.
 use mathlib.Core.Path.{_≡_, refl, ap, sym, _∙_}
 use mathlib.Core.List.{List, [], _∷_, _++_, append-assoc}
 use Prim.Native.Nat.{ℕ, zero, suc, _+_, _-_, _≤_, _<_}
@@ -24,7 +24,7 @@ grow b b₀ s n k h l e =
     ∙ append-assoc (take n b₀) (take k s) (getD s k 0 ∷ [])
     ∙ ap (λ (x : List ℕ). take n b₀ ++ x) (sym (take-suc s k 0 l)))
 
--- bytes pushed behind what is known
+-- bytes pushed after what is known
 pub then : {x y z : List ℕ} (c : List ℕ) → x ≡ y ++ c → y ≡ z → x ≡ z ++ c
 then c p q = p ∙ ap (λ (l : List ℕ). l ++ c) q
 

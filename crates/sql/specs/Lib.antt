@@ -1,5 +1,8 @@
+-- What is to be believed.
 pub mod Condition
+pub mod Translators
+-- Contracts of the inner public functions.
 pub mod Ends
 pub mod Template
-pub mod Translators
+-- Laws.
 pub mod TemplateLaws

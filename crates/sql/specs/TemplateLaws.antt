@@ -14,7 +14,7 @@ use Rattle.sql.specs.Condition.{Cond, Sign, test, isNotNull, notNull, an
 use Rattle.sql.specs.Template.{fill, digitOf, templateOf, parts, partOf, spelt}
 use Rattle.sql.specs.Translators.{Translator, tAfter, tBefore, tContains, tDisjoint, tDuring, tEquals, tFinishedBy, tFinishes, tIntersects, tMeets, tMetBy, tOverlappedBy, tOverlaps, tStartedBy, tStarts, translate}
 
--- codes one behind the other
+-- codes one after the other
 pub spelt-append : (a b : List ℕ) → spelt (a ++ b) ≡ spelt a ++ spelt b
 unfolding spelt
 spelt-append [] b = refl
@@ -64,7 +64,7 @@ sign-fills slot gt r = refl
 sign-fills slot eq r = refl
 sign-fills slot ne r = refl
 
--- behind whatever follows
+-- after whatever follows
 print-fills : (slot : ℕ → List ℕ) (c : Cond) (r : List ℕ) → T (small c) → fill slot (print digitOf c ++ r) ≡ print slot c ++ fill slot r
 unfolding print fill
 print-fills slot (test i s j) r t =

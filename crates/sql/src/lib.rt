@@ -111,7 +111,7 @@ fn is_column(e: End) -> bool
     }
 }
 
-// A template with some codes behind it.
+// A template with some codes after it.
 fn push(t: Template, s: &[u8]) -> Template
     requires { ⌜ t .len + length (now s) ≤ 24 ⌝ }
     ensures { λ r. ⌜ (held r ≡ held t ++ spelt (now (s .entry))) × (r .len ≡ t .len + length (now (s .entry))) ⌝ }

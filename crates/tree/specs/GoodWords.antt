@@ -4,8 +4,7 @@ use mathlib.Core.Path.{_≡_}
 use mathlib.Core.Bool.{true}
 use lib.IntN.{natAbs}
 use lib.ListN.{length}
-use Rattle.prelude.specs.Choice.{all}
-use Rattle.charset.specs.Charset.{name, strByte, spatialByte}
+use Rattle.charset.specs.Charset.{name, strText, spatialText}
 use Rattle.civil.specs.Civil.{validDate, validTime}
 use Rattle.tree.specs.Limits.{mantissaLimit, scaleLimit, flagsLimit, textLimit}
 use Rattle.tree.specs.Tree.{Tree, Trees, null, unbounded, bool, num, str, date, timestamp, spatial, id, monadic, dyadic, function, array, interval, none, _then_}
@@ -17,10 +16,10 @@ unfoldable mutual
   Good unbounded n = 0 < n
   Good (bool b) n = 0 < n
   Good (num m s) n = (0 < n) × (natAbs m ≤ mantissaLimit) × (s ≤ scaleLimit)
-  Good (str f s) n = (0 < n) × (f ≤ flagsLimit) × (length s ≤ textLimit) × (all strByte s ≡ true)
+  Good (str f s) n = (0 < n) × (f ≤ flagsLimit) × (length s ≤ textLimit) × (strText s ≡ true)
   Good (date y m d) n = (0 < n) × (validDate y m d ≡ true)
   Good (timestamp y m d h i s) n = (0 < n) × (validDate y m d ≡ true) × (validTime h i s ≡ true)
-  Good (spatial r s) n = (0 < n) × (r < 4294967296) × (1 ≤ length s) × (length s ≤ textLimit) × (all spatialByte s ≡ true)
+  Good (spatial r s) n = (0 < n) × (r < 4294967296) × (1 ≤ length s) × (length s ≤ textLimit) × (spatialText s ≡ true)
   Good (id s) n = (0 < n) × (name s ≡ true)
   Good (monadic o t) n = (0 < n) × (takesOne o ≡ true) × Good t (n - 1)
   Good (dyadic o t u) n = (0 < n) × (takesTwo o ≡ true) × Good t (n - 1) × Good u (n - 1)

@@ -5,13 +5,13 @@ use mathlib.Core.Bool.{Bool}
 use lib.IntN.{ℤ, pos, negsuc, natAbs}
 use lib.ListN.{length, getD, take, drop}
 use lib.Dec.{ltb, leb, eqb}
-use Rattle.prelude.specs.Choice.{pick, both, either, negated, between, all}
+use Rattle.prelude.specs.Choice.{pick, both, either, negated, between}
 use Rattle.refusal.specs.declared.Refusal.{Refusal}
 use Rattle.refusal.specs.declared.Refusal.the-variants.{BadFrame, TooDeep, BadKindOrOperator, BadField}
 use Rattle.record.specs.declared.Frame.{Frame}
 use Rattle.record.specs.declared.Frame.the-variants.{Broken, Whole}
 use Rattle.record.specs.Record.{le16, le32, le64, frame}
-use Rattle.charset.specs.Charset.{name, strByte, spatialByte}
+use Rattle.charset.specs.Charset.{name, strText, spatialText}
 use Rattle.civil.specs.Civil.{validDate, validTime}
 use Rattle.op.specs.declared.Op.{Op}
 use Rattle.op.specs.declared.Op.the-variants.{Minus, Neg, CaseI, AccentI, IsNull, IsNotNull}
@@ -101,7 +101,7 @@ unfoldable pub numBody : List ℕ → Bool
 numBody s = both (eqb (length s) 9) (both (leb (natAbs (mantissa s 0)) mantissaLimit) (leb (getD s 8 0) scaleLimit))
 
 unfoldable pub strBody : List ℕ → Bool
-strBody s = both (between 1 (length s) (1 + textLimit)) (both (leb (getD s 0 0) flagsLimit) (all strByte (drop 1 s)))
+strBody s = both (between 1 (length s) (1 + textLimit)) (both (leb (getD s 0 0) flagsLimit) (strText (drop 1 s)))
 
 unfoldable pub dateBody : List ℕ → Bool
 dateBody s = both (eqb (length s) 4) (dateAt s)
@@ -110,7 +110,7 @@ unfoldable pub timestampBody : List ℕ → Bool
 timestampBody s = both (eqb (length s) 7) (both (dateAt s) (validTime (getD s 4 0) (getD s 5 0) (getD s 6 0)))
 
 unfoldable pub spatialBody : List ℕ → Bool
-spatialBody s = both (between 5 (length s) (4 + textLimit)) (all spatialByte (drop 4 s))
+spatialBody s = both (between 5 (length s) (4 + textLimit)) (spatialText (drop 4 s))
 
 -- Kinds. `below` is what the records of a body mean.
 

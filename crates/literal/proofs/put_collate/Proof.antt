@@ -1,4 +1,4 @@
--- `literal::put_collate` meets its contract: the word, then the name behind it.
+-- `literal::put_collate` meets its contract: the word, then the name after it.
 use native.Mathlib.Omega.{arith}
 use mathlib.Core.Path.{sym}
 use borrow.Author.Needs.{needs}

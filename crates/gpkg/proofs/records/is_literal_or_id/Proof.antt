@@ -1,4 +1,4 @@
--- An array is literal as its items are; of all others the kind tells.
+-- An array is literal as its items are; of all others the kind says.
 use native.Mathlib.Omega.{arith}
 use mathlib.Core.Path.{_∙_}
 use Rattle.gpkg.proofs.LiteralLaws.{no-id, kind-tells}
