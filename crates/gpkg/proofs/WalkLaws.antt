@@ -106,7 +106,7 @@ tail-next g p u us = go (eqb p 0)
 -- the next item
 pub record Next (g : Settings) (s : List ℕ) (at : ℕ) (out₀ : List ℕ) (ts : Trees) (p z here : ℕ) (out : List ℕ) : Type 0 where
   pub u : Tree
-  pub bytes : part s p z ≡ encode u
+  pub stands : part s p z ≡ encode u
   pub fit : sound u ≡ true
   pub on : {m n : List ℕ} {comma there : ℕ} → Lays countLimit here (pick (eqb p 0) [] (bytes ", ")) out m comma → Lays countLimit comma (text g u) m n there → Come g s at out₀ ts z there n
 
@@ -123,7 +123,7 @@ come-next {g} {s} {at} {out₀} {ts} {p} {z} {here} {out} h e c = go (c .us) (c 
         let t : tail g z us ≡ after g us = simp (ne-eqb z 0 pos) in
         record {
           u = u;
-          bytes = ap (λ (n : ℕ). part s p n) zz ∙ part-at s p u (encodes us) d;
+          stands = ap (λ (n : ℕ). part s p n) zz ∙ part-at s p u (encodes us) d;
           fit = both-first (sound u) (sounds us) f;
           on = λ a b. record {
             done = c .done ++ (sep ++ text g u);
@@ -251,7 +251,7 @@ plain-piece g {s} {es} {xs} a c f e = go (ltb c 4) refl e
 pub record Child (g : Settings) (s : List ℕ) (p z : ℕ) (l : List ℕ) : Type 0 where
   pub x : Tree
   pub inside : Inside s p z
-  pub bytes : part s p z ≡ encode x
+  pub stands : part s p z ≡ encode x
   pub fit : sound x ≡ true
   pub filled : l ≡ text g x
 
@@ -264,7 +264,7 @@ node-piece g {s} {es} {xs} a c p z e = go (ltb c 4) refl e
         let h = ltb-true c 4 q in
         let i = end-is a c h in
         let n = node-end (getD es c (Column 0 0)) (getD xs c null) p z i (ap (λ (j : ℕ). endPiece (getD es j (Column 0 0))) (sym (small-mod c h)) ∙ y) in
-        record { x = getD xs c null; inside = n .0; bytes = n .1; fit = i .fit; filled = end-part g xs c h }
+        record { x = getD xs c null; inside = n .0; stands = n .1; fit = i .fit; filled = end-part g xs c h }
     go false q y = never (cc)
 
 -- a code of a template that stands for a name

@@ -551,7 +551,7 @@ write-items-loop-less : (t : ℕ) → write-items-lts.Need-loop-less (write-item
 write-items-loop-less t c = let h = c .before .before .before .before .before .end-of .ensures .moves (omega arith) in omega arith
 
 write-items-loop-again : (t : ℕ) → write-items-lts.Need-loop-again (write-items-calls t) (write-items-at t) write-items.Post write-items-Inv-loop write-items-μ-loop
-write-items-loop-again t c = (c .before .before .to-sql-impl .kept .1 .1 .0 ∙ c .before .before .before .before .before .before .before .before .put-comma .kept .1 .0 ∙ c .before .before .before .before .before .before .before .before .before .before .before .loop .inv .0, λ ts e f. let w = come-next (omega arith) (c .before .before .before .before .before .end-of .ensures) (c .before .before .before .before .before .before .before .before .before .before .before .loop .inv .1 ts e f) in w .on (c .before .before .before .before .before .before .before .before .put-comma .ensures) (c .before .before .to-sql-impl .ensures (w .u) (w .bytes) (w .fit)))
+write-items-loop-again t c = (c .before .before .to-sql-impl .kept .1 .1 .0 ∙ c .before .before .before .before .before .before .before .before .put-comma .kept .1 .0 ∙ c .before .before .before .before .before .before .before .before .before .before .before .loop .inv .0, λ ts e f. let w = come-next (omega arith) (c .before .before .before .before .before .end-of .ensures) (c .before .before .before .before .before .before .before .before .before .before .before .loop .inv .1 ts e f) in w .on (c .before .before .before .before .before .before .before .before .put-comma .ensures) (c .before .before .to-sql-impl .ensures (w .u) (w .stands) (w .fit)))
 
 write-items-same-length : (t : ℕ) → write-items-lts.Need-same-length (write-items-calls t) (write-items-at t) write-items.Post write-items-Inv-loop write-items-μ-loop
 write-items-same-length t c = search needs
@@ -756,7 +756,7 @@ write-operands-loop-less-2 : (t : ℕ) → write-operands-lts.Need-loop-less-2 (
 write-operands-loop-less-2 t c = search needs
 
 write-operands-loop-again-2 : (t : ℕ) → write-operands-lts.Need-loop-again-2 (write-operands-calls t) (write-operands-at t) write-operands.Post write-operands-Inv-loop write-operands-μ-loop
-write-operands-loop-again-2 t c = (c .before .before .to-sql-impl .kept .1 .1 .0 ∙ c .before .before .before .before .before .before .before .before .before .before .before .before .before .loop .inv .0, omega arith, λ t e f a b. let tn = temporal-node (sym (c .before .before .before .before .before .before .before .before .before .before .before .before .before .before .before .before .before .before .before .is-temporal .ensures) ∙ not-false (c .before .before .before .before .before .before .before .before .before .before .before .before .before .before .before .before .before .before .before .is-temporal .result) (c .before .before .before .before .before .before .before .before .before .before .before .before .before .before .before .before .before .before .if1 .left)) (node-of (c .before .before .before .before .before .before .before .before .before .before .before .before .before .before .before .before .before .before .before .before .before .before .before .before .before .before .args .s .now) (c .before .before .before .before .before .before .before .before .before .before .before .before .before .before .before .before .before .before .before .before .before .before .word-at .result) (c .before .before .before .before .before .before .before .before .before .before .before .before .before .before .before .before .before .before .before .before .before .word-at2 .result) (c .before .before .before .before .before .before .before .before .before .before .before .before .before .before .before .before .before .before .before .before .end-of .result) t e f (c .before .before .before .before .before .before .before .before .before .before .before .before .before .before .before .before .before .before .before .before .before .before .word-at .ensures .0) (c .before .before .before .before .before .before .before .before .before .before .before .before .before .before .before .before .before .before .before .before .before .word-at2 .ensures .0) (c .before .before .before .before .before .before .before .before .before .before .before .before .before .before .before .before .before .before .before .before .end-of .ensures) (let q = c .before .before .before .before .before .before .before .before .before .before .before .before .before .before .before .before .before .before .before .before .before .before .word-at .ensures .0 in omega arith) (let q = c .before .before .before .before .before .before .before .before .before .before .before .before .before .before .before .before .before .before .before .before .before .before .word-at .ensures .0 in omega arith)) in let ar = node-ends (tn .0) _ (c .before .before .before .before .before .before .before .before .before .before .before .before .before .before .before .before .before .temporal-ends .ensures) in let hb = c .before .before .before .before .before .before .before .before .before .before .before .before .before .before .before .before .template-of .ensures .1 in let lb : length (c .before .before .before .before .before .before .before .before .before .before .before .before .before .before .before .before .template-of .result .codes) ≡ 24 = search (needs, c .before .before .before .before .before .before .before .before .before .before .before .before .before .before .before .before .template-of .ok) in let pc = sym (c .before .before .before .before .before .before .before .before .before .before .piece-of .ensures) ∙ c .before .before .before .before .before .before .before .before .piece2 .given .1 in let ch = node-piece (settingsIn (c .before .before .before .before .before .before .before .before .before .before .before .before .before .before .before .before .before .before .before .before .before .before .before .before .before .before .args .set .now)) ar _ _ _ pc in node-step (settingsIn (c .before .before .before .before .before .before .before .before .before .before .before .before .before .before .before .before .before .before .before .before .before .before .before .before .before .before .args .set .now)) ar (c .before .before .before .before .before .before .before .before .before .before .before .before .before .before .before .before .template-of .result .codes) (c .before .before .before .before .before .before .before .before .before .before .before .before .before .before .before .before .template-of .result .len) (c .before .before .before .before .before .before .before .before .before .before .before .before .before .loop .k) (omega arith) (omega arith) (c .before .before .before .before .before .before .before .before .before .before .before .before .before .loop .inv .2 t e f a b) _ _ pc (c .before .before .to-sql-impl .ensures (ch .x) (ch .bytes) (ch .fit)))
+write-operands-loop-again-2 t c = (c .before .before .to-sql-impl .kept .1 .1 .0 ∙ c .before .before .before .before .before .before .before .before .before .before .before .before .before .loop .inv .0, omega arith, λ t e f a b. let tn = temporal-node (sym (c .before .before .before .before .before .before .before .before .before .before .before .before .before .before .before .before .before .before .before .is-temporal .ensures) ∙ not-false (c .before .before .before .before .before .before .before .before .before .before .before .before .before .before .before .before .before .before .before .is-temporal .result) (c .before .before .before .before .before .before .before .before .before .before .before .before .before .before .before .before .before .before .if1 .left)) (node-of (c .before .before .before .before .before .before .before .before .before .before .before .before .before .before .before .before .before .before .before .before .before .before .before .before .before .before .args .s .now) (c .before .before .before .before .before .before .before .before .before .before .before .before .before .before .before .before .before .before .before .before .before .before .word-at .result) (c .before .before .before .before .before .before .before .before .before .before .before .before .before .before .before .before .before .before .before .before .before .word-at2 .result) (c .before .before .before .before .before .before .before .before .before .before .before .before .before .before .before .before .before .before .before .before .end-of .result) t e f (c .before .before .before .before .before .before .before .before .before .before .before .before .before .before .before .before .before .before .before .before .before .before .word-at .ensures .0) (c .before .before .before .before .before .before .before .before .before .before .before .before .before .before .before .before .before .before .before .before .before .word-at2 .ensures .0) (c .before .before .before .before .before .before .before .before .before .before .before .before .before .before .before .before .before .before .before .before .end-of .ensures) (let q = c .before .before .before .before .before .before .before .before .before .before .before .before .before .before .before .before .before .before .before .before .before .before .word-at .ensures .0 in omega arith) (let q = c .before .before .before .before .before .before .before .before .before .before .before .before .before .before .before .before .before .before .before .before .before .before .word-at .ensures .0 in omega arith)) in let ar = node-ends (tn .0) _ (c .before .before .before .before .before .before .before .before .before .before .before .before .before .before .before .before .before .temporal-ends .ensures) in let hb = c .before .before .before .before .before .before .before .before .before .before .before .before .before .before .before .before .template-of .ensures .1 in let lb : length (c .before .before .before .before .before .before .before .before .before .before .before .before .before .before .before .before .template-of .result .codes) ≡ 24 = search (needs, c .before .before .before .before .before .before .before .before .before .before .before .before .before .before .before .before .template-of .ok) in let pc = sym (c .before .before .before .before .before .before .before .before .before .before .piece-of .ensures) ∙ c .before .before .before .before .before .before .before .before .piece2 .given .1 in let ch = node-piece (settingsIn (c .before .before .before .before .before .before .before .before .before .before .before .before .before .before .before .before .before .before .before .before .before .before .before .before .before .before .args .set .now)) ar _ _ _ pc in node-step (settingsIn (c .before .before .before .before .before .before .before .before .before .before .before .before .before .before .before .before .before .before .before .before .before .before .before .before .before .before .args .set .now)) ar (c .before .before .before .before .before .before .before .before .before .before .before .before .before .before .before .before .template-of .result .codes) (c .before .before .before .before .before .before .before .before .before .before .before .before .before .before .before .before .template-of .result .len) (c .before .before .before .before .before .before .before .before .before .before .before .before .before .loop .k) (omega arith) (omega arith) (c .before .before .before .before .before .before .before .before .before .before .before .before .before .loop .inv .2 t e f a b) _ _ pc (c .before .before .to-sql-impl .ensures (ch .x) (ch .stands) (ch .fit)))
 
 write-operands-enum-known-piece-3 : (t : ℕ) → write-operands-lts.Need-enum-known-piece-3 (write-operands-calls t) (write-operands-at t) write-operands.Post write-operands-Inv-loop write-operands-μ-loop
 write-operands-enum-known-piece-3 t c = search needs
