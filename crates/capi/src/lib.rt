@@ -32,7 +32,7 @@ pub extern "C" fn wenduulig_to_sql(settings: &[u8], tree: &[u8], out: &mut [u8])
 // 1 true, 0 false, 2 unknown, or minus the number of a refusal, 10 to 13.
 #[no_mangle]
 pub extern "C" fn wenduulig_read<'a>(text: &'a [u8], row: &'a [u8]) -> i32
-    ensures { λ r. ⌜ r ≡ readingNumber (reading.heard (reading.readingOf (now (text .entry)) (now (row .entry)))) ⌝ }
+    ensures { λ r. ⌜ r ≡ readingNumber (reading.said (reading.decided (now (text .entry)) (now (row .entry)))) ⌝ }
 {
     match truth::read(text, row) {
         Reading::True => 1,

@@ -40,20 +40,19 @@ two-fronts i j h g =
     ∙ ap (λ (x : List ℕ). bytes "\"" ++ ((48 + i) ∷ (bytes "\" IS NOT NULL AND \"" ++ (x ++ bytes "\" NOT NULL AND (")))) (digit-part j g)
 
 -- guards on texts are the guards of the condition
-pub one-guard : (column : ℕ → Bool) (i : ℕ) (base : Cond) → checkIdText (column i) (48 + i) (templateOf base) ≡ templateOf (checkId column i base)
+pub one-guard : (column : ℕ → Bool) (i : ℕ) (base : Cond) → checkIdText column i (templateOf base) ≡ templateOf (checkId column i base)
 unfolding checkId print checkIdText guardedText
 one-guard column i base = go (column i)
   where
-    go : (b : Bool) → checkIdText b (48 + i) (templateOf base) ≡ templateOf (pick b (and (isNotNull i) (brackets base)) base)
+    go : (b : Bool) → pick b (guardedText i (templateOf base)) (templateOf base) ≡ templateOf (pick b (and (isNotNull i) (brackets base)) base)
     go true = refl
     go false = refl
 
-pub two-guards : (column : ℕ → Bool) (i j : ℕ) (base : Cond)
-    → checkIdsText (column i) (column j) (48 + i) (48 + j) (templateOf base) ≡ templateOf (checkIds column i j base)
+pub two-guards : (column : ℕ → Bool) (i j : ℕ) (base : Cond) → checkIdsText column i j (templateOf base) ≡ templateOf (checkIds column i j base)
 unfolding checkIds print checkIdsText checkIdText guardedText guardedBothText
 two-guards column i j base = go (column i) (column j)
   where
-    go : (b d : Bool) → checkIdsText b d (48 + i) (48 + j) (templateOf base)
+    go : (b d : Bool) → pick b (pick d (guardedBothText i j (templateOf base)) (guardedText i (templateOf base))) (pick d (guardedText j (templateOf base)) (templateOf base))
         ≡ templateOf (pick b (pick d (and (and (isNotNull i) (notNull j)) (brackets base)) (and (isNotNull i) (brackets base))) (pick d (and (isNotNull j) (brackets base)) base))
     go true true = refl
     go true false = refl

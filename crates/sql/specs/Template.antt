@@ -61,20 +61,20 @@ unfoldable pub fill : (ℕ → List ℕ) → List ℕ → List ℕ
 fill slot [] = []
 fill slot (b ∷ s) = pick (between 48 b 57) (slot (b - 48)) (b ∷ []) ++ fill slot s
 
--- check_ids on texts: i and j are digits
+-- `check_ids` on texts, by which ends are columns
 unfoldable pub guardedText : ℕ → List ℕ → List ℕ
-guardedText i base =
-    bytes "\"" ++ (i ∷ (bytes "\" IS NOT NULL AND (" ++ (base ++ bytes ")")))
+guardedText i base = bytes "\"" ++ (digitOf i ++ (bytes "\" IS NOT NULL AND (" ++ (base ++ bytes ")")))
 
 unfoldable pub guardedBothText : ℕ → ℕ → List ℕ → List ℕ
 guardedBothText i j base =
-    bytes "\"" ++ (i ∷ (bytes "\" IS NOT NULL AND \"" ++ (j ∷ (bytes "\" NOT NULL AND (" ++ (base ++ bytes ")")))))
+    bytes "\"" ++ (digitOf i ++ (bytes "\" IS NOT NULL AND \"" ++ (digitOf j ++ (bytes "\" NOT NULL AND (" ++ (base ++ bytes ")")))))
 
-unfoldable pub checkIdText : Bool → ℕ → List ℕ → List ℕ
-checkIdText c i base = pick c (guardedText i base) base
+unfoldable pub checkIdText : (ℕ → Bool) → ℕ → List ℕ → List ℕ
+checkIdText column i base = pick (column i) (guardedText i base) base
 
-unfoldable pub checkIdsText : Bool → Bool → ℕ → ℕ → List ℕ → List ℕ
-checkIdsText c d i j base = pick c (pick d (guardedBothText i j base) (guardedText i base)) (checkIdText d j base)
+unfoldable pub checkIdsText : (ℕ → Bool) → ℕ → ℕ → List ℕ → List ℕ
+checkIdsText column i j base =
+    pick (column i) (pick (column j) (guardedBothText i j base) (guardedText i base)) (checkIdText column j base)
 
 unfoldable pub eitherText : List ℕ → List ℕ → List ℕ
 eitherText t u = bytes "(" ++ (t ++ (bytes ") OR (" ++ (u ++ bytes ")")))

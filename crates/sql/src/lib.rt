@@ -138,7 +138,7 @@ fn sql(s: &[u8]) -> Template
 // `"i" IS NOT NULL AND (base)`
 fn guarded(i: u8, base: &[u8]) -> Template
     requires { ⌜ (length (now base) ≡ 3) × (i < 4) ⌝ }
-    ensures { λ r. ⌜ (held r ≡ guardedText (48 + i) (spelt (now (base .entry)))) × (r .len ≡ 7) ⌝ }
+    ensures { λ r. ⌜ (held r ≡ guardedText i (spelt (now (base .entry)))) × (r .len ≡ 7) ⌝ }
 {
     let front = [QUOTE, i, IS_NOT_NULL];
     push(push(sql(&front), base), &[CLOSE])
@@ -147,37 +147,37 @@ fn guarded(i: u8, base: &[u8]) -> Template
 // `"i" IS NOT NULL AND "j" NOT NULL AND (base)`
 fn guarded_both(i: u8, j: u8, base: &[u8]) -> Template
     requires { ⌜ (length (now base) ≡ 3) × (i < 4) × (j < 4) ⌝ }
-    ensures { λ r. ⌜ (held r ≡ guardedBothText (48 + i) (48 + j) (spelt (now (base .entry)))) × (r .len ≡ 9) ⌝ }
+    ensures { λ r. ⌜ (held r ≡ guardedBothText i j (spelt (now (base .entry)))) × (r .len ≡ 9) ⌝ }
 {
     let front = [QUOTE, i, IS_NOT_NULL_QUOTE, j, NOT_NULL];
     push(push(sql(&front), base), &[CLOSE])
 }
 
-// Guards the base by a column.
-fn check_id(e: End, i: u8, base: &[u8]) -> Template
+// Guards the base by an end that is a column, named by its number.
+fn check_id(i: u8, e: [End; 4], base: &[u8]) -> Template
     requires { ⌜ (length (now base) ≡ 3) × (i < 4) ⌝ }
-    ensures { λ r. ⌜ (held r ≡ checkIdText (isColumn e) (48 + i) (spelt (now (base .entry)))) × (r .len ≤ 9) ⌝ }
+    ensures { λ r. ⌜ (held r ≡ checkIdText (columns e) i (spelt (now (base .entry)))) × (r .len ≤ 9) ⌝ }
 {
-    if is_column(e) {
+    if is_column(e[i as usize]) {
         guarded(i, base)
     } else {
         sql(base)
     }
 }
 
-// Guards the base by two columns, in argument order.
-fn check_ids(e: End, i: u8, f: End, j: u8, base: &[u8]) -> Template
+// Guards the base by two ends, in argument order.
+fn check_ids(i: u8, j: u8, e: [End; 4], base: &[u8]) -> Template
     requires { ⌜ (length (now base) ≡ 3) × (i < 4) × (j < 4) ⌝ }
-    ensures { λ r. ⌜ (held r ≡ checkIdsText (isColumn e) (isColumn f) (48 + i) (48 + j) (spelt (now (base .entry)))) × (r .len ≤ 9) ⌝ }
+    ensures { λ r. ⌜ (held r ≡ checkIdsText (columns e) i j (spelt (now (base .entry)))) × (r .len ≤ 9) ⌝ }
 {
-    if is_column(e) {
-        if is_column(f) {
+    if is_column(e[i as usize]) {
+        if is_column(e[j as usize]) {
             guarded_both(i, j, base)
         } else {
             guarded(i, base)
         }
     } else {
-        check_id(f, j, base)
+        check_id(j, e, base)
     }
 }
 
@@ -199,16 +199,14 @@ fn either(t: Template, u: Template) -> Template
 pub fn t_after_sql(a: bool, b: bool, e: [End; 4]) -> Template
     ensures { λ r. ⌜ (held r ≡ templateOf (tAfter a b (columns e))) × (r .len ≤ 24) ⌝ }
 {
-    let e1 = e[1];
-    let e2 = e[2];
     if a {
         if b {
-            return check_ids(e1, E1, e2, E2, &[E0, GREATER, E3]);
+            return check_ids(E1, E2, e, &[E0, GREATER, E3]);
         }
-        return check_id(e1, E1, &[E0, GREATER, E2]);
+        return check_id(E1, e, &[E0, GREATER, E2]);
     }
     if b {
-        return check_id(e2, E2, &[E0, GREATER, E3]);
+        return check_id(E2, e, &[E0, GREATER, E3]);
     }
     sql(&[E0, GREATER, E2])
 }
@@ -216,16 +214,14 @@ pub fn t_after_sql(a: bool, b: bool, e: [End; 4]) -> Template
 pub fn t_before_sql(a: bool, b: bool, e: [End; 4]) -> Template
     ensures { λ r. ⌜ (held r ≡ templateOf (tBefore a b (columns e))) × (r .len ≤ 24) ⌝ }
 {
-    let e0 = e[0];
-    let e3 = e[3];
     if a {
         if b {
-            return check_ids(e0, E0, e3, E3, &[E1, LESS, E2]);
+            return check_ids(E0, E3, e, &[E1, LESS, E2]);
         }
-        return check_id(e0, E0, &[E1, LESS, E2]);
+        return check_id(E0, e, &[E1, LESS, E2]);
     }
     if b {
-        return check_id(e3, E3, &[E0, LESS, E2]);
+        return check_id(E3, e, &[E0, LESS, E2]);
     }
     sql(&[E0, LESS, E2])
 }
@@ -233,21 +229,17 @@ pub fn t_before_sql(a: bool, b: bool, e: [End; 4]) -> Template
 pub fn t_disjoint_sql(a: bool, b: bool, e: [End; 4]) -> Template
     ensures { λ r. ⌜ (held r ≡ templateOf (tDisjoint a b (columns e))) × (r .len ≤ 24) ⌝ }
 {
-    let e0 = e[0];
-    let e1 = e[1];
-    let e2 = e[2];
-    let e3 = e[3];
     if a {
         if b {
-            let before = check_ids(e0, E0, e3, E3, &[E1, LESS, E2]);
-            return either(before, check_ids(e1, E1, e2, E2, &[E0, GREATER, E3]));
+            let before = check_ids(E0, E3, e, &[E1, LESS, E2]);
+            return either(before, check_ids(E1, E2, e, &[E0, GREATER, E3]));
         }
-        let before = check_id(e0, E0, &[E1, LESS, E2]);
-        return either(before, check_id(e1, E1, &[E0, GREATER, E2]));
+        let before = check_id(E0, e, &[E1, LESS, E2]);
+        return either(before, check_id(E1, e, &[E0, GREATER, E2]));
     }
     if b {
-        let before = check_id(e3, E3, &[E0, LESS, E2]);
-        return either(before, check_id(e2, E2, &[E0, GREATER, E3]));
+        let before = check_id(E3, e, &[E0, LESS, E2]);
+        return either(before, check_id(E2, e, &[E0, GREATER, E3]));
     }
     sql(&[E0, UNEQUAL, E2])
 }
@@ -311,17 +303,13 @@ pub fn t_finishes_sql(a: bool, b: bool, e: [End; 4]) -> Template
 pub fn t_meets_sql(a: bool, b: bool, e: [End; 4]) -> Template
     ensures { λ r. ⌜ (held r ≡ templateOf (tMeets a b (columns e))) × (r .len ≤ 24) ⌝ }
 {
-    let e0 = e[0];
-    let e3 = e[3];
-    check_ids(e0, E0, e3, E3, &[E1, EQUAL, E2])
+    check_ids(E0, E3, e, &[E1, EQUAL, E2])
 }
 
 pub fn t_met_by_sql(a: bool, b: bool, e: [End; 4]) -> Template
     ensures { λ r. ⌜ (held r ≡ templateOf (tMetBy a b (columns e))) × (r .len ≤ 24) ⌝ }
 {
-    let e1 = e[1];
-    let e2 = e[2];
-    check_ids(e1, E1, e2, E2, &[E0, EQUAL, E3])
+    check_ids(E1, E2, e, &[E0, EQUAL, E3])
 }
 
 pub fn t_overlapped_by_sql(a: bool, b: bool, e: [End; 4]) -> Template

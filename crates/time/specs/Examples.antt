@@ -32,7 +32,7 @@ use Rattle.truth.specs.declared.Reading.the-variants.{True as SaysTrue, Refused
 use Rattle.truth.specs.Lex as lex
 use Rattle.truth.specs.Grammar.{not3, truthOf}
 use Rattle.truth.specs.Grammar as grammar
-use Rattle.truth.specs.Reading.{parse, verdict}
+use Rattle.truth.specs.Reading.{parse, verdict, answer}
 use Rattle.time.specs.Filter.{isOperand, isEnd, timeFilter}
 use Rattle.time.specs.FilterTruth.{treeAtom, valueOn, holds, condTruth, temporalTruth, truthOn, isValue, columnsNonNull, liesBelow, proper}
 use Rattle.time.specs.Converse.{converse, Turned, turn, in-both, in-neg}
@@ -108,7 +108,7 @@ abbrev settings : Settings
 settings = record { precision = 7; ci = bytes "NC"; ai = bytes "NA"; cai = bytes "NCA" }
 
 abbrev reads : List Column → Tree → Reading
-reads cs t = verdict cs (parse (gpkg.text settings t))
+reads cs t = answer (verdict cs (parse (gpkg.text settings t)))
 
 abbrev negated-end : Tree
 negated-end = dyadic TAfter (monadic Neg a) b

@@ -35,7 +35,7 @@ use Rattle.truth.specs.declared.Truth.the-variants.{True, False, Unknown, Missi
 use Rattle.truth.specs.Grammar.{value, not3, and3, or3, truthOf, compared, nullity}
 use Rattle.truth.specs.Grammar as grammar
 use Rattle.truth.specs.Lex.{kind}
-use Rattle.truth.specs.Reading.{textLimit, rowLimit, answered, readingOf}
+use Rattle.truth.specs.Reading.{textLimit, rowLimit, answered, decided, readingOf}
 use Rattle.truth.specs.Reading as reading
 use Rattle.time.specs.Filter.{isNeg, isAnd, isOr, compares, timeFilter}
 use Rattle.time.specs.FilterTruth.{treeAtom, valueOn, found, holds, signOf, condTruth, endValues, temporalTruth, comparison, constant, monadicTruth, dyadicTruth, truthOn}
@@ -213,7 +213,7 @@ up (suc n) p = deeper (up n p)
 
 -- on any row
 pub reads-as : {t : Tree} {x row : List ℕ} {cs : List Column} → Lowers t x → timeFilter t ≡ true → IsRow row cs → readingOf x row ≡ answered (truthOn cs t)
-unfolding readingOf kind
+unfolding readingOf decided kind
 reads-as {t} {x} {row} {cs} L f R =
     let p = parts L in
     let q : reading.parse x ≡ grammar.got (filterAst t) [] = parses-back 3 x (filterAst t) (omega arith) (rw (p .text-is) (up 30 (filter-shown (p .with) depthLimit t f (p .good)))) in

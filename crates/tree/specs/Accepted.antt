@@ -6,6 +6,7 @@ use lib.ListN.{length, getD}
 use lib.Dec.{ltb, leb, eqb}
 use Rattle.prelude.specs.Choice.{pick, both}
 use Rattle.refusal.specs.declared.Refusal.the-variants.{BadSettings, TreeTooLong, BadOperand}
+use Rattle.refusal.specs.Number.{numberOf}
 use Rattle.record.specs.declared.Frame.{Frame}
 use Rattle.record.specs.declared.Frame.the-variants.{Broken, Whole}
 use Rattle.record.specs.Record.{frame}
@@ -59,7 +60,22 @@ accepted c s =
     pick (ltb treeLimit (length s)) (refused TreeTooLong)
     (also (parse s) (λ t. pick (placed t) (got (g, t)) (refused BadOperand))))
 
--- What a caller hears of settings and a tree: that they are accepted, or the refusal.
+-- the answer: that they are accepted, or the refusal
 unfoldable pub verdict : {A : Type 0} → Read A → Checked
 verdict (refused n) = Refused n
 verdict (got a) = Valid
+
+-- What a caller hears of settings and a tree, in document 01's terms: that they are accepted, or a refusal's number alone.
+pub data Heard : Type 0 where
+  valid : Heard
+  refusal : ℕ → Heard
+
+-- of what was decided
+abbrev pub said : {A : Type 0} → Read A → Heard
+said (refused n) = refusal (numberOf n)
+said (got a) = valid
+
+-- of the call's answer
+abbrev pub heard : Checked → Heard
+heard Valid = valid
+heard (Refused n) = refusal (numberOf n)

@@ -21,7 +21,7 @@ use Rattle.tree.specs.Limits.{treeLimit, depthLimit, precisionLimit}
 use Rattle.tree.specs.Tree.{Tree, Settings, settingsKind, encode, encodeSettings, counted, Bytes}
 use Rattle.tree.specs.Parse.{Read, refused, got, also, nameAt, past, namedAt, parse}
 use Rattle.tree.specs.Placed.{placed}
-use Rattle.tree.specs.Accepted.{settingsIn, isFrame, ciAt, aiAt, caiAt, settingsBody, isSettings, settings, accepted, verdict}
+use Rattle.tree.specs.Accepted.{settingsIn, isFrame, ciAt, aiAt, caiAt, settingsBody, isSettings, settings, accepted, verdict, said, heard}
 use Rattle.tree.specs.GoodWords.{Good}
 use Rattle.tree.specs.ByteLaws.{reads-drop}
 use Rattle.tree.specs.ParseLaws.{split, both-true, not-got, also-got, frame-record}
@@ -132,3 +132,9 @@ settings-encode c g h e =
     ∙ ap (λ (x : Settings). encodeSettings x) z)
     (λ w. not-got BadSettings g (w .1))
     (split (isSettings c) (got (settingsIn c)) (refused BadSettings) (got g) e)
+
+-- what is heard of the answer is what was decided
+pub heard-verdict : {A : Type 0} (x : Read A) → heard (verdict x) ≡ said x
+unfolding verdict
+heard-verdict (refused n) = refl
+heard-verdict (got a) = refl

@@ -7,7 +7,7 @@ ghost use Rattle.prelude.specs.Choice.{pick, both};
 ghost use Rattle.tree.specs.Limits.{mantissaLimit};
 ghost use Rattle.tree.specs.Parse.{signed, mantissa, namedAt, boolBody, numBody, strBody, dateBody, timestampBody, spatialBody, takesOne, takesTwo, readMonadic, readDyadic, readFunction, node, exactly, items};
 ghost use Rattle.tree.specs.Placed.{isBetween};
-ghost use Rattle.tree.specs.Accepted.{aiAt, caiAt, settingsBody, isSettings, accepted, verdict};
+ghost use Rattle.tree.specs.Accepted.{aiAt, caiAt, settingsBody, isSettings, accepted, verdict, said, heard};
 ghost use Rattle.tree.specs.WalkWords.{seen, seenOne, seenTwo, seenAll, firstOf, taken, plainShape, pairShape, intervalShape, soundShape, fits, orMisplaced, leafOne, monadicOne, dyadicOne, functionOne, arrayOne, intervalOne};
 use op::ACCENT_I;
 use op::CASE_I;
@@ -608,7 +608,8 @@ fn is_settings(s: &[u8]) -> bool
 
 // Whether the settings and the tree are accepted; else the refusal that comes first.
 pub fn check(settings: &[u8], tree: &[u8]) -> Checked
-    ensures { λ r. ⌜ r ≡ verdict (accepted (now (settings .entry)) (now (tree .entry))) ⌝ }
+    ensures says { λ r. ⌜ r ≡ verdict (accepted (now (settings .entry)) (now (tree .entry))) ⌝ }
+    ensures hears { λ r. ⌜ heard r ≡ said (accepted (now (settings .entry)) (now (tree .entry))) ⌝ }
 {
     if is_settings(settings) {
         if TREE_LIMIT < tree.len() {

@@ -29,16 +29,16 @@ enum-told : tie.Need-enum-told
 enum-told c = search needs
 
 lower-requires : tie.Need-lower-requires
-lower-requires c κs = taken (c .before .before .before .before .before .before .before .args .settings .now) (c .before .before .before .before .before .before .before .args .tree .now) (bytes-of (c .before .before .before .before .before .before .before .args .tree .now) (λ (i : ℕ). let v : getD (c .before .before .before .before .before .before .before .args .tree .now) i 0 < 256 = omega (arith, c .before .before .before .before .before .shared-slice-known2 .given i) in v)) (sym (c .before .enum-told .given .1) ∙ c .before .before .before .check .ensures) .small
+lower-requires c κs = taken (c .before .before .before .before .before .before .before .args .settings .now) (c .before .before .before .before .before .before .before .args .tree .now) (bytes-of (c .before .before .before .before .before .before .before .args .tree .now) (λ (i : ℕ). let v : getD (c .before .before .before .before .before .before .before .args .tree .now) i 0 < 256 = omega (arith, c .before .before .before .before .before .shared-slice-known2 .given i) in v)) (sym (c .before .enum-told .given .1) ∙ c .before .before .before .check .ensures .0) .small
 
 returns : tie.Need-returns
-returns c = heard-too _ (refused-says (c .before .before .before .before .before .before .before .args .settings .now) (c .before .before .before .before .before .before .before .args .tree .now) (c .before .before .before .before .before .before .before .args .out .now) _ (sym (c .before .checked .given .1) ∙ c .before .before .before .check .ensures))
+returns c = heard-too _ (refused-says (c .before .before .before .before .before .before .before .args .settings .now) (c .before .before .before .before .before .before .before .args .tree .now) (c .before .before .before .before .before .before .before .args .out .now) _ (sym (c .before .checked .given .1) ∙ c .before .before .before .check .ensures .0))
 
 same-length : tie.Need-same-length
 same-length c = search needs
 
 returns-2 : tie.Need-returns-2
-returns-2 c = heard-too _ (let a = taken (c .before .before .before .before .before .before .before .before .before .before .args .settings .now) (c .before .before .before .before .before .before .before .before .before .before .args .tree .now) (bytes-of (c .before .before .before .before .before .before .before .before .before .before .args .tree .now) (λ (i : ℕ). let v : getD (c .before .before .before .before .before .before .before .before .before .before .args .tree .now) i 0 < 256 = omega (arith, c .before .before .before .before .before .before .before .before .shared-slice-known2 .given i) in v)) (sym (c .before .before .before .before .enum-told .given .1) ∙ c .before .before .before .before .before .before .check .ensures) in let r = c .before .before .lower .ensures (a .t) (a .whole) (a .fit) in (r .0 ∙ ap answer (sym (taken-lowers (c .before .before .before .before .before .before .before .before .before .before .args .out .now) a)), r .1 ∙ ap (leaves (c .before .before .before .before .before .before .before .before .before .before .args .out .now)) (sym (taken-lowers (c .before .before .before .before .before .before .before .before .before .before .args .out .now) a))))
+returns-2 c = heard-too _ (let a = taken (c .before .before .before .before .before .before .before .before .before .before .args .settings .now) (c .before .before .before .before .before .before .before .before .before .before .args .tree .now) (bytes-of (c .before .before .before .before .before .before .before .before .before .before .args .tree .now) (λ (i : ℕ). let v : getD (c .before .before .before .before .before .before .before .before .before .before .args .tree .now) i 0 < 256 = omega (arith, c .before .before .before .before .before .before .before .before .shared-slice-known2 .given i) in v)) (sym (c .before .before .before .before .enum-told .given .1) ∙ c .before .before .before .before .before .before .check .ensures .0) in let r = c .before .before .lower .ensures (a .t) (a .whole) (a .fit) in (r .0 ∙ ap answer (sym (taken-lowers (c .before .before .before .before .before .before .before .before .before .before .args .out .now) a)), r .1 ∙ ap (leaves (c .before .before .before .before .before .before .before .before .before .before .args .out .now)) (sym (taken-lowers (c .before .before .before .before .before .before .before .before .before .before .args .out .now) a))))
 
 pub to-sql-spec : {M : Type 1} → statement M
 to-sql-spec =

@@ -9,12 +9,6 @@ use borrow.Author.Needs.{needs}
 use Rattle.sql.proofs.t_after_sql.Statement.{statement}
 use Rattle.sql.proofs.t_after_sql.Tie as tie
 
-array-copy-out-e1 : tie.Need-array-copy-out-e1
-array-copy-out-e1 c = search needs
-
-array-copy-out-e2 : tie.Need-array-copy-out-e2
-array-copy-out-e2 c = search needs
-
 slice-aggregate-check-ids : tie.Need-slice-aggregate-check-ids
 slice-aggregate-check-ids c = search needs
 
@@ -23,7 +17,7 @@ check-ids-requires c κs = search needs
 
 returns : tie.Need-returns
 unfolding tAfter print spelt partOf parts
-returns c = rw (c .before .before .before .if1 .taken, c .before .before .if2 .taken) (c .check-ids .ensures .0 ∙ two-guards (columns (c .before .before .before .before .before .before .args .t3)) 1 2 (test 0 gt 3), omega arith)
+returns c = rw (c .before .before .before .if1 .taken, c .before .before .if2 .taken) (c .check-ids .ensures .0 ∙ two-guards (columns (c .before .before .before .before .args .e)) 1 2 (test 0 gt 3), omega arith)
 
 slice-aggregate-check-id : tie.Need-slice-aggregate-check-id
 slice-aggregate-check-id c = search needs
@@ -33,7 +27,7 @@ check-id-requires c κs = search needs
 
 returns-2 : tie.Need-returns-2
 unfolding tAfter print spelt partOf parts
-returns-2 c = rw (c .before .before .before .if1 .taken, c .before .before .if2 .left) (c .check-id .ensures .0 ∙ one-guard (columns (c .before .before .before .before .before .before .args .t3)) 1 (test 0 gt 2), omega arith)
+returns-2 c = rw (c .before .before .before .if1 .taken, c .before .before .if2 .left) (c .check-id .ensures .0 ∙ one-guard (columns (c .before .before .before .before .args .e)) 1 (test 0 gt 2), omega arith)
 
 slice-aggregate-check-id-2 : tie.Need-slice-aggregate-check-id-2
 slice-aggregate-check-id-2 c = search needs
@@ -43,7 +37,7 @@ check-id-requires-2 c κs = search needs
 
 returns-3 : tie.Need-returns-3
 unfolding tAfter print spelt partOf parts
-returns-3 c = rw (c .before .before .before .if1 .left, c .before .before .if3 .taken) (c .check-id2 .ensures .0 ∙ one-guard (columns (c .before .before .before .before .before .before .args .t3)) 2 (test 0 gt 3), omega arith)
+returns-3 c = rw (c .before .before .before .if1 .left, c .before .before .if3 .taken) (c .check-id2 .ensures .0 ∙ one-guard (columns (c .before .before .before .before .args .e)) 2 (test 0 gt 3), omega arith)
 
 slice-aggregate-sql : tie.Need-slice-aggregate-sql
 slice-aggregate-sql c = search needs
@@ -59,8 +53,6 @@ pub t-after-sql-spec : {M : Type 1} → statement M
 t-after-sql-spec =
     tie.close
     (tie.spec
-    array-copy-out-e1
-    array-copy-out-e2
     slice-aggregate-check-ids
     check-ids-requires
     returns

@@ -9,18 +9,6 @@ use borrow.Author.Needs.{needs}
 use Rattle.sql.proofs.t_disjoint_sql.Statement.{statement}
 use Rattle.sql.proofs.t_disjoint_sql.Tie as tie
 
-array-copy-out-e0 : tie.Need-array-copy-out-e0
-array-copy-out-e0 c = search needs
-
-array-copy-out-e1 : tie.Need-array-copy-out-e1
-array-copy-out-e1 c = search needs
-
-array-copy-out-e2 : tie.Need-array-copy-out-e2
-array-copy-out-e2 c = search needs
-
-array-copy-out-e3 : tie.Need-array-copy-out-e3
-array-copy-out-e3 c = search needs
-
 slice-aggregate-check-ids : tie.Need-slice-aggregate-check-ids
 slice-aggregate-check-ids c = search needs
 
@@ -39,7 +27,7 @@ either-requires c κs = search needs
 returns : tie.Need-returns
 unfolding tDisjoint print spelt partOf parts
 returns c =
-    let col = columns (c .before .before .before .before .before .before .before .before .before .before .before .args .t3) in
+    let col = columns (c .before .before .before .before .before .before .before .args .e) in
     let p : held (c .before .before .before .check-ids .result) ≡ templateOf (checkIds col 0 3 (test 1 lt 2)) = c .before .before .before .check-ids .ensures .0 ∙ two-guards col 0 3 (test 1 lt 2) in
     let q : held (c .before .check-ids2 .result) ≡ templateOf (checkIds col 1 2 (test 0 gt 3)) = c .before .check-ids2 .ensures .0 ∙ two-guards col 1 2 (test 0 gt 3) in
     let z : eitherText (held (c .before .before .before .check-ids .result)) (held (c .before .check-ids2 .result)) ≡ eitherText (templateOf (checkIds col 0 3 (test 1 lt 2))) (templateOf (checkIds col 1 2 (test 0 gt 3))) = cc in
@@ -63,7 +51,7 @@ either-requires-2 c κs = search needs
 returns-2 : tie.Need-returns-2
 unfolding tDisjoint print spelt partOf parts
 returns-2 c =
-    let col = columns (c .before .before .before .before .before .before .before .before .before .before .before .args .t3) in
+    let col = columns (c .before .before .before .before .before .before .before .args .e) in
     let p : held (c .before .before .before .check-id .result) ≡ templateOf (checkId col 0 (test 1 lt 2)) = c .before .before .before .check-id .ensures .0 ∙ one-guard col 0 (test 1 lt 2) in
     let q : held (c .before .check-id2 .result) ≡ templateOf (checkId col 1 (test 0 gt 2)) = c .before .check-id2 .ensures .0 ∙ one-guard col 1 (test 0 gt 2) in
     let z : eitherText (held (c .before .before .before .check-id .result)) (held (c .before .check-id2 .result)) ≡ eitherText (templateOf (checkId col 0 (test 1 lt 2))) (templateOf (checkId col 1 (test 0 gt 2))) = cc in
@@ -87,7 +75,7 @@ either-requires-3 c κs = search needs
 returns-3 : tie.Need-returns-3
 unfolding tDisjoint print spelt partOf parts
 returns-3 c =
-    let col = columns (c .before .before .before .before .before .before .before .before .before .before .before .args .t3) in
+    let col = columns (c .before .before .before .before .before .before .before .args .e) in
     let p : held (c .before .before .before .check-id3 .result) ≡ templateOf (checkId col 3 (test 0 lt 2)) = c .before .before .before .check-id3 .ensures .0 ∙ one-guard col 3 (test 0 lt 2) in
     let q : held (c .before .check-id4 .result) ≡ templateOf (checkId col 2 (test 0 gt 3)) = c .before .check-id4 .ensures .0 ∙ one-guard col 2 (test 0 gt 3) in
     let z : eitherText (held (c .before .before .before .check-id3 .result)) (held (c .before .check-id4 .result)) ≡ eitherText (templateOf (checkId col 3 (test 0 lt 2))) (templateOf (checkId col 2 (test 0 gt 3))) = cc in
@@ -107,10 +95,6 @@ pub t-disjoint-sql-spec : {M : Type 1} → statement M
 t-disjoint-sql-spec =
     tie.close
     (tie.spec
-    array-copy-out-e0
-    array-copy-out-e1
-    array-copy-out-e2
-    array-copy-out-e3
     slice-aggregate-check-ids
     check-ids-requires
     slice-aggregate-check-ids-2

@@ -9,12 +9,6 @@ use borrow.Author.Needs.{needs}
 use Rattle.sql.proofs.t_meets_sql.Statement.{statement}
 use Rattle.sql.proofs.t_meets_sql.Tie as tie
 
-array-copy-out-e0 : tie.Need-array-copy-out-e0
-array-copy-out-e0 c = search needs
-
-array-copy-out-e3 : tie.Need-array-copy-out-e3
-array-copy-out-e3 c = search needs
-
 slice-aggregate-check-ids : tie.Need-slice-aggregate-check-ids
 slice-aggregate-check-ids c = search needs
 
@@ -23,14 +17,12 @@ check-ids-requires c κs = search needs
 
 returns : tie.Need-returns
 unfolding tMeets print spelt partOf parts
-returns c = (c .check-ids .ensures .0 ∙ two-guards (columns (c .before .before .before .before .args .t3)) 0 3 (test 1 eq 2), omega arith)
+returns c = (c .check-ids .ensures .0 ∙ two-guards (columns (c .before .before .args .e)) 0 3 (test 1 eq 2), omega arith)
 
 pub t-meets-sql-spec : {M : Type 1} → statement M
 t-meets-sql-spec =
     tie.close
     (tie.spec
-    array-copy-out-e0
-    array-copy-out-e3
     slice-aggregate-check-ids
     check-ids-requires
     returns)

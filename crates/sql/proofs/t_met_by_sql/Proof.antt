@@ -9,12 +9,6 @@ use borrow.Author.Needs.{needs}
 use Rattle.sql.proofs.t_met_by_sql.Statement.{statement}
 use Rattle.sql.proofs.t_met_by_sql.Tie as tie
 
-array-copy-out-e1 : tie.Need-array-copy-out-e1
-array-copy-out-e1 c = search needs
-
-array-copy-out-e2 : tie.Need-array-copy-out-e2
-array-copy-out-e2 c = search needs
-
 slice-aggregate-check-ids : tie.Need-slice-aggregate-check-ids
 slice-aggregate-check-ids c = search needs
 
@@ -23,14 +17,12 @@ check-ids-requires c κs = search needs
 
 returns : tie.Need-returns
 unfolding tMetBy print spelt partOf parts
-returns c = (c .check-ids .ensures .0 ∙ two-guards (columns (c .before .before .before .before .args .t3)) 1 2 (test 0 eq 3), omega arith)
+returns c = (c .check-ids .ensures .0 ∙ two-guards (columns (c .before .before .args .e)) 1 2 (test 0 eq 3), omega arith)
 
 pub t-met-by-sql-spec : {M : Type 1} → statement M
 t-met-by-sql-spec =
     tie.close
     (tie.spec
-    array-copy-out-e1
-    array-copy-out-e2
     slice-aggregate-check-ids
     check-ids-requires
     returns)
