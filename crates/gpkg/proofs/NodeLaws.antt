@@ -14,18 +14,20 @@ use Rattle.op.specs.declared.Op.{Op}
 use Rattle.op.specs.declared.Op.the-variants.{Minus, Neg, CaseI, AccentI, STouches, SWithin, SOverlaps, IsLike, IsNotLike}
 use Rattle.op.specs.Op.{opNumber, oneOf, isArray, isSpatial, isTemporal, isNullable}
 use Rattle.op.specs.OpLaws.{agree, number-below}
+use Rattle.tree.specs.Kinds.{UNBOUNDED}
 use Rattle.tree.specs.Tree.{Tree, Trees, Settings, encode, null, unbounded, bool, num, str, date, timestamp, spatial, id, monadic, dyadic, function, array, interval, none, _then_, kindOf}
 use Rattle.tree.specs.Tests as trees
 use Rattle.tree.specs.Tests.{first, second, isInterval, isId, isLiteralOrId, isMonadic, isItems, startOf, stopOf, endsOf, columnsOf, byOperator}
 use Rattle.tree.specs.Placed.{isBetween}
-use Rattle.literal.specs.Literal.{collate, nullText}
+use Rattle.literal.specs.Literal.{Slot, alone, openEnd, startSlot, stopSlot, quoted, collate, nullText}
+use Rattle.literal.specs.LiteralLaws.{slots-alike}
 use Rattle.sql.specs.Translators.{translate}
 use Rattle.sql.specs.Template.{fill, templateOf}
 use Rattle.sql.specs.TemplateLaws.{translate-fills, translate-same}
-use Rattle.gpkg.specs.Text.{bare, reducePrecision, monadicText, reduces, startText, stopText, boundText, dyadicText, text, children, texts}
+use Rattle.gpkg.specs.Text.{bare, reducePrecision, monadicText, reduces, endText, startText, stopText, boundText, dyadicText, text, children, texts}
 use Rattle.op.specs.Spelling.{word}
 use Rattle.gpkg.specs.PlanWords.{twin, twinOf, underOf, operandOf, itemsOf, nameOf, beforeText, behindText, collationFlags, slot, reducedText, infixText, leftBare, rightBare}
-use Rattle.tree.specs.TestsLaws.{OfKind, of-array, of-interval, kind-is, interval-is}
+use Rattle.tree.specs.TestsLaws.{OfKind, of-unbounded, of-array, of-interval, kind-is, interval-is}
 use borrow.Author.Tests.{eqb-true}
 
 -- Classes of operators, by number.
@@ -224,10 +226,22 @@ bound-1 g u = go (isItems u) refl
     go true e = there u (kind-is 12 u (eqb-true (kindOf u) 12 e))
     go false e = refl
 
+-- every slot writes an end as the tree's own text
+end-text : (g : Settings) (p : Slot) (t : Tree) → endText p t (text g t) ≡ text g t
+unfolding text
+end-text g p t = go (eqb (kindOf t) UNBOUNDED) refl
+  where
+    there : (t : Tree) → OfKind 1 t → quoted (openEnd p) ≡ text g t
+    there t of-unbounded = ap quoted (slots-alike p alone)
+
+    go : (b : Bool) → eqb (kindOf t) UNBOUNDED ≡ b → pick b (quoted (openEnd p)) (text g t) ≡ text g t
+    go true e = there t (kind-is UNBOUNDED t (eqb-true (kindOf t) UNBOUNDED e))
+    go false e = refl
+
 -- an end: an interval's child, or of an instant itself and Null
 start-text : (g : Settings) (t : Tree) → startText t (text g t) (children g t) ≡ text g (startOf t)
 unfolding children startOf first
-start-text g t = go (isInterval t) refl
+start-text g t = ap (endText (startSlot (isInterval t)) (startOf t)) (go (isInterval t) refl) ∙ end-text g (startSlot (isInterval t)) (startOf t)
   where
     there : (t : Tree) → OfKind 13 t → getD (children g t) 0 [] ≡ text g (first (trees.children t))
     there t (of-interval a b) = refl
@@ -238,7 +252,7 @@ start-text g t = go (isInterval t) refl
 
 stop-text : (g : Settings) (t : Tree) → stopText t (children g t) ≡ text g (stopOf t)
 unfolding children stopOf first second text
-stop-text g t = go (isInterval t) refl
+stop-text g t = ap (endText (stopSlot (isInterval t)) (stopOf t)) (go (isInterval t) refl) ∙ end-text g (stopSlot (isInterval t)) (stopOf t)
   where
     there : (t : Tree) → OfKind 13 t → getD (children g t) 1 [] ≡ text g (second (trees.children t))
     there t (of-interval a b) = refl

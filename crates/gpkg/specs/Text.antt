@@ -3,16 +3,18 @@ use Prim.Native.Nat.{ℕ}
 use mathlib.Core.List.{List, [], _∷_, _++_}
 use mathlib.Core.Bool.{Bool, false}
 use lib.ListN.{getD}
+use lib.Dec.{eqb}
 use Rattle.prelude.specs.Choice.{pick, both, negated}
 use Rattle.prelude.specs.Bytes.{bytes}
 use Rattle.op.specs.declared.Op.{Op}
 use Rattle.op.specs.declared.Op.the-variants.{Minus, Neg, CaseI, AccentI, STouches, SWithin, SOverlaps, IsLike, IsNotLike}
 use Rattle.op.specs.Op.{opNumber, oneOf, isArray, isSpatial, isTemporal, isNullable}
 use Rattle.op.specs.Spelling.{word}
-use Rattle.tree.specs.Tree.{Tree, Trees, Settings, null, unbounded, bool, num, str, date, timestamp, spatial, id, monadic, dyadic, function, array, interval, none, _then_}
+use Rattle.tree.specs.Kinds.{UNBOUNDED}
+use Rattle.tree.specs.Tree.{Tree, Trees, Settings, null, unbounded, bool, num, str, date, timestamp, spatial, id, monadic, dyadic, function, array, interval, none, _then_, kindOf}
 use Rattle.tree.specs.Placed.{isBetween}
-use Rattle.tree.specs.Tests.{isId, isItems, isInterval, isMonadic, isLiteralOrId, columnsOf}
-use Rattle.literal.specs.Literal.{nullText, boolText, unboundedText, numText, strText, dateText, timestampText, spatialText, decimal, collate}
+use Rattle.tree.specs.Tests.{isId, isItems, isInterval, isMonadic, isLiteralOrId, startOf, stopOf, columnsOf}
+use Rattle.literal.specs.Literal.{Slot, openEnd, startSlot, stopSlot, quoted, nullText, boolText, unboundedText, numText, strText, dateText, timestampText, spatialText, decimal, collate}
 use Rattle.sql.specs.Condition.{print}
 use Rattle.sql.specs.Translators.{translate}
 
@@ -47,12 +49,16 @@ monadicText g o t x xs =
 unfoldable pub reduces : Op → Tree → Tree → Bool
 reduces o t u = both (oneOf o (SWithin ∷ SOverlaps ∷ STouches ∷ [])) (both (isId t) (negated (isId u)))
 
--- the text of an end: of an interval its child's, of an instant its own
+-- the text of an end by its slot: an open end as the slot spells it, any other by its own text x
+abbrev pub endText : Slot → Tree → List ℕ → List ℕ
+endText slot t x = pick (eqb (kindOf t) UNBOUNDED) (quoted (openEnd slot)) x
+
+-- the ends of an operand: of an interval its children, of an instant itself and Null
 abbrev pub startText : Tree → List ℕ → List (List ℕ) → List ℕ
-startText t x xs = pick (isInterval t) (getD xs 0 []) x
+startText t x xs = endText (startSlot (isInterval t)) (startOf t) (pick (isInterval t) (getD xs 0 []) x)
 
 abbrev pub stopText : Tree → List (List ℕ) → List ℕ
-stopText t xs = pick (isInterval t) (getD xs 1 []) nullText
+stopText t xs = endText (stopSlot (isInterval t)) (stopOf t) (pick (isInterval t) (getD xs 1 []) nullText)
 
 -- a bound of BETWEEN, whose right side is an Array of two
 abbrev pub boundText : Tree → List (List ℕ) → ℕ → List ℕ

@@ -87,9 +87,22 @@ clock hour minute second = low 2 hour ++ (bytes ":" ++ (low 2 minute ++ (bytes "
 unfoldable pub timestamp : (y m d hour minute second : ℕ) → List ℕ
 timestamp y m d hour minute second = date y m d ++ (bytes "T" ++ clock hour minute second)
 
--- `MIN_DATE_SQL`
-unfoldable pub openEnd : List ℕ
-openEnd = bytes "-2021-01-01"
+-- where an end stands: alone, as an Interval's first end, or as its second
+pub data Slot : Type 0 where
+  alone : Slot
+  firstEnd : Slot
+  secondEnd : Slot
+
+-- the slots of an operand's start and end, by whether it is an Interval: an instant stands alone, and so does Null, its partner
+abbrev pub startSlot : Bool → Slot
+startSlot isInterval = pick isInterval firstEnd alone
+
+abbrev pub stopSlot : Bool → Slot
+stopSlot isInterval = pick isInterval secondEnd alone
+
+-- an open end by its slot: `MIN_DATE_SQL` in each
+unfoldable pub openEnd : Slot → List ℕ
+openEnd slot = bytes "-2021-01-01"
 
 -- Date
 abbrev pub dateText : (y m d : ℕ) → List ℕ
@@ -99,6 +112,6 @@ dateText y m d = quoted (date y m d)
 abbrev pub timestampText : (y m d hour minute second : ℕ) → List ℕ
 timestampText y m d hour minute second = quoted (timestamp y m d hour minute second)
 
--- Unbounded
+-- Unbounded that is no Interval's end
 abbrev pub unboundedText : List ℕ
-unboundedText = quoted openEnd
+unboundedText = quoted (openEnd alone)

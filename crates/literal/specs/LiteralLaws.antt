@@ -1,4 +1,4 @@
--- Laws of specs/Literal.antt: a number's digits one at a time, how many they are, and the lengths of the texts.
+-- Laws of specs/Literal.antt: a number's digits one at a time, how many they are, the lengths of the texts, and an open end in every slot alike.
 use Prim.Native.Nat.{ℕ, zero, suc, _+_, _-_, _*_, _/_, _%_, _^_, _≤_, _<_}
 use mathlib.Core.Path.{_≡_, refl, ap, sym, _∙_}
 use mathlib.Core.List.{List, [], _∷_, _++_}
@@ -11,7 +11,7 @@ use lib.Dec.{ltb, eqb}
 use borrow.Author.Tests.{lt-ltb, le-ltb, ltb-false, ltb-true, eq-eqb, ne-eqb}
 use Rattle.prelude.specs.Choice.{pick}
 use Rattle.prelude.specs.Bytes.{bytes}
-use Rattle.literal.specs.Literal.{low, digits, decimal, pointed, plain, quoted, collate, spatialText, date, clock, timestamp, openEnd, dateText, timestampText, unboundedText}
+use Rattle.literal.specs.Literal.{low, digits, decimal, pointed, plain, quoted, collate, spatialText, date, clock, timestamp, Slot, openEnd, dateText, timestampText, unboundedText}
 
 -- ---- digits
 
@@ -186,6 +186,11 @@ length-date y m d = refl
 pub length-timestamp : (y m d hour minute second : ℕ) → length (timestampText y m d hour minute second) ≡ 21
 unfolding quoted timestamp date clock low
 length-timestamp y m d hour minute second = refl
+
+-- every slot spells an open end alike
+pub slots-alike : (p q : Slot) → openEnd p ≡ openEnd q
+unfolding openEnd
+slots-alike p q = refl
 
 pub length-unbounded : length unboundedText ≡ 13
 unfolding quoted openEnd

@@ -11,6 +11,7 @@ use Rattle.op.specs.declared.Op.the-variants.{TDisjoint, TIntersects}
 use Rattle.tree.specs.Tree.{Tree}
 use Rattle.tree.specs.TestsLaws.{everywhere-here, everywhere-start, everywhere-stop}
 use Rattle.tree.specs.Tests.{isInterval, isId, startOf, stopOf, endsOf, columnsOf}
+use Rattle.literal.specs.Literal.{Slot, startSlot, stopSlot}
 use Rattle.sql.specs.Condition.{test, lt, gt}
 use Rattle.sql.specs.Translators.{translate, tDisjoint, tIntersects}
 use Rattle.row.specs.Row.{val, Column, Found, absent, has}
@@ -21,9 +22,9 @@ use Rattle.truth.specs.declared.Reading.the-variants.{True as SaysTrue, False a
 use Rattle.truth.specs.Reading.{answered}
 use Rattle.truth.specs.Lex.{EQ, NE}
 use Rattle.truth.specs.Grammar.{not3, or3, truthOf, compared, holds}
-use Rattle.time.specs.FilterTruth.{valueOn, condTruth, endValues, temporalTruth, nonNull, columnsNonNull}
+use Rattle.time.specs.FilterTruth.{endOn, isValue, condTruth, endValues, temporalTruth, nonNull, columnsNonNull}
 use Rattle.time.specs.Claims.{Opposite}
-use Rattle.time.specs.TruthLaws.{not3-twice, guard, guard-passes, check-id, check-ids}
+use Rattle.time.specs.TruthLaws.{not3-twice, guard, guard-passes, check-id, check-ids, end-on}
 
 -- An end of an operand whose columns are not NULL.
 start-non-null : (cs : List Column) (t : Tree) → columnsNonNull cs t ≡ true → columnsNonNull cs (startOf t) ≡ true
@@ -35,12 +36,12 @@ unfolding columnsNonNull isId
 stop-non-null cs = everywhere-stop (λ n. either (negated (isId n)) (nonNull cs n)) refl
 
 -- its guard passes
-open-guard : (cs : List Column) (e : Tree) → columnsNonNull cs e ≡ true → (b : Truth) → guard (isId e) (valueOn cs e) b ≡ b
-unfolding columnsNonNull
-open-guard cs e h b = go (isId e) (everywhere-here (λ n. either (negated (isId n)) (nonNull cs n)) e h)
+open-guard : (cs : List Column) (slot : Slot) (e : Tree) → columnsNonNull cs e ≡ true → (b : Truth) → guard (isId e) (endOn cs slot e) b ≡ b
+unfolding columnsNonNull isValue
+open-guard cs slot e h b = go (isId e) (everywhere-here (λ n. either (negated (isId n)) (nonNull cs n)) e h)
   where
-    go : (c : Bool) → either (negated c) (nonNull cs e) ≡ true → guard c (valueOn cs e) b ≡ b
-    go true p = guard-passes true (valueOn cs e) b p
+    go : (c : Bool) → either (negated c) (nonNull cs e) ≡ true → guard c (endOn cs slot e) b ≡ b
+    go true p = guard-passes true (endOn cs slot e) b (end-on isValue cs slot e refl p)
     go false p = refl
 
 -- the two signs of two instants
@@ -88,21 +89,21 @@ module _ (cs : List Column) (t u : Tree) (p : columnsNonNull cs t ≡ true) (q :
   abbrev cols : ℕ → Bool
   cols = columnsOf t u
 
-  pass0 : (b : Truth) → guard (isId (startOf t)) (valueOn cs (startOf t)) b ≡ b
-  pass0 = open-guard cs (startOf t) (start-non-null cs t p)
+  pass0 : (b : Truth) → guard (isId (startOf t)) (endOn cs (startSlot (isInterval t)) (startOf t)) b ≡ b
+  pass0 = open-guard cs (startSlot (isInterval t)) (startOf t) (start-non-null cs t p)
 
-  pass1 : (b : Truth) → guard (isId (stopOf t)) (valueOn cs (stopOf t)) b ≡ b
-  pass1 = open-guard cs (stopOf t) (stop-non-null cs t p)
+  pass1 : (b : Truth) → guard (isId (stopOf t)) (endOn cs (stopSlot (isInterval t)) (stopOf t)) b ≡ b
+  pass1 = open-guard cs (stopSlot (isInterval t)) (stopOf t) (stop-non-null cs t p)
 
-  pass2 : (b : Truth) → guard (isId (startOf u)) (valueOn cs (startOf u)) b ≡ b
-  pass2 = open-guard cs (startOf u) (start-non-null cs u q)
+  pass2 : (b : Truth) → guard (isId (startOf u)) (endOn cs (startSlot (isInterval u)) (startOf u)) b ≡ b
+  pass2 = open-guard cs (startSlot (isInterval u)) (startOf u) (start-non-null cs u q)
 
-  pass3 : (b : Truth) → guard (isId (stopOf u)) (valueOn cs (stopOf u)) b ≡ b
-  pass3 = open-guard cs (stopOf u) (stop-non-null cs u q)
+  pass3 : (b : Truth) → guard (isId (stopOf u)) (endOn cs (stopSlot (isInterval u)) (stopOf u)) b ≡ b
+  pass3 = open-guard cs (stopSlot (isInterval u)) (stopOf u) (stop-non-null cs u q)
 
   complement : (a b : Bool) → condTruth ends (tDisjoint a b cols) ≡ not3 (condTruth ends (tIntersects a b cols))
   unfolding condTruth tDisjoint tIntersects endsOf
-  complement false false = ne-eq (valueOn cs (startOf t)) (valueOn cs (startOf u))
+  complement false false = ne-eq (endOn cs (startSlot (isInterval t)) (startOf t)) (endOn cs (startSlot (isInterval u)) (startOf u))
   complement false true =
       both-sides _ _ _ _ (check-id ends cols 3 (test 0 lt 2) ∙ pass3 _) (check-id ends cols 2 (test 0 gt 3) ∙ pass2 _)
   complement true false =

@@ -10,6 +10,7 @@ use Rattle.op.specs.declared.Op.the-variants.{TContains, TDuring, TFinishedBy, 
 use Rattle.op.specs.Op.{isTemporal}
 use Rattle.tree.specs.Tree.{Tree, dyadic}
 use Rattle.tree.specs.Tests.{byOperator, isInterval, isId, startOf, stopOf, endsOf, columnsOf}
+use Rattle.literal.specs.Literal.{startSlot, stopSlot}
 use Rattle.sql.specs.Condition.{test, lt, gt, eq}
 use Rattle.sql.specs.Translators.{translate, tAfter, tBefore, tContains, tDisjoint, tDuring, tEquals, tFinishedBy, tFinishes, tIntersects, tMeets, tMetBy, tOverlappedBy, tOverlaps, tStartedBy, tStarts}
 use Rattle.row.specs.Row.{Column, Found}
@@ -17,7 +18,7 @@ use Rattle.truth.specs.declared.Truth.{Truth}
 use Rattle.truth.specs.Lex.{LT, GT, EQ}
 use Rattle.truth.specs.Grammar.{not3, and3, or3, compared}
 use Rattle.time.specs.Filter.{isAnd, isOr, compares}
-use Rattle.time.specs.FilterTruth.{valueOn, condTruth, endValues, temporalTruth, truthOn}
+use Rattle.time.specs.FilterTruth.{endOn, condTruth, endValues, temporalTruth, truthOn}
 use Rattle.time.specs.Converse.{converse, Turned, keep, turn, in-both, in-neg}
 use Rattle.time.specs.OperatorLaws.{done, _also_, of-temporal}
 use Rattle.time.specs.TruthLaws.{or3-comm, lt-gt, gt-lt, eq-eq, ne-ne, guard, guards-swap, check-id, check-ids}
@@ -37,16 +38,16 @@ module _ (cs : List Column) (t u : Tree) where
   cols' = columnsOf u t
 
   abbrev x0 : Found
-  x0 = valueOn cs (startOf t)
+  x0 = endOn cs (startSlot (isInterval t)) (startOf t)
 
   abbrev x1 : Found
-  x1 = valueOn cs (stopOf t)
+  x1 = endOn cs (stopSlot (isInterval t)) (stopOf t)
 
   abbrev x2 : Found
-  x2 = valueOn cs (startOf u)
+  x2 = endOn cs (startSlot (isInterval u)) (startOf u)
 
   abbrev x3 : Found
-  x3 = valueOn cs (stopOf u)
+  x3 = endOn cs (stopSlot (isInterval u)) (stopOf u)
 
   abbrev c0 : Bool
   c0 = isId (startOf t)
@@ -121,7 +122,7 @@ module _ (cs : List Column) (t u : Tree) where
   disjoint-turned : (a b : Bool)
       → condTruth (endValues cs t u) (tDisjoint a b (columnsOf t u)) ≡ condTruth (endValues cs u t) (tDisjoint b a (columnsOf u t))
   unfolding condTruth tDisjoint tAfter tBefore endsOf
-  disjoint-turned false false = ne-ne (valueOn cs (startOf t)) (valueOn cs (startOf u))
+  disjoint-turned false false = ne-ne (endOn cs (startSlot (isInterval t)) (startOf t)) (endOn cs (startSlot (isInterval u)) (startOf u))
   disjoint-turned false true = either-turned false true
   disjoint-turned true false = either-turned true false
   disjoint-turned true true = either-turned true true

@@ -24,16 +24,16 @@ use Rattle.tree.specs.Tests.{first, second, everywhere, byOperator, isInterval,
 use Rattle.tree.specs.TestsLaws.{OfKind, of-id, of-interval, id-is, interval-is, by-operators}
 use Rattle.tree.specs.GoodWords.{Good}
 use Rattle.literal.specs.Literal as literal
-use Rattle.literal.specs.Literal.{low}
+use Rattle.literal.specs.Literal.{Slot, alone, firstEnd, secondEnd, startSlot, stopSlot, low}
 use Rattle.sql.specs.Translators.{translate}
 use Rattle.gpkg.specs.Text as gpkg
-use Rattle.gpkg.specs.Text.{children, bare, monadicText, dyadicText, startText, stopText}
+use Rattle.gpkg.specs.Text.{children, bare, monadicText, dyadicText, endText, startText, stopText}
 use Rattle.row.specs.Row.{Column}
 use Rattle.truth.specs.declared.Truth.{Truth}
 use Rattle.truth.specs.Grammar.{column, text, Ast, cmp, isNull, const, neg, conj, disj, value, eval, not3, nullity}
 use Rattle.time.specs.Filter.{comparable, isEnd, isOperand, isNeg, isAnd, isOr, compares, timeFilter}
 use Rattle.time.specs.FilterLaws.{EndIs, null-end, open-end, date-end, timestamp-end, column-end, end-is, ComparableIs, comparable-str, comparable-date, comparable-timestamp, comparable-id, comparable-is, FilterIs, null-filter, bool-filter, monadic-filter, dyadic-filter, filter-is}
-use Rattle.time.specs.FilterTruth.{treeAtom, valueOn, endValues, temporalTruth, comparison, constant, monadicTruth, dyadicTruth, truthOn}
+use Rattle.time.specs.FilterTruth.{treeAtom, endAtom, valueOn, endOn, slotAt, endValues, temporalTruth, comparison, constant, monadicTruth, dyadicTruth, truthOn}
 use Rattle.time.specs.OperatorLaws.{AllOf, done, _also_, among, fifteen, of-temporal}
 use Rattle.time.specs.ReadBackLaws.{Prints, item, lift, bracket, not-bracket, not-word, and-join, or-join}
 use Rattle.time.specs.AtomLaws.{AtomText, bare-atom, text-atom, null-atom, SignText, sign-lt, sign-gt, sign-le, sign-ge, sign-eq, sign-ne, compare-item, null-item, true-item, false-item, bare-name, is-null-item, is-not-null-item}
@@ -45,6 +45,10 @@ pub atom-value : (cs : List Column) (t : Tree) → value cs (treeAtom t) ≡ val
 unfolding valueOn
 atom-value cs t = refl
 
+pub end-value : (cs : List Column) (slot : Slot) (t : Tree) → value cs (endAtom slot t) ≡ endOn cs slot t
+unfolding endOn
+end-value cs slot t = refl
+
 -- written instants are made of Str bytes
 all-append : (p : ℕ → Bool) (x y : List ℕ) → all p x ≡ true → all p y ≡ true → all p (x ++ y) ≡ true
 unfolding all
@@ -55,9 +59,9 @@ digit-str : (n : ℕ) → n < 10 → strByte (48 + n) ≡ true
 unfolding strByte
 digit-str n h = rw (le-leb 32 (48 + n) (omega arith), le-leb (48 + n) 126 (omega arith), ne-eqb (48 + n) 39 (λ e. omega arith))
 
-open-str : all strByte literal.openEnd ≡ true
+open-str : (slot : Slot) → all strByte (literal.openEnd slot) ≡ true
 unfolding all strByte literal.openEnd
-open-str = refl
+open-str slot = refl
 
 low-str : (w n : ℕ) → all strByte (low w n) ≡ true
 unfolding low all
@@ -78,14 +82,14 @@ timestamp-str y m d h i s =
     (all-append strByte (low 2 h) (58 ∷ (low 2 i ++ (58 ∷ low 2 s))) (low-str 2 h)
     (all-append strByte (low 2 i) (58 ∷ low 2 s) (low-str 2 i) (low-str 2 s)))
 
--- the text of an end is that of its atom
-pub end-text : (g : Settings) (t : Tree) (n : ℕ) → isEnd t ≡ true → Good t n → AtomText (gpkg.text g t) (treeAtom t)
-unfolding gpkg.text treeAtom Good literal.quoted
-end-text g t n e x = go t (end-is t e) x
+-- the text of an end in its slot is that of its atom
+pub end-text : (g : Settings) (slot : Slot) (t : Tree) (n : ℕ) → isEnd t ≡ true → Good t n → AtomText (endText slot t (gpkg.text g t)) (endAtom slot t)
+unfolding gpkg.text endAtom treeAtom Good literal.quoted
+end-text g slot t n e x = go t (end-is t e) x
   where
-    go : (t : Tree) → EndIs t → Good t n → AtomText (gpkg.text g t) (treeAtom t)
+    go : (t : Tree) → EndIs t → Good t n → AtomText (endText slot t (gpkg.text g t)) (endAtom slot t)
     go t null-end x = null-atom
-    go t open-end x = text-atom literal.openEnd open-str
+    go t open-end x = text-atom (literal.openEnd slot) (open-str slot)
     go t (date-end y m d) x = text-atom (literal.date y m d) (date-str y m d)
     go t (timestamp-end y m d h i s) x = text-atom (literal.timestamp y m d h i s) (timestamp-str y m d h i s)
     go t (column-end s) x = bare-atom s (x .1)
@@ -105,27 +109,27 @@ comparable-text g t n e x = go t (comparable-is t e) x
 
 -- Operands: their ends, and the ends' texts.
 pub record Operand (g : Settings) (t : Tree) : Type 0 where
-  pub start-atom : AtomText (startText t (gpkg.text g t) (children g t)) (treeAtom (startOf t))
-  pub stop-atom : AtomText (stopText t (children g t)) (treeAtom (stopOf t))
-  pub start-name : isId (startOf t) ≡ true → (treeAtom (startOf t) ≡ column (startText t (gpkg.text g t) (children g t))) × (name (startText t (gpkg.text g t) (children g t)) ≡ true)
-  pub stop-name : isId (stopOf t) ≡ true → (treeAtom (stopOf t) ≡ column (stopText t (children g t))) × (name (stopText t (children g t)) ≡ true)
+  pub start-atom : AtomText (startText t (gpkg.text g t) (children g t)) (endAtom (startSlot (isInterval t)) (startOf t))
+  pub stop-atom : AtomText (stopText t (children g t)) (endAtom (stopSlot (isInterval t)) (stopOf t))
+  pub start-name : isId (startOf t) ≡ true → (endAtom (startSlot (isInterval t)) (startOf t) ≡ column (startText t (gpkg.text g t) (children g t))) × (name (startText t (gpkg.text g t) (children g t)) ≡ true)
+  pub stop-name : isId (stopOf t) ≡ true → (endAtom (stopSlot (isInterval t)) (stopOf t) ≡ column (stopText t (children g t))) × (name (stopText t (children g t)) ≡ true)
 
 -- an end that is a column is a name
-end-name : (g : Settings) (t : Tree) (n : ℕ) → Good t n → isId t ≡ true → (treeAtom t ≡ column (gpkg.text g t)) × (name (gpkg.text g t) ≡ true)
-unfolding gpkg.text treeAtom Good
-end-name g t n x e = go t (id-is t e) x
+end-name : (g : Settings) (slot : Slot) (t : Tree) (n : ℕ) → Good t n → isId t ≡ true → (endAtom slot t ≡ column (endText slot t (gpkg.text g t))) × (name (endText slot t (gpkg.text g t)) ≡ true)
+unfolding gpkg.text endAtom treeAtom Good
+end-name g slot t n x e = go t (id-is t e) x
   where
-    go : (t : Tree) → OfKind ID t → Good t n → (treeAtom t ≡ column (gpkg.text g t)) × (name (gpkg.text g t) ≡ true)
+    go : (t : Tree) → OfKind ID t → Good t n → (endAtom slot t ≡ column (endText slot t (gpkg.text g t))) × (name (endText slot t (gpkg.text g t)) ≡ true)
     go t (of-id s) x = (refl, x .1)
 
 -- an instant: it is its own start, and Null its stop
 instant-operand : (g : Settings) (t : Tree) (n : ℕ) → isInterval t ≡ false → startOf t ≡ t → stopOf t ≡ null → isEnd t ≡ true → Good t n → Operand g t
-unfolding gpkg.text isId treeAtom
+unfolding gpkg.text isId endAtom treeAtom
 instant-operand g t n i p q e x =
     record {
-      start-atom = rw (i, p) (end-text g t n e x);
+      start-atom = rw (i, p) (end-text g alone t n e x);
       stop-atom = rw (i, q) null-atom;
-      start-name = λ c. rw (i, p) (end-name g t n x (rw p at c));
+      start-name = λ c. rw (i, p) (end-name g alone t n x (rw p at c));
       stop-name = λ c. absurd (false≢true (rw q at c));
     }
 
@@ -134,10 +138,10 @@ unfolding isOperand isInterval startOf stopOf first second children Good
 interval-operand g t n (of-interval a b) e x =
     let f = both-true (isEnd a) (isEnd b) e in
     record {
-      start-atom = end-text g a (n - 1) (f .0) (x .1);
-      stop-atom = end-text g b (n - 1) (f .1) (x .2);
-      start-name = end-name g a (n - 1) (x .1);
-      stop-name = end-name g b (n - 1) (x .2);
+      start-atom = end-text g firstEnd a (n - 1) (f .0) (x .1);
+      stop-atom = end-text g secondEnd b (n - 1) (f .1) (x .2);
+      start-name = end-name g firstEnd a (n - 1) (x .1);
+      stop-name = end-name g secondEnd b (n - 1) (x .2);
     }
 
 pub operand : (g : Settings) (t : Tree) (n : ℕ) → isOperand t ≡ true → Good t n → Operand g t
@@ -151,11 +155,11 @@ operand g t n e x = go (isInterval t) refl e
 -- the four ends of two operands
 pub four-ends : (g : Settings) (t u : Tree) → Operand g t → Operand g u
     → Ends (λ j. getD (startText t (gpkg.text g t) (children g t) ∷ stopText t (children g t) ∷ startText u (gpkg.text g u) (children g u) ∷ stopText u (children g u) ∷ []) j [])
-    (λ j. treeAtom (getD (endsOf t u) j null)) (columnsOf t u)
+    (λ j. endAtom (slotAt t u j) (getD (endsOf t u) j null)) (columnsOf t u)
 unfolding endsOf
 four-ends g t u A B = record { atoms = λ j h. atoms j h; names = λ j h c. names j h c }
   where
-    atoms : (j : ℕ) → j < 4 → AtomText (getD (startText t (gpkg.text g t) (children g t) ∷ stopText t (children g t) ∷ startText u (gpkg.text g u) (children g u) ∷ stopText u (children g u) ∷ []) j []) (treeAtom (getD (startOf t ∷ stopOf t ∷ startOf u ∷ stopOf u ∷ []) j null))
+    atoms : (j : ℕ) → j < 4 → AtomText (getD (startText t (gpkg.text g t) (children g t) ∷ stopText t (children g t) ∷ startText u (gpkg.text g u) (children g u) ∷ stopText u (children g u) ∷ []) j []) (endAtom (slotAt t u j) (getD (startOf t ∷ stopOf t ∷ startOf u ∷ stopOf u ∷ []) j null))
     atoms zero h = A .start-atom
     atoms (suc zero) h = A .stop-atom
     atoms (suc (suc zero)) h = B .start-atom
@@ -163,7 +167,7 @@ four-ends g t u A B = record { atoms = λ j h. atoms j h; names = λ j h c. name
     atoms (suc (suc (suc (suc j)))) h = absurd (omega arith)
 
     names : (j : ℕ) → j < 4 → isId (getD (startOf t ∷ stopOf t ∷ startOf u ∷ stopOf u ∷ []) j null) ≡ true
-        → (treeAtom (getD (startOf t ∷ stopOf t ∷ startOf u ∷ stopOf u ∷ []) j null) ≡ column (getD (startText t (gpkg.text g t) (children g t) ∷ stopText t (children g t) ∷ startText u (gpkg.text g u) (children g u) ∷ stopText u (children g u) ∷ []) j []))
+        → (endAtom (slotAt t u j) (getD (startOf t ∷ stopOf t ∷ startOf u ∷ stopOf u ∷ []) j null) ≡ column (getD (startText t (gpkg.text g t) (children g t) ∷ stopText t (children g t) ∷ startText u (gpkg.text g u) (children g u) ∷ stopText u (children g u) ∷ []) j []))
         × (name (getD (startText t (gpkg.text g t) (children g t) ∷ stopText t (children g t) ∷ startText u (gpkg.text g u) (children g u) ∷ stopText u (children g u) ∷ []) j []) ≡ true)
     names zero h c = A .start-name c
     names (suc zero) h c = A .stop-name c
@@ -184,7 +188,7 @@ dyadicAst o t u a b =
     pick (isAnd o) (conj a b)
     (pick (isOr o) (disj a b)
     (pick (compares o) (cmp (comparison o) (treeAtom t) (treeAtom u))
-    (condAst (λ j. treeAtom (getD (endsOf t u) j null)) (translate (opNumber o) (isInterval t) (isInterval u) (columnsOf t u)))))
+    (condAst (λ j. endAtom (slotAt t u j) (getD (endsOf t u) j null)) (translate (opNumber o) (isInterval t) (isInterval u) (columnsOf t u)))))
 
 unfoldable pub filterAst : Tree → Ast
 filterAst = byOperator (λ t. const (constant t)) monadicAst dyadicAst
@@ -205,7 +209,7 @@ filter-eval cs =
     pick-eval cs (isAnd o) _ _ _ _ (rw (e, f) refl)
     (pick-eval cs (isOr o) _ _ _ _ (rw (e, f) refl)
     (pick-eval cs (compares o) _ _ _ _ (rw (atom-value cs t, atom-value cs u) refl)
-    (cond-eval cs (λ j. treeAtom (getD (endsOf t u) j null)) (endValues cs t u) (λ j. atom-value cs (getD (endsOf t u) j null))
+    (cond-eval cs (λ j. endAtom (slotAt t u j) (getD (endsOf t u) j null)) (endValues cs t u) (λ j. end-value cs (slotAt t u j) (getD (endsOf t u) j null))
     (translate (opNumber o) (isInterval t) (isInterval u) (columnsOf t u))))))
 
 -- Brackets that a filter of n levels needs: one a level, and two in a temporal predicate.

@@ -10,10 +10,11 @@ use Rattle.order.specs.Order.{below}
 use Rattle.op.specs.declared.Op.{Op}
 use Rattle.op.specs.declared.Op.the-variants.{IsNull, Eq, Neq, Lt, Gt, Lte, Gte}
 use Rattle.op.specs.Op.{opNumber, oneOf}
-use Rattle.tree.specs.Kinds.{BOOL}
+use Rattle.tree.specs.Kinds.{UNBOUNDED, BOOL}
 use Rattle.tree.specs.Tree.{Tree, null, unbounded, bool, num, str, date, timestamp, spatial, id, monadic, dyadic, function, array, interval, kindOf}
 use Rattle.tree.specs.Tests.{fieldsOf, everywhere, byOperator, isId, isInterval, endsOf, columnsOf}
 use Rattle.literal.specs.Literal as literal
+use Rattle.literal.specs.Literal.{Slot, alone, firstEnd, secondEnd, startSlot, stopSlot}
 use Rattle.sql.specs.Condition as sql
 use Rattle.sql.specs.Translators.{translate}
 use Rattle.row.specs.Row.{val, Column, Found, absent, has}
@@ -28,7 +29,7 @@ use Rattle.time.specs.Filter.{isNeg, isAnd, isOr, compares}
 -- what stands for a tree in a comparison: a column, the string that lowering writes, quotation marks left off, or NULL
 unfoldable pub treeAtom : Tree → Atom
 treeAtom null = none
-treeAtom unbounded = text literal.openEnd
+treeAtom unbounded = text (literal.openEnd alone)
 treeAtom (bool b) = none
 treeAtom (num m s) = none
 treeAtom (str f s) = text s
@@ -42,10 +43,18 @@ treeAtom (function n ts) = none
 treeAtom (array ts) = none
 treeAtom (interval t u) = none
 
--- An end's value on a row is its column's value there, or the string that lowering writes for a date, timestamp or open end (or a
--- string that is compared), quotation marks left off. Null has the value NULL.
+-- what stands for an end by its slot: the string that the slot spells for an open end, and for any other end what stands for the tree
+unfoldable pub endAtom : Slot → Tree → Atom
+endAtom slot t = pick (eqb (kindOf t) UNBOUNDED) (text (literal.openEnd slot)) (treeAtom t)
+
+-- the value on a row of what is compared, or tested for NULL
 unfoldable pub valueOn : List Column → Tree → Found
 valueOn cs t = value cs (treeAtom t)
+
+-- An end's value on a row is its column's value there, or the string that lowering writes for a date, timestamp or open end, quotation marks
+-- left off. Null has the value NULL.
+unfoldable pub endOn : List Column → Slot → Tree → Found
+endOn cs slot t = value cs (endAtom slot t)
 
 -- a name is, byte for byte, one of the row's
 abbrev pub found : Found → Bool
@@ -72,9 +81,13 @@ condTruth v (sql.or c d) = or3 (condTruth v c) (condTruth v d)
 condTruth v (sql.not c) = not3 (condTruth v c)
 condTruth v (sql.brackets c) = condTruth v c
 
--- the values of the four ends of two operands
+-- the slots of the four ends of two operands, and their values
+abbrev pub slotAt : Tree → Tree → ℕ → Slot
+slotAt t u j =
+    getD (startSlot (isInterval t) ∷ stopSlot (isInterval t) ∷ startSlot (isInterval u) ∷ stopSlot (isInterval u) ∷ []) j alone
+
 abbrev pub endValues : List Column → Tree → Tree → ℕ → Found
-endValues cs t u j = valueOn cs (getD (endsOf t u) j null)
+endValues cs t u j = endOn cs (slotAt t u j) (getD (endsOf t u) j null)
 
 unfoldable pub temporalTruth : List Column → Op → Tree → Tree → Truth
 temporalTruth cs o t u =
@@ -127,4 +140,4 @@ liesBelow (has (val x)) (has (val y)) = below x y
 
 -- an interval with both ends non-null and its start below its end
 abbrev pub proper : List Column → Tree → Tree → Bool
-proper cs start stop = liesBelow (valueOn cs start) (valueOn cs stop)
+proper cs start stop = liesBelow (endOn cs firstEnd start) (endOn cs secondEnd stop)

@@ -16,6 +16,7 @@ use Rattle.charset.specs.Charset.{digit}
 use Rattle.civil.specs.Civil.{leap, daysIn, validDate, validTime}
 use Rattle.order.specs.Order.{order}
 use Rattle.literal.specs.Literal as literal
+use Rattle.literal.specs.Literal.{firstEnd}
 use Rattle.time.specs.Ogc.{twoAt, areTwo, yearOf, beginsDate, goesOnTime, Width, ten, nineteen, isInstant, fields}
 
 -- Comparing number by number.
@@ -234,12 +235,12 @@ begins nineteen x e =
     let l : length x ≡ 19 = eqb-true (length x) 19 (a .0) in
     (omega arith, date-parts x (c .0))
 
-open-first : (x : List ℕ) → 0 < length x → 48 ≤ getD x 0 0 → order literal.openEnd x ≡ 0
+open-first : (x : List ℕ) → 0 < length x → 48 ≤ getD x 0 0 → order (literal.openEnd firstEnd) x ≡ 0
 unfolding order literal.openEnd
 open-first [] h k = absurd (omega arith)
 open-first (a ∷ x) h k = let l : 45 < a = omega arith in rw (lt-ltb 45 a l)
 
-pub open-below : (w : Width) (x : List ℕ) → isInstant w x ≡ true → order literal.openEnd x ≡ 0
+pub open-below : (w : Width) (x : List ℕ) → isInstant w x ≡ true → order (literal.openEnd firstEnd) x ≡ 0
 open-below w x e =
     let b = begins w x e in
     open-first x (omega (arith, b .0)) (first x x x 0 (b .1 .century) .0)

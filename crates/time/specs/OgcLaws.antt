@@ -1,7 +1,7 @@
 -- A temporal predicate agrees with OGC 21-065r2 on a row of instants of one width: each end stands for a moment, bytes and moments are ordered
 -- alike, every guard passes, and so each condition of the fifteen translators comes to the formula over starts and ends.
 use Prim.Native.Nat.{ℕ, _-_}
-use mathlib.Core.Path.{_≡_, refl, ap, _∙_, subst}
+use mathlib.Core.Path.{_≡_, refl, ap, sym, _∙_, subst}
 use mathlib.Core.List.{List, [], _∷_}
 use mathlib.Core.Bool.{Bool, true, false, false≢true}
 use lib.Dec.{eqb}
@@ -14,12 +14,13 @@ use Rattle.op.specs.declared.Op.{Op}
 use Rattle.op.specs.declared.Op.the-variants.{TAfter, TBefore, TContains, TDisjoint, TDuring, TEquals, TFinishedBy, TFinishes, TIntersects, TMeets, TMetBy, TOverlappedBy, TOverlaps, TStartedBy, TStarts}
 use Rattle.op.specs.Op.{opNumber, isTemporal, isInstantOrInterval}
 use Rattle.tree.specs.Kinds.{NULL, UNBOUNDED, DATE, TIMESTAMP, ID, INTERVAL}
-use Rattle.tree.specs.Tree.{Tree, null, date, timestamp, kindOf}
+use Rattle.tree.specs.Tree.{Tree, null, unbounded, date, timestamp, kindOf}
 use Rattle.tree.specs.Placed.{operands}
 use Rattle.tree.specs.Tests.{children, first, second, everywhere, isId, isInterval, startOf, stopOf, endsOf, columnsOf}
 use Rattle.tree.specs.TestsLaws.{one-of-all, OfKind, of-interval, interval-is}
 use Rattle.tree.specs.GoodWords.{Good}
 use Rattle.literal.specs.Literal as literal
+use Rattle.literal.specs.Literal.{Slot, alone, firstEnd, secondEnd, startSlot, stopSlot}
 use Rattle.sql.specs.Condition.{Cond, test, lt, gt, eq, checkId, checkIds}
 use Rattle.sql.specs.Translators.{translate, tAfter, tBefore, tContains, tDisjoint, tDuring, tEquals, tFinishedBy, tFinishes, tIntersects, tMeets, tMetBy, tOverlappedBy, tOverlaps, tStartedBy, tStarts}
 use Rattle.row.specs.Row.{Value, val, Column, Found, has, look}
@@ -30,16 +31,16 @@ use Rattle.truth.specs.Grammar.{value, not3, and3, or3, truthOf, compared}
 use Rattle.truth.specs.Grammar as grammar
 use Rattle.time.specs.Filter.{isEnd}
 use Rattle.time.specs.FilterLaws.{EndIs, null-end, open-end, date-end, timestamp-end, column-end, end-is}
-use Rattle.time.specs.FilterTruth.{found, holds, treeAtom, valueOn, condTruth, endValues, temporalTruth, isValue}
+use Rattle.time.specs.FilterTruth.{found, holds, treeAtom, endAtom, valueOn, endOn, condTruth, endValues, temporalTruth, isValue}
 use Rattle.time.specs.Ogc.{Moment, openStart, moment, earlier, sameMoment, ogc, Width, ten, nineteen, isInstant, fields, isInstantValue, instants, isPoint, isStart, ogcOperand, momentOf, momentOn, ogcOn}
 use Rattle.time.specs.OperatorLaws.{done, _also_, of-temporal}
-use Rattle.time.specs.TruthLaws.{and3-known, or3-known, not3-known, orders, gt-lt, guard, guard-passes, check-id, check-ids}
+use Rattle.time.specs.TruthLaws.{and3-known, or3-known, not3-known, orders, gt-lt, guard, guard-passes, check-id, check-ids, closed-end}
 use Rattle.time.specs.ComplementLaws.{ne-eq}
 use Rattle.time.specs.InstantLaws.{fields-order, open-below, date-instant, date-fields, timestamp-instant, timestamp-fields}
 
 -- A value and the moment that it stands for.
 data Stands (w : Width) : Found → Moment → Type 0 where
-  opens : Stands w (has (val literal.openEnd)) openStart
+  opens : Stands w (has (val (literal.openEnd firstEnd))) openStart
   at : {x : List ℕ} → isInstant w x ≡ true → Stands w (has (val x)) (moment (fields w x))
 
 -- A truth that is the answer of a test.
@@ -66,14 +67,14 @@ lt-known : {w : Width} {x y : Found} {m n : Moment} → Stands w x m → Stands 
 unfolding grammar.holds order below literal.openEnd earlier
 lt-known opens opens = record { is = refl }
 lt-known {w = w} opens (at {x = y} k) = record { is = rw (open-below w y k) }
-lt-known {w = w} (at {x = x} h) opens = record { is = rw (order-above literal.openEnd x (open-below w x h)) }
+lt-known {w = w} (at {x = x} h) opens = record { is = rw (order-above (literal.openEnd firstEnd) x (open-below w x h)) }
 lt-known {w = w} (at {x = x} h) (at {x = y} k) = record { is = rw (fields-order w x y h k) }
 
 eq-known : {w : Width} {x y : Found} {m n : Moment} → Stands w x m → Stands w y n → Known (compared EQ x y) (sameMoment m n)
 unfolding grammar.holds order literal.openEnd sameMoment
 eq-known opens opens = record { is = refl }
 eq-known {w = w} opens (at {x = y} k) = record { is = rw (open-below w y k) }
-eq-known {w = w} (at {x = x} h) opens = record { is = rw (order-above literal.openEnd x (open-below w x h)) }
+eq-known {w = w} (at {x = x} h) opens = record { is = rw (order-above (literal.openEnd firstEnd) x (open-below w x h)) }
 eq-known {w = w} (at {x = x} h) (at {x = y} k) = record { is = rw (fields-order w x y h k) }
 
 gt-known : {w : Width} {x y : Found} {m n : Moment} → Stands w x m → Stands w y n → Known (compared GT x y) (earlier n m)
@@ -297,38 +298,59 @@ unfolding isPoint isStart
 point-start ten t = one-of-all (ID ∷ DATE ∷ []) (ID ∷ DATE ∷ UNBOUNDED ∷ []) (kindOf t) refl
 point-start nineteen t = one-of-all (ID ∷ TIMESTAMP ∷ []) (ID ∷ TIMESTAMP ∷ UNBOUNDED ∷ []) (kindOf t) refl
 
+-- a point is not open, so that its slot does not matter
+open-points : (w : Width) → isPoint w unbounded ≡ true → ⊥
+unfolding isPoint
+open-points ten f = false≢true f
+open-points nineteen f = false≢true f
+
+point-closed : (w : Width) (t : Tree) → isPoint w t ≡ true → eqb (kindOf t) UNBOUNDED ≡ false
+point-closed w t f = go t (end-is t (start-is-end w t (point-start w t f))) f
+  where
+    go : (t : Tree) → EndIs t → isPoint w t ≡ true → eqb (kindOf t) UNBOUNDED ≡ false
+    go t null-end f = refl
+    go t open-end f = absurd (open-points w f)
+    go t (date-end y m d) f = refl
+    go t (timestamp-end y m d h i s) f = refl
+    go t (column-end s) f = refl
+
 module _ (w : Width) (cs : List Column) (e : instants w cs ≡ true) where
-  start-stands : (t : Tree) (n : ℕ) → Good t n → holds cs t ≡ true → isStart w t ≡ true → Stands w (valueOn cs t) (momentOn w cs t)
-  unfolding Good holds everywhere valueOn treeAtom value momentOn isId
+  start-stands : (t : Tree) (n : ℕ) → Good t n → holds cs t ≡ true → isStart w t ≡ true → Stands w (endOn cs firstEnd t) (momentOn w cs t)
+  unfolding Good holds everywhere endOn endAtom valueOn treeAtom value momentOn isId
   start-stands t n g p f = go t (end-is t (start-is-end w t f)) g p f
     where
-      go : (t : Tree) → EndIs t → Good t n → holds cs t ≡ true → isStart w t ≡ true → Stands w (valueOn cs t) (momentOn w cs t)
+      go : (t : Tree) → EndIs t → Good t n → holds cs t ≡ true → isStart w t ≡ true → Stands w (endOn cs firstEnd t) (momentOn w cs t)
       go t null-end g p f = absurd (null-starts w f)
       go t open-end g p f = opens
       go t (date-end y m d) g p f = date-stands w y m d (g .1) f
       go t (timestamp-end y m d h i s) g p f = timestamp-stands w y m d h i s (g .1) (g .2) f
       go t (column-end s) g p f = look-stands w s cs e p
 
+  point-stands : (slot : Slot) (t : Tree) (n : ℕ) → Good t n → holds cs t ≡ true → isPoint w t ≡ true → Stands w (endOn cs slot t) (momentOn w cs t)
+  point-stands slot t n g p f =
+      let c = point-closed w t f in
+      subst (λ v. Stands w v (momentOn w cs t)) (closed-end cs firstEnd t c ∙ sym (closed-end cs slot t c)) (start-stands t n g p (point-start w t f))
+
   -- the ends of an interval
   ends-stand : (t : Tree) (n : ℕ) → OfKind INTERVAL t → Good t n → holds cs t ≡ true → ogcOperand w t ≡ true
-      → Stands w (valueOn cs (startOf t)) (momentOn w cs (startOf t)) × Stands w (valueOn cs (stopOf t)) (momentOn w cs (stopOf t))
-  unfolding Good holds everywhere valueOn treeAtom value ogcOperand isInterval startOf stopOf first second
+      → Stands w (endOn cs (startSlot (isInterval t)) (startOf t)) (momentOn w cs (startOf t)) × Stands w (endOn cs (stopSlot (isInterval t)) (stopOf t)) (momentOn w cs (stopOf t))
+  unfolding Good holds everywhere endOn endAtom valueOn treeAtom value ogcOperand isInterval startOf stopOf first second
   ends-stand t n (of-interval a b) g p f =
       let h = both-true (holds cs a) (holds cs b) p in
       let k = both-true (isStart w a) (isPoint w b) f in
-      (start-stands a (n - 1) (g .1) (h .0) (k .0), start-stands b (n - 1) (g .2) (h .1) (point-start w b (k .1)))
+      (start-stands a (n - 1) (g .1) (h .0) (k .0), point-stands secondEnd b (n - 1) (g .2) (h .1) (k .1))
 
-  first-stands : (t : Tree) (n : ℕ) → Good t n → holds cs t ≡ true → ogcOperand w t ≡ true → Stands w (valueOn cs (startOf t)) (momentOn w cs (startOf t))
+  first-stands : (t : Tree) (n : ℕ) → Good t n → holds cs t ≡ true → ogcOperand w t ≡ true → Stands w (endOn cs (startSlot (isInterval t)) (startOf t)) (momentOn w cs (startOf t))
   unfolding ogcOperand startOf
   first-stands t n g p f = go (isInterval t) refl f
     where
       go : (b : Bool) → isInterval t ≡ b → pick b (both (isStart w (startOf t)) (isPoint w (stopOf t))) (isPoint w t) ≡ true
-          → Stands w (valueOn cs (pick b (first (children t)) t)) (momentOn w cs (pick b (first (children t)) t))
-      go true i q = subst (λ (c : Bool). Stands w (valueOn cs (pick c (first (children t)) t)) (momentOn w cs (pick c (first (children t)) t))) i (ends-stand t n (interval-is t i) g p f .0)
-      go false i q = start-stands t n g p (point-start w t q)
+          → Stands w (endOn cs (startSlot b) (pick b (first (children t)) t)) (momentOn w cs (pick b (first (children t)) t))
+      go true i q = subst (λ (c : Bool). Stands w (endOn cs (startSlot c) (pick c (first (children t)) t)) (momentOn w cs (pick c (first (children t)) t))) i (ends-stand t n (interval-is t i) g p f .0)
+      go false i q = point-stands alone t n g p q
 
   last-stands : (t : Tree) (n : ℕ) → Good t n → holds cs t ≡ true → ogcOperand w t ≡ true → isInterval t ≡ true
-      → Stands w (valueOn cs (stopOf t)) (momentOn w cs (stopOf t))
+      → Stands w (endOn cs (stopSlot (isInterval t)) (stopOf t)) (momentOn w cs (stopOf t))
   last-stands t n g p f i = ends-stand t n (interval-is t i) g p f .1
 
 -- the moment of an end that is chosen

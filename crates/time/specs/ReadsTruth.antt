@@ -24,6 +24,7 @@ use Rattle.tree.specs.Placed.{placed}
 use Rattle.tree.specs.Tests.{fieldsOf, everywhere, isInterval, startOf, stopOf, endsOf, columnsOf}
 use Rattle.tree.specs.TestsLaws.{everywhere-here, everywhere-start, everywhere-stop, by-operator}
 use Rattle.tree.specs.Accepted.{settings, accepted}
+use Rattle.literal.specs.Literal.{startSlot, stopSlot}
 use Rattle.sql.specs.Condition as sql
 use Rattle.sql.specs.Translators.{translate}
 use Rattle.gpkg.specs.Text as gpkg
@@ -38,8 +39,9 @@ use Rattle.truth.specs.Lex.{kind}
 use Rattle.truth.specs.Reading.{textLimit, rowLimit, answered, decided, readingOf}
 use Rattle.truth.specs.Reading as reading
 use Rattle.time.specs.Filter.{isNeg, isAnd, isOr, compares, timeFilter}
-use Rattle.time.specs.FilterTruth.{treeAtom, valueOn, found, holds, signOf, condTruth, endValues, temporalTruth, comparison, constant, monadicTruth, dyadicTruth, truthOn}
+use Rattle.time.specs.FilterTruth.{treeAtom, endAtom, valueOn, endOn, found, holds, signOf, condTruth, endValues, temporalTruth, comparison, constant, monadicTruth, dyadicTruth, truthOn}
 use Rattle.time.specs.Accepted.{Lowers, IsRow}
+use Rattle.time.specs.TruthLaws.{end-on}
 use Rattle.time.specs.ReadBackLaws.{Prints, parses-back}
 use Rattle.time.specs.FilterReadsLaws.{filterAst, filter-eval, filter-shown, deeper}
 
@@ -173,11 +175,11 @@ unfolding holds valueOn treeAtom value
 stop-held cs = everywhere-stop (λ n. found (valueOn cs n)) refl
 
 ends-found : (cs : List Column) (t u : Tree) → holds cs t ≡ true → holds cs u ≡ true → (j : ℕ) → found (endValues cs t u j) ≡ true
-unfolding endsOf valueOn treeAtom value
-ends-found cs t u e f zero = value-found cs (startOf t) (start-held cs t e)
-ends-found cs t u e f (suc zero) = value-found cs (stopOf t) (stop-held cs t e)
-ends-found cs t u e f (suc (suc zero)) = value-found cs (startOf u) (start-held cs u f)
-ends-found cs t u e f (suc (suc (suc zero))) = value-found cs (stopOf u) (stop-held cs u f)
+unfolding endsOf endOn endAtom valueOn treeAtom value
+ends-found cs t u e f zero = end-on found cs (startSlot (isInterval t)) (startOf t) refl (value-found cs (startOf t) (start-held cs t e))
+ends-found cs t u e f (suc zero) = end-on found cs (stopSlot (isInterval t)) (stopOf t) refl (value-found cs (stopOf t) (stop-held cs t e))
+ends-found cs t u e f (suc (suc zero)) = end-on found cs (startSlot (isInterval u)) (startOf u) refl (value-found cs (startOf u) (start-held cs u f))
+ends-found cs t u e f (suc (suc (suc zero))) = end-on found cs (stopSlot (isInterval u)) (stopOf u) refl (value-found cs (stopOf u) (stop-held cs u f))
 ends-found cs t u e f (suc (suc (suc (suc j)))) = refl
 
 pick-known : (b : Bool) (p q : Truth) → known p ≡ true → known q ≡ true → known (pick b p q) ≡ true

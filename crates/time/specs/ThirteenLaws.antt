@@ -17,6 +17,7 @@ use Rattle.op.specs.Op.{opNumber, oneOf}
 use Rattle.op.specs.OpLaws.{every-op, alike}
 use Rattle.tree.specs.Tree.{Tree, interval}
 use Rattle.tree.specs.Tests.{first, second, isInterval, startOf, stopOf, endsOf, columnsOf}
+use Rattle.literal.specs.Literal.{firstEnd, secondEnd}
 use Rattle.sql.specs.Condition as sql
 use Rattle.sql.specs.Translators.{translate, tAfter, tBefore, tContains, tDuring, tEquals, tFinishedBy, tFinishes, tMeets, tMetBy, tOverlappedBy, tOverlaps, tStartedBy, tStarts}
 use Rattle.row.specs.Row.{val, Column, Found, absent, has}
@@ -25,7 +26,7 @@ use Rattle.truth.specs.declared.Truth.{Truth}
 use Rattle.truth.specs.declared.Truth.the-variants.{True, False}
 use Rattle.truth.specs.Lex.{LT, GT, EQ}
 use Rattle.truth.specs.Grammar.{and3, truthOf, compared, holds}
-use Rattle.time.specs.FilterTruth.{valueOn, signOf, condTruth, endValues, temporalTruth, isValue, liesBelow, proper}
+use Rattle.time.specs.FilterTruth.{endOn, signOf, condTruth, endValues, temporalTruth, isValue, liesBelow, proper}
 use Rattle.time.specs.Converse.{thirteen}
 use Rattle.time.specs.Claims.{ExactlyOne}
 use Rattle.time.specs.OperatorLaws.{AllOf, done, _also_, among}
@@ -250,8 +251,8 @@ pub exactly-one : (cs : List Column) (a b c d : Tree) → proper cs a b ≡ true
     → ExactlyOne True False (λ o. temporalTruth cs o (interval a b) (interval c d))
 unfolding temporalTruth isInterval endsOf startOf stopOf first second
 exactly-one cs a b c d p q =
-    let h = ends-below (valueOn cs a) (valueOn cs b) p in
-    let k = ends-below (valueOn cs c) (valueOn cs d) q in
+    let h = ends-below (endOn cs firstEnd a) (endOn cs secondEnd b) p in
+    let k = ends-below (endOn cs firstEnd c) (endOn cs secondEnd d) q in
     from-table (by (order (h .0) (k .0)) (order (h .0) (k .1)) (order (h .1) (k .0)) (order (h .1) (k .1)))
     (one-table (h .0) (h .1) (k .0) (k .1) (h .4) (k .4))
     (λ o. temporalTruth cs o (interval a b) (interval c d))

@@ -1,21 +1,25 @@
--- Laws of the three-valued tables, of comparing two values from either side, and of a guard in front of a condition.
+-- Laws of the three-valued tables, of comparing two values from either side, of a guard in front of a condition, and of an end's slot.
 -- The tables are gone through by their cases; two orders that face each other are one of three pairs.
 use Prim.Native.Nat.{ℕ}
 use mathlib.Core.Path.{_≡_, refl, sym, ap, _∙_}
 use mathlib.Core.List.{List}
 use mathlib.Core.Bool.{Bool, true, false}
 use mathlib.Core.Logic.{⊎-elim}
+use lib.Dec.{eqb}
 use Rattle.prelude.specs.Choice.{pick, both, either, negated}
 use Rattle.order.specs.Order.{order}
 use Rattle.order.specs.OrderLaws.{order-refl, order-same, order-above, order-below, order-cases}
-use Rattle.row.specs.Row.{val, Found, absent, has}
+use Rattle.tree.specs.Kinds.{UNBOUNDED}
+use Rattle.tree.specs.Tree.{Tree, kindOf}
+use Rattle.literal.specs.Literal.{Slot, openEnd}
+use Rattle.row.specs.Row.{val, Column, Found, absent, has}
 use Rattle.row.specs.Row as row
 use Rattle.truth.specs.declared.Truth.{Truth}
 use Rattle.truth.specs.declared.Truth.the-variants.{True, False, Unknown, Missing}
 use Rattle.truth.specs.Lex.{LT, GT, EQ, NE}
-use Rattle.truth.specs.Grammar.{not3, and3, or3, truthOf, compared, nullity, holds}
+use Rattle.truth.specs.Grammar.{text, value, not3, and3, or3, truthOf, compared, nullity, holds}
 use Rattle.sql.specs.Condition as sql
-use Rattle.time.specs.FilterTruth.{condTruth, isValue}
+use Rattle.time.specs.FilterTruth.{treeAtom, endAtom, valueOn, endOn, condTruth, isValue}
 
 -- The tables.
 
@@ -185,3 +189,20 @@ check-ids v c i j base = go (c i) (c j)
     go true false = refl
     go false true = refl
     go false false = refl
+
+-- Ends by their slots.
+
+-- what holds of the string that a slot spells and of the tree's value holds of the end's value
+pub end-on : (P : Found → Bool) (cs : List Column) (slot : Slot) (t : Tree) → P (has (val (openEnd slot))) ≡ true → P (valueOn cs t) ≡ true
+    → P (endOn cs slot t) ≡ true
+unfolding endOn endAtom valueOn value
+end-on P cs slot t e f = go (eqb (kindOf t) UNBOUNDED)
+  where
+    go : (b : Bool) → P (value cs (pick b (text (openEnd slot)) (treeAtom t))) ≡ true
+    go true = e
+    go false = f
+
+-- the slot of an end that is not open does not matter
+pub closed-end : (cs : List Column) (slot : Slot) (t : Tree) → eqb (kindOf t) UNBOUNDED ≡ false → endOn cs slot t ≡ valueOn cs t
+unfolding endOn endAtom valueOn
+closed-end cs slot t e = ap (λ b. value cs (pick b (text (openEnd slot)) (treeAtom t))) e
