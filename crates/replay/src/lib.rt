@@ -5,6 +5,7 @@ ghost use Prim.Native.Nat.{_<_};
 ghost use lib.Dec.{eqb};
 ghost use Rattle.prelude.specs.Choice.{all};
 ghost use Rattle.replay.specs.Tally.{tallied};
+ghost use Rattle.replay.specs.declared.Turn.the-variants.{End};
 use libc::STDOUT_FILENO;
 
 // More cases than any file has.
@@ -49,8 +50,10 @@ pub fn end_line() {
     io::write_all(STDOUT_FILENO, b"\n");
 }
 
-// Says that the file breaks off inside a case.
-pub fn broken() -> Turn {
+// Says that the file breaks off inside a case, and that none is left.
+pub fn broken() -> Turn
+    ensures { λ r. ⌜ r ≡ End ⌝ }
+{
     io::write_all(STDOUT_FILENO, b"the file of cases is broken\n");
     Turn::End
 }

@@ -100,21 +100,21 @@ bare-token (b ∷ r) k e c =
     tokens-one b (r ++ k) NAME (length r) (start-no-space b (h .0)) l
     ∙ rw (take-append-seam r k, drop-append-seam r k)
 
-quoted-token : (n k : List ℕ) → name n ≡ true → tokens (34 ∷ (n ++ (34 ∷ k))) ≡ tok QUOTED (34 ∷ (n ++ (34 ∷ []))) ∷ tokens k
+quoted-token : (n k : List ℕ) → name n ≡ true → tokens (bytes "\"" ++ (n ++ (bytes "\"" ++ k))) ≡ tok QUOTED (bytes "\"" ++ (n ++ bytes "\"")) ∷ tokens k
 unfolding lexeme quoteKind nameStart letter run nameByte digit
 quoted-token n k e =
-    let q : run nameByte (n ++ (34 ∷ k)) ≡ length n = run-all nameByte n (34 ∷ k) (name-bytes n e) refl in
-    let l : lexeme 34 (n ++ (34 ∷ k)) ≡ (QUOTED, length n + 1) = rw (q, getD-append-seam n 34 k 0, take-append-seam n (34 ∷ k), e) in
-    tokens-one 34 (n ++ (34 ∷ k)) QUOTED (length n + 1) refl l
-    ∙ rw (take-append-add n (34 ∷ k) 1, drop-append-add n (34 ∷ k) 1)
+    let q : run nameByte (n ++ (bytes "\"" ++ k)) ≡ length n = run-all nameByte n (bytes "\"" ++ k) (name-bytes n e) refl in
+    let l : lexeme 34 (n ++ (bytes "\"" ++ k)) ≡ (QUOTED, length n + 1) = rw (q, getD-append-seam n 34 k 0, take-append-seam n (bytes "\"" ++ k), e) in
+    tokens-one 34 (n ++ (bytes "\"" ++ k)) QUOTED (length n + 1) refl l
+    ∙ rw (take-append-add n (bytes "\"" ++ k) 1, drop-append-add n (bytes "\"" ++ k) 1)
 
-text-token : (s k : List ℕ) → all strByte s ≡ true → tokens (39 ∷ (s ++ (39 ∷ k))) ≡ tok TEXT (39 ∷ (s ++ (39 ∷ []))) ∷ tokens k
+text-token : (s k : List ℕ) → all strByte s ≡ true → tokens (bytes "'" ++ (s ++ (bytes "'" ++ k))) ≡ tok TEXT (bytes "'" ++ (s ++ bytes "'")) ∷ tokens k
 unfolding lexeme quoteKind nameStart letter run strByte
 text-token s k e =
-    let q : run strByte (s ++ (39 ∷ k)) ≡ length s = run-all strByte s (39 ∷ k) e refl in
-    let l : lexeme 39 (s ++ (39 ∷ k)) ≡ (TEXT, length s + 1) = rw (q, getD-append-seam s 39 k 0) in
-    tokens-one 39 (s ++ (39 ∷ k)) TEXT (length s + 1) refl l
-    ∙ rw (take-append-add s (39 ∷ k) 1, drop-append-add s (39 ∷ k) 1)
+    let q : run strByte (s ++ (bytes "'" ++ k)) ≡ length s = run-all strByte s (bytes "'" ++ k) e refl in
+    let l : lexeme 39 (s ++ (bytes "'" ++ k)) ≡ (TEXT, length s + 1) = rw (q, getD-append-seam s 39 k 0) in
+    tokens-one 39 (s ++ (bytes "'" ++ k)) TEXT (length s + 1) refl l
+    ∙ rw (take-append-add s (bytes "'" ++ k) 1, drop-append-add s (bytes "'" ++ k) 1)
 
 null-token : {k : List ℕ} → Break k → tokens (bytes "NULL" ++ k) ≡ tok NULL (bytes "NULL") ∷ tokens k
 unfolding lexeme nameStart nameByte letter digit run wordKind upper same
@@ -141,7 +141,7 @@ not-null-tokens {k} c =
     tokens-space _ ∙ (tokens-one 78 (bytes "OT NULL" ++ k) NOT 2 refl refl
     ∙ ap (λ l. tok NOT (bytes "NOT") ∷ l) (tokens-space _ ∙ null-token c))
 
-is-token : (k : List ℕ) → tokens (bytes " IS " ++ k) ≡ tok IS (bytes "IS") ∷ tokens (32 ∷ k)
+is-token : (k : List ℕ) → tokens (bytes " IS " ++ k) ≡ tok IS (bytes "IS") ∷ tokens (bytes " " ++ k)
 unfolding lexeme nameStart nameByte letter digit run wordKind upper same
 is-token k = tokens-space _ ∙ tokens-one 73 (bytes "S " ++ k) IS 1 refl refl
 
@@ -162,22 +162,22 @@ inner-is q s =
     let e : length (q ∷ (s ++ (q ∷ []))) - 2 ≡ length s = omega arith in
     rw (e, take-append-seam s (q ∷ []))
 
-pub quoted-atom : (n : List ℕ) → name n ≡ true → AtomText (34 ∷ (n ++ (34 ∷ []))) (column n)
+pub quoted-atom : (n : List ℕ) → name n ≡ true → AtomText (bytes "\"" ++ (n ++ bytes "\"")) (column n)
 unfolding kind body atomOf
 quoted-atom n e =
     record {
-      token = tok QUOTED (34 ∷ (n ++ (34 ∷ [])));
-      lexed = λ {k} c. ap (λ l. tokens (34 ∷ l)) (append-assoc n (34 ∷ []) k) ∙ quoted-token n k e;
+      token = tok QUOTED (bytes "\"" ++ (n ++ bytes "\""));
+      lexed = λ {k} c. ap (λ l. tokens (bytes "\"" ++ l)) (append-assoc n (bytes "\"") k) ∙ quoted-token n k e;
       kinded = refl;
       means = λ ts. ap column (inner-is 34 n);
     }
 
-pub text-atom : (s : List ℕ) → all strByte s ≡ true → AtomText (39 ∷ (s ++ (39 ∷ []))) (text s)
+pub text-atom : (s : List ℕ) → all strByte s ≡ true → AtomText (bytes "'" ++ (s ++ bytes "'")) (text s)
 unfolding kind body atomOf
 text-atom s e =
     record {
-      token = tok TEXT (39 ∷ (s ++ (39 ∷ [])));
-      lexed = λ {k} c. ap (λ l. tokens (39 ∷ l)) (append-assoc s (39 ∷ []) k) ∙ text-token s k e;
+      token = tok TEXT (bytes "'" ++ (s ++ bytes "'"));
+      lexed = λ {k} c. ap (λ l. tokens (bytes "'" ++ l)) (append-assoc s (bytes "'") k) ∙ text-token s k e;
       kinded = refl;
       means = λ ts. ap text (inner-is 39 s);
     }
@@ -192,20 +192,20 @@ not-kind k j p q e = let z : _≡_ {A = ℕ} 0 1 = cc (ap isAtom e) in omega ari
 
 -- Signs between spaces.
 pub record SignText (w : List ℕ) (n : ℕ) : Type 0 where
-  pub lexed : (k : List ℕ) → tokens (32 ∷ (w ++ (32 ∷ k))) ≡ tok n w ∷ tokens k
+  pub lexed : (k : List ℕ) → tokens (bytes " " ++ (w ++ (bytes " " ++ k))) ≡ tok n w ∷ tokens k
   pub isSign : between LT n NE ≡ true
 
-pub sign-lt : SignText (60 ∷ []) LT
+pub sign-lt : SignText (bytes "<") LT
 unfolding lexeme nameStart letter signKind signMore
-sign-lt = record { lexed = λ k. tokens-space _ ∙ (tokens-one 60 (32 ∷ k) LT 0 refl refl ∙ ap (λ l. tok LT (60 ∷ []) ∷ l) (tokens-space k)); isSign = refl }
+sign-lt = record { lexed = λ k. tokens-space _ ∙ (tokens-one 60 (bytes " " ++ k) LT 0 refl refl ∙ ap (λ l. tok LT (bytes "<") ∷ l) (tokens-space k)); isSign = refl }
 
-pub sign-gt : SignText (62 ∷ []) GT
+pub sign-gt : SignText (bytes ">") GT
 unfolding lexeme nameStart letter signKind signMore
-sign-gt = record { lexed = λ k. tokens-space _ ∙ (tokens-one 62 (32 ∷ k) GT 0 refl refl ∙ ap (λ l. tok GT (62 ∷ []) ∷ l) (tokens-space k)); isSign = refl }
+sign-gt = record { lexed = λ k. tokens-space _ ∙ (tokens-one 62 (bytes " " ++ k) GT 0 refl refl ∙ ap (λ l. tok GT (bytes ">") ∷ l) (tokens-space k)); isSign = refl }
 
-pub sign-eq : SignText (61 ∷ []) EQ
+pub sign-eq : SignText (bytes "=") EQ
 unfolding lexeme nameStart letter signKind signMore
-sign-eq = record { lexed = λ k. tokens-space _ ∙ (tokens-one 61 (32 ∷ k) EQ 0 refl refl ∙ ap (λ l. tok EQ (61 ∷ []) ∷ l) (tokens-space k)); isSign = refl }
+sign-eq = record { lexed = λ k. tokens-space _ ∙ (tokens-one 61 (bytes " " ++ k) EQ 0 refl refl ∙ ap (λ l. tok EQ (bytes "=") ∷ l) (tokens-space k)); isSign = refl }
 
 pub sign-le : SignText (bytes "<=") LE
 unfolding lexeme nameStart letter signKind signMore
@@ -244,15 +244,15 @@ simple-atom t ts a =
     rw (ne-eqb (t .kind) TRUE (not-kind (t .kind) TRUE a refl), ne-eqb (t .kind) FALSE (not-kind (t .kind) FALSE a refl), a)
 
 compare-tokens : (s w t k : List ℕ) (a b : Atom) (n : ℕ) (A : AtomText s a) → SignText w n → (B : AtomText t b) → Break k
-    → tokens ((s ++ (32 ∷ (w ++ (32 ∷ t)))) ++ k) ≡ A .token ∷ (tok n w ∷ (B .token ∷ tokens k))
+    → tokens ((s ++ (bytes " " ++ (w ++ (bytes " " ++ t)))) ++ k) ≡ A .token ∷ (tok n w ∷ (B .token ∷ tokens k))
 compare-tokens s w t k a b n A S B c =
-    ap tokens (append-assoc s (32 ∷ (w ++ (32 ∷ t))) k ∙ ap (λ l. s ++ (32 ∷ l)) (append-assoc w (32 ∷ t) k))
+    ap tokens (append-assoc s (bytes " " ++ (w ++ (bytes " " ++ t))) k ∙ ap (λ l. s ++ (bytes " " ++ l)) (append-assoc w (bytes " " ++ t) k))
     ∙ (A .lexed (at-space _) ∙ ap (λ l. A .token ∷ l) (S .lexed (t ++ k) ∙ ap (λ l. tok n w ∷ l) (B .lexed c)))
 
-pub compare-item : {s w t : List ℕ} {a b : Atom} {n : ℕ} → AtomText s a → SignText w n → AtomText t b → Item (s ++ (32 ∷ (w ++ (32 ∷ t)))) (cmp n a b)
+pub compare-item : {s w t : List ℕ} {a b : Atom} {n : ℕ} → AtomText s a → SignText w n → AtomText t b → Item (s ++ (bytes " " ++ (w ++ (bytes " " ++ t)))) (cmp n a b)
 unfolding fromAtom kind rest
 compare-item {s} {w} {t} {a} {b} {n} A S B =
-    from-tokens (s ++ (32 ∷ (w ++ (32 ∷ t)))) (cmp n a b) (A .token) (A .kinded) (λ r. tok n w ∷ (B .token ∷ r))
+    from-tokens (s ++ (bytes " " ++ (w ++ (bytes " " ++ t)))) (cmp n a b) (A .token) (A .kinded) (λ r. tok n w ∷ (B .token ∷ r))
     (λ k c. compare-tokens s w t k a b n A S B (c .breaks))
     (λ k c. simple-atom (A .token) (tok n w ∷ (B .token ∷ tokens k)) (A .kinded) ∙ rw (S .isSign, B .kinded, A .means _, B .means _))
 
@@ -291,7 +291,7 @@ pub bare-name : (n : List ℕ) → name n ≡ true → NameText n n
 unfolding bare-atom
 bare-name n e = record { atom = bare-atom n e; named = refl }
 
-pub quoted-name : (n : List ℕ) → name n ≡ true → NameText (34 ∷ (n ++ (34 ∷ []))) n
+pub quoted-name : (n : List ℕ) → name n ≡ true → NameText (bytes "\"" ++ (n ++ bytes "\"")) n
 unfolding quoted-atom
 quoted-name n e = record { atom = quoted-atom n e; named = refl }
 

@@ -58,17 +58,17 @@ module _ {end : ℕ → List ℕ} {a : ℕ → Atom} {col : ℕ → Bool} (E : E
   unfolding print condAst
   guard-is d i p c =
       let n = E .names i p c in
-      let t = ap (λ l. 34 ∷ l) (append-assoc (end i) (34 ∷ []) (bytes " IS NOT NULL")) in
+      let t = ap (λ l. bytes "\"" ++ l) (append-assoc (end i) (bytes "\"") (bytes " IS NOT NULL")) in
       let q = subst (λ (l : List ℕ). Item l (neg (isNull (column (end i))))) t (is-not-null-item (quoted-name (end i) (n .1))) in
-      item (subst (λ (b : Atom). Item (34 ∷ (end i ++ bytes "\" IS NOT NULL")) (neg (isNull b))) (sym (n .0)) q)
+      item (subst (λ (b : Atom). Item (bytes "\"" ++ (end i ++ bytes "\" IS NOT NULL")) (neg (isNull b))) (sym (n .0)) q)
 
   guard-not : (d i : ℕ) → i < 4 → col i ≡ true → Prints d 0 (print end (sql.notNull i)) (condAst a (sql.notNull i))
   unfolding print condAst
   guard-not d i p c =
       let n = E .names i p c in
-      let t = ap (λ l. 34 ∷ l) (append-assoc (end i) (34 ∷ []) (bytes " NOT NULL")) in
+      let t = ap (λ l. bytes "\"" ++ l) (append-assoc (end i) (bytes "\"") (bytes " NOT NULL")) in
       let q = subst (λ (l : List ℕ). Item l (neg (isNull (column (end i))))) t (not-null-item (quoted-name (end i) (n .1))) in
-      item (subst (λ (b : Atom). Item (34 ∷ (end i ++ bytes "\" NOT NULL")) (neg (isNull b))) (sym (n .0)) q)
+      item (subst (λ (b : Atom). Item (bytes "\"" ++ (end i ++ bytes "\" NOT NULL")) (neg (isNull b))) (sym (n .0)) q)
 
   -- check_ids: a guard in front of a test
   guarded : (d i : ℕ) (base : Cond) → i < 4 → Prints d 0 (print end base) (condAst a base)

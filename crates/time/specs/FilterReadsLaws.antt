@@ -72,15 +72,15 @@ low-str (suc w) n =
 date-str : (y m d : ℕ) → all strByte (literal.date y m d) ≡ true
 unfolding literal.date all strByte
 date-str y m d =
-    all-append strByte (low 4 y) (45 ∷ (low 2 m ++ (45 ∷ low 2 d))) (low-str 4 y)
-    (all-append strByte (low 2 m) (45 ∷ low 2 d) (low-str 2 m) (low-str 2 d))
+    all-append strByte (low 4 y) (bytes "-" ++ (low 2 m ++ (bytes "-" ++ low 2 d))) (low-str 4 y)
+    (all-append strByte (low 2 m) (bytes "-" ++ low 2 d) (low-str 2 m) (low-str 2 d))
 
 timestamp-str : (y m d h i s : ℕ) → all strByte (literal.timestamp y m d h i s) ≡ true
 unfolding literal.timestamp literal.clock all strByte
 timestamp-str y m d h i s =
-    all-append strByte (literal.date y m d) (84 ∷ (low 2 h ++ (58 ∷ (low 2 i ++ (58 ∷ low 2 s))))) (date-str y m d)
-    (all-append strByte (low 2 h) (58 ∷ (low 2 i ++ (58 ∷ low 2 s))) (low-str 2 h)
-    (all-append strByte (low 2 i) (58 ∷ low 2 s) (low-str 2 i) (low-str 2 s)))
+    all-append strByte (literal.date y m d) (bytes "T" ++ (low 2 h ++ (bytes ":" ++ (low 2 i ++ (bytes ":" ++ low 2 s))))) (date-str y m d)
+    (all-append strByte (low 2 h) (bytes ":" ++ (low 2 i ++ (bytes ":" ++ low 2 s))) (low-str 2 h)
+    (all-append strByte (low 2 i) (bytes ":" ++ low 2 s) (low-str 2 i) (low-str 2 s)))
 
 -- the text of an end in its slot is that of its atom
 pub end-text : (g : Settings) (slot : Slot) (t : Tree) (n : ℕ) → isEnd t ≡ true → Good t n → AtomText (endText slot t (gpkg.text g t)) (endAtom slot t)
@@ -101,7 +101,7 @@ comparable-text g t n e x = go t (comparable-is t e) x
   where
     go : (t : Tree) → ComparableIs t → Good t n → AtomText (gpkg.text g t) (treeAtom t)
     go t (comparable-str f s e) x =
-        let q : literal.strText (g .ci) (g .ai) (g .cai) f s ≡ 39 ∷ (s ++ (39 ∷ [])) = rw e (append-nil (39 ∷ (s ++ (39 ∷ [])))) in
+        let q : literal.strText (g .ci) (g .ai) (g .cai) f s ≡ bytes "'" ++ (s ++ bytes "'") = rw e (append-nil (bytes "'" ++ (s ++ bytes "'"))) in
         subst (λ (l : List ℕ). AtomText l (text s)) (sym q) (text-atom s (x .3))
     go t (comparable-date y m d) x = text-atom (literal.date y m d) (date-str y m d)
     go t (comparable-timestamp y m d h i s) x = text-atom (literal.timestamp y m d h i s) (timestamp-str y m d h i s)
@@ -297,7 +297,7 @@ module _ (g : Settings) where
 
   -- comparisons
   module _ (n : ℕ) (t u : Tree) (p : isLiteralOrId t ≡ true) (q : isLiteralOrId u ≡ true) (A : AtomText (gpkg.text g t) (treeAtom t)) (B : AtomText (gpkg.text g u) (treeAtom u)) where
-    compared-as : {w : List ℕ} {k : ℕ} → SignText w k → Prints (room n) 3 (bare (isLiteralOrId t) (gpkg.text g t) ++ (32 ∷ (w ++ (32 ∷ bare (isLiteralOrId u) (gpkg.text g u))))) (cmp k (treeAtom t) (treeAtom u))
+    compared-as : {w : List ℕ} {k : ℕ} → SignText w k → Prints (room n) 3 (bare (isLiteralOrId t) (gpkg.text g t) ++ (bytes " " ++ (w ++ (bytes " " ++ bare (isLiteralOrId u) (gpkg.text g u))))) (cmp k (treeAtom t) (treeAtom u))
     compared-as S = rw (p, q) (lift {l = 0} {m = 3} (omega arith) (item (compare-item A S B)))
 
     compares-shown : AllOf (λ o. Shown n (dyadic o t u)) (Eq ∷ Neq ∷ Lt ∷ Gt ∷ Lte ∷ Gte ∷ [])

@@ -18,8 +18,8 @@ use Rattle.charset.specs.Charset.{letter, digit, nameStart, nameByte, upper}
 -- what may stand after a word: nothing, a space or a closing bracket
 pub data Break : List ℕ → Type 0 where
   at-end : Break []
-  at-space : (k : List ℕ) → Break (32 ∷ k)
-  at-close : (k : List ℕ) → Break (41 ∷ k)
+  at-space : (k : List ℕ) → Break (bytes " " ++ k)
+  at-close : (k : List ℕ) → Break (bytes ")" ++ k)
 
 -- and after a test: no sign of comparison either
 pub record Boundary (k : List ℕ) : Type 0 where
@@ -30,11 +30,11 @@ abbrev pub tok : ℕ → List ℕ → Token
 tok k b = record { kind = k; body = b }
 
 -- signs and words
-open-token : (k : List ℕ) → tokens (40 ∷ k) ≡ tok OPEN (40 ∷ []) ∷ tokens k
+open-token : (k : List ℕ) → tokens (bytes "(" ++ k) ≡ tok OPEN (bytes "(") ∷ tokens k
 unfolding lexeme nameStart letter signKind signMore
 open-token k = tokens-one 40 k OPEN 0 refl refl
 
-close-token : (k : List ℕ) → tokens (41 ∷ k) ≡ tok CLOSE (41 ∷ []) ∷ tokens k
+close-token : (k : List ℕ) → tokens (bytes ")" ++ k) ≡ tok CLOSE (bytes ")") ∷ tokens k
 unfolding lexeme nameStart letter signKind signMore
 close-token k = tokens-one 41 k CLOSE 0 refl refl
 
@@ -46,7 +46,7 @@ or-token : (k : List ℕ) → tokens (bytes " OR " ++ k) ≡ tok OR (bytes "OR")
 unfolding lexeme nameStart nameByte letter digit run wordKind upper same
 or-token k = tokens-space _ ∙ tokens-one 79 (bytes "R " ++ k) OR 1 refl refl ∙ ap (λ l. tok OR (bytes "OR") ∷ l) (tokens-space k)
 
-not-open-tokens : (k : List ℕ) → tokens (bytes "NOT(" ++ k) ≡ tok NOT (bytes "NOT") ∷ (tok OPEN (40 ∷ []) ∷ tokens k)
+not-open-tokens : (k : List ℕ) → tokens (bytes "NOT(" ++ k) ≡ tok NOT (bytes "NOT") ∷ (tok OPEN (bytes "(") ∷ tokens k)
 unfolding lexeme nameStart nameByte letter digit run wordKind upper same
 not-open-tokens k = tokens-one 78 (bytes "OT(" ++ k) NOT 2 refl refl ∙ ap (λ l. tok NOT (bytes "NOT") ∷ l) (open-token k)
 
@@ -63,8 +63,8 @@ pub record Item (s : List ℕ) (x : Ast) : Type 0 where
 pub data Prints : ℕ → ℕ → List ℕ → Ast → Type 0 where
   item : {d : ℕ} {s : List ℕ} {x : Ast} → Item s x → Prints d 0 s x
   lift : {d l m : ℕ} {s : List ℕ} {x : Ast} → l ≤ m → Prints d l s x → Prints d m s x
-  bracket : {d l : ℕ} {s : List ℕ} {x : Ast} → l ≤ 3 → Prints d l s x → Prints (suc d) 0 (40 ∷ (s ++ (41 ∷ []))) x
-  not-bracket : {d l : ℕ} {s : List ℕ} {x : Ast} → l ≤ 3 → Prints d l s x → Prints (suc d) 1 (bytes "NOT(" ++ (s ++ (41 ∷ []))) (neg x)
+  bracket : {d l : ℕ} {s : List ℕ} {x : Ast} → l ≤ 3 → Prints d l s x → Prints (suc d) 0 (bytes "(" ++ (s ++ bytes ")")) x
+  not-bracket : {d l : ℕ} {s : List ℕ} {x : Ast} → l ≤ 3 → Prints d l s x → Prints (suc d) 1 (bytes "NOT(" ++ (s ++ bytes ")")) (neg x)
   not-word : {d l : ℕ} {s : List ℕ} {x : Ast} → l ≤ 1 → Prints d l s x → Prints d 1 (bytes "NOT " ++ s) (neg x)
   and-join : {d l m : ℕ} {s t : List ℕ} {x y : Ast} → l ≤ 2 → m ≤ 1 → Prints d l s x → Prints d m t y
       → Prints d 2 (s ++ (bytes " AND " ++ t)) (conj x y)
@@ -75,7 +75,7 @@ end-boundary : Boundary []
 unfolding kind tokens tokensIn
 end-boundary = record { breaks = at-end; calm = refl }
 
-close-boundary : (k : List ℕ) → Boundary (41 ∷ k)
+close-boundary : (k : List ℕ) → Boundary (bytes ")" ++ k)
 unfolding kind
 close-boundary k = record { breaks = at-close k; calm = rw (close-token k) refl }
 
@@ -186,54 +186,54 @@ item-back d s x i = from-nots d 0 s x (λ k b n q. go k b n q)
     go k b (suc (suc n)) q =
         not-pass (suc n) d (tokens (s ++ k)) (i .no-not k b) ∙ (test-pass n d (tokens (s ++ k)) (i .no-open k b) ∙ i .reads k b)
 
-close-kind : (k : List ℕ) → kind (tokens (41 ∷ k)) ≡ CLOSE
+close-kind : (k : List ℕ) → kind (tokens (bytes ")" ++ k)) ≡ CLOSE
 unfolding kind
 close-kind k = rw (close-token k) refl
 
 -- between brackets
-inside : (d l : ℕ) (s : List ℕ) (x : Ast) → Back d l s x → l ≤ 3 → (k : List ℕ) (n : ℕ) → 4 * length (s ++ (41 ∷ k)) + 4 ≤ n
-    → orE n d (tokens (s ++ (41 ∷ k))) ≡ got x (tok CLOSE (41 ∷ []) ∷ tokens k)
+inside : (d l : ℕ) (s : List ℕ) (x : Ast) → Back d l s x → l ≤ 3 → (k : List ℕ) (n : ℕ) → 4 * length (s ++ (bytes ")" ++ k)) + 4 ≤ n
+    → orE n d (tokens (s ++ (bytes ")" ++ k))) ≡ got x (tok CLOSE (bytes ")") ∷ tokens k)
 inside d l s x b h k n q =
     let c = close-kind k in
-    let r = b .ors h (41 ∷ k) (close-boundary k) (λ e. omega arith) n q in
-    r .2 ∙ (or-stop (r .0) d x (tokens (41 ∷ k)) (let w = r .1 in omega arith) (λ e. omega arith) ∙ ap (λ l. got x l) (close-token k))
+    let r = b .ors h (bytes ")" ++ k) (close-boundary k) (λ e. omega arith) n q in
+    r .2 ∙ (or-stop (r .0) d x (tokens (bytes ")" ++ k)) (let w = r .1 in omega arith) (λ e. omega arith) ∙ ap (λ l. got x l) (close-token k))
 
 -- the text of a bracket, with what stands after it
-bracket-text : (s k : List ℕ) → (40 ∷ (s ++ (41 ∷ []))) ++ k ≡ 40 ∷ (s ++ (41 ∷ k))
-bracket-text s k = ap (λ l. 40 ∷ l) (append-assoc s (41 ∷ []) k)
+bracket-text : (s k : List ℕ) → (bytes "(" ++ (s ++ bytes ")")) ++ k ≡ bytes "(" ++ (s ++ (bytes ")" ++ k))
+bracket-text s k = ap (λ l. bytes "(" ++ l) (append-assoc s (bytes ")") k)
 
-bracket-test : (d l : ℕ) (s : List ℕ) (x : Ast) → Back d l s x → l ≤ 3 → (k : List ℕ) (n : ℕ) → 4 * length (s ++ (41 ∷ k)) + 5 ≤ n
-    → test n (suc d) (tok OPEN (40 ∷ []) ∷ tokens (s ++ (41 ∷ k))) ≡ got x (tokens k)
+bracket-test : (d l : ℕ) (s : List ℕ) (x : Ast) → Back d l s x → l ≤ 3 → (k : List ℕ) (n : ℕ) → 4 * length (s ++ (bytes ")" ++ k)) + 5 ≤ n
+    → test n (suc d) (tok OPEN (bytes "(") ∷ tokens (s ++ (bytes ")" ++ k))) ≡ got x (tokens k)
 bracket-test d l s x b h k zero q = absurd (omega arith)
 bracket-test d l s x b h k (suc n) q =
-    test-open n d x (tok OPEN (40 ∷ [])) (tok CLOSE (41 ∷ [])) (tokens (s ++ (41 ∷ k))) (tokens k) refl refl (inside d l s x b h k n (omega arith))
+    test-open n d x (tok OPEN (bytes "(")) (tok CLOSE (bytes ")")) (tokens (s ++ (bytes ")" ++ k))) (tokens k) refl refl (inside d l s x b h k n (omega arith))
 
-bracket-back : (d l : ℕ) (s : List ℕ) (x : Ast) → l ≤ 3 → Back d l s x → Back (suc d) 0 (40 ∷ (s ++ (41 ∷ []))) x
+bracket-back : (d l : ℕ) (s : List ℕ) (x : Ast) → l ≤ 3 → Back d l s x → Back (suc d) 0 (bytes "(" ++ (s ++ bytes ")")) x
 unfolding kind
-bracket-back d l s x h b = from-nots (suc d) 0 (40 ∷ (s ++ (41 ∷ []))) x (λ k c n q. go k n q)
+bracket-back d l s x h b = from-nots (suc d) 0 (bytes "(" ++ (s ++ bytes ")")) x (λ k c n q. go k n q)
   where
-    go : (k : List ℕ) (n : ℕ) → 4 * length ((40 ∷ (s ++ (41 ∷ []))) ++ k) + 2 ≤ n → notE n (suc d) (tokens ((40 ∷ (s ++ (41 ∷ []))) ++ k)) ≡ got x (tokens k)
+    go : (k : List ℕ) (n : ℕ) → 4 * length ((bytes "(" ++ (s ++ bytes ")")) ++ k) + 2 ≤ n → notE n (suc d) (tokens ((bytes "(" ++ (s ++ bytes ")")) ++ k)) ≡ got x (tokens k)
     go k zero q = absurd (omega arith)
     go k (suc n) q =
-        let e : tokens ((40 ∷ (s ++ (41 ∷ []))) ++ k) ≡ tok OPEN (40 ∷ []) ∷ tokens (s ++ (41 ∷ k)) = ap tokens (bracket-text s k) ∙ open-token (s ++ (41 ∷ k)) in
+        let e : tokens ((bytes "(" ++ (s ++ bytes ")")) ++ k) ≡ tok OPEN (bytes "(") ∷ tokens (s ++ (bytes ")" ++ k)) = ap tokens (bracket-text s k) ∙ open-token (s ++ (bytes ")" ++ k)) in
         let w = ap length (bracket-text s k) in
-        rw e (not-pass n (suc d) (tok OPEN (40 ∷ []) ∷ tokens (s ++ (41 ∷ k))) (λ z. omega arith) ∙ bracket-test d l s x b h k n (omega arith))
+        rw e (not-pass n (suc d) (tok OPEN (bytes "(") ∷ tokens (s ++ (bytes ")" ++ k))) (λ z. omega arith) ∙ bracket-test d l s x b h k n (omega arith))
 
-not-bracket-back : (d l : ℕ) (s : List ℕ) (x : Ast) → l ≤ 3 → Back d l s x → Back (suc d) 1 (bytes "NOT(" ++ (s ++ (41 ∷ []))) (neg x)
+not-bracket-back : (d l : ℕ) (s : List ℕ) (x : Ast) → l ≤ 3 → Back d l s x → Back (suc d) 1 (bytes "NOT(" ++ (s ++ bytes ")")) (neg x)
 unfolding kind
-not-bracket-back d l s x h b = from-nots (suc d) 1 (bytes "NOT(" ++ (s ++ (41 ∷ []))) (neg x) (λ k c n q. go k n q)
+not-bracket-back d l s x h b = from-nots (suc d) 1 (bytes "NOT(" ++ (s ++ bytes ")")) (neg x) (λ k c n q. go k n q)
   where
-    go : (k : List ℕ) (n : ℕ) → 4 * length ((bytes "NOT(" ++ (s ++ (41 ∷ []))) ++ k) + 2 ≤ n
-        → notE n (suc d) (tokens ((bytes "NOT(" ++ (s ++ (41 ∷ []))) ++ k)) ≡ got (neg x) (tokens k)
+    go : (k : List ℕ) (n : ℕ) → 4 * length ((bytes "NOT(" ++ (s ++ bytes ")")) ++ k) + 2 ≤ n
+        → notE n (suc d) (tokens ((bytes "NOT(" ++ (s ++ bytes ")")) ++ k)) ≡ got (neg x) (tokens k)
     go k zero q = absurd (omega arith)
     go k (suc zero) q = absurd (omega arith)
     go k (suc (suc n)) q =
-        let f : (bytes "NOT(" ++ (s ++ (41 ∷ []))) ++ k ≡ bytes "NOT(" ++ (s ++ (41 ∷ k)) = ap (λ l. bytes "NOT(" ++ l) (append-assoc s (41 ∷ []) k) in
-        let e : tokens ((bytes "NOT(" ++ (s ++ (41 ∷ []))) ++ k) ≡ tok NOT (bytes "NOT") ∷ (tok OPEN (40 ∷ []) ∷ tokens (s ++ (41 ∷ k))) = ap tokens f ∙ not-open-tokens (s ++ (41 ∷ k)) in
+        let f : (bytes "NOT(" ++ (s ++ bytes ")")) ++ k ≡ bytes "NOT(" ++ (s ++ (bytes ")" ++ k)) = ap (λ l. bytes "NOT(" ++ l) (append-assoc s (bytes ")") k) in
+        let e : tokens ((bytes "NOT(" ++ (s ++ bytes ")")) ++ k) ≡ tok NOT (bytes "NOT") ∷ (tok OPEN (bytes "(") ∷ tokens (s ++ (bytes ")" ++ k))) = ap tokens f ∙ not-open-tokens (s ++ (bytes ")" ++ k)) in
         let w = ap length f in
         rw e
-        (not-go (suc n) (suc d) x (tok NOT (bytes "NOT")) (tok OPEN (40 ∷ []) ∷ tokens (s ++ (41 ∷ k))) (tokens k) refl
-        (not-pass n (suc d) (tok OPEN (40 ∷ []) ∷ tokens (s ++ (41 ∷ k))) (λ z. omega arith) ∙ bracket-test d l s x b h k n (omega arith)))
+        (not-go (suc n) (suc d) x (tok NOT (bytes "NOT")) (tok OPEN (bytes "(") ∷ tokens (s ++ (bytes ")" ++ k))) (tokens k) refl
+        (not-pass n (suc d) (tok OPEN (bytes "(") ∷ tokens (s ++ (bytes ")" ++ k))) (λ z. omega arith) ∙ bracket-test d l s x b h k n (omega arith)))
 
 not-word-back : (d l : ℕ) (s : List ℕ) (x : Ast) → l ≤ 1 → Back d l s x → Back d 1 (bytes "NOT " ++ s) (neg x)
 not-word-back d l s x h b = from-nots d 1 (bytes "NOT " ++ s) (neg x) (λ k c n q. go k c n q)
