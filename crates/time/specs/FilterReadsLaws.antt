@@ -9,6 +9,7 @@ use lib.Dec.{T}
 use lib.ListN.{getD}
 use borrow.Author.Tests.{le-leb, ne-eqb}
 use Rattle.prelude.specs.Choice.{pick, both, either, negated, all, some}
+use Rattle.prelude.specs.Bytes.{bytes}
 use Rattle.prelude.specs.ChoiceLaws.{both-true}
 use Rattle.charset.specs.Charset.{name, strByte}
 use Rattle.op.specs.declared.Op.{Op}
