@@ -73,7 +73,7 @@ pub const PRECISION_AT: usize = 6;
 
 pub const CI_AT: usize = 7;
 
-// What a caller hears of settings and a tree.
+// What checking settings and a tree answers.
 pub enum Checked {
     Valid,
     Refused(Refusal),
