@@ -1,14 +1,12 @@
 -- A part that is cut off at the end of the bytes, and where the third name of the settings stands.
 use Prim.Native.Nat.{ℕ, _+_, _-_, _≤_, _<_, min}
-use mathlib.Core.Path.{_≡_, refl, ap, sym, _∙_}
+use mathlib.Core.Path.{_≡_, ap, sym, _∙_}
 use mathlib.Core.List.{List}
 use mathlib.Core.Logic.{⊎-elim}
 use native.Mathlib.Omega.{arith}
 use native.Mathlib.Nat.{eq-zero-or-pos}
-use lib.ListN.{length, getD, take, drop, length-drop, drop-of-length-le}
+use lib.ListN.{length, take, drop, length-drop, drop-of-length-le}
 use lib.Seq.{take-all, take-nil}
-use Rattle.tree.specs.Parse.{nameAt}
-use Rattle.tree.specs.Accepted.{caiAt}
 
 pub clip-from : (s : List ℕ) (n from : ℕ) → from ≡ min n (length s) → take (length s - from) (drop from s) ≡ drop n s
 clip-from s n from e =

@@ -12,7 +12,8 @@ use Rattle.tree.specs.Tests.{isInterval, isId, startOf, stopOf, first, second, 
 use Rattle.sql.specs.declared.End as end
 use Rattle.sql.specs.declared.End.the-variants.{Column, Instant, Other, Open, Null}
 use Rattle.sql.specs.declared.Operand.the-variants.{Single, Interval}
-use Rattle.gpkg.specs.PlanWords.{Inside, part, Is, IsOperand, Stands, EndOf, sound}
+use Rattle.gpkg.specs.EndWords.{Is, IsOperand}
+use Rattle.gpkg.specs.RecordWords.{Inside, part, Stands, EndOf, sound}
 use Rattle.gpkg.proofs.RecordLaws.{bodyOf, kind-at, beyond, part-at, ends-at, size-of, long-at}
 use Rattle.gpkg.proofs.LiteralLaws.{id-no, id-true, body-at}
 use Rattle.tree.specs.TestsLaws.{OfKind, of-null, of-unbounded, of-interval, kind-is}

@@ -15,7 +15,8 @@ use Rattle.tree.specs.ByteLaws.{le16-le, le32-le, le64-le, signed-twos, twos-lo
 use Rattle.tree.specs.Tree.{Tree, Settings, encode, twos, dateBytes, null, unbounded, bool, num, str, date, timestamp, spatial, id, monadic, dyadic, function, array, interval, kindOf}
 use Rattle.literal.specs.Literal.{numText, boolText, dateText, timestampText, spatialText, quoted, collate, strText}
 use Rattle.gpkg.specs.Text.{text}
-use Rattle.gpkg.specs.PlanWords.{leafText, sound, collation}
+use Rattle.gpkg.specs.LeafWords.{leafText, collation}
+use Rattle.gpkg.specs.RecordWords.{sound}
 
 -- a Bool is not both
 pub clash : {A : Type 0} → _≡_ {A = Bool} false true → A

@@ -10,7 +10,7 @@ use Rattle.prelude.specs.Choice.{both, either, between}
 use Rattle.record.specs.Record.{le16, recordOf}
 use Rattle.tree.specs.Tree.{Tree, Trees, encode, encodes, null, unbounded, bool, num, str, date, timestamp, spatial, id, monadic, dyadic, function, array, interval, none, _then_, kindOf}
 use Rattle.tree.specs.Tests.{isLiteral, allLiteral, isId, isLiteralOrId, everywhereIn, everywhere}
-use Rattle.gpkg.specs.PlanWords.{EndOf}
+use Rattle.gpkg.specs.RecordWords.{EndOf}
 use Rattle.gpkg.proofs.RecordLaws.{bodyOf, shape, kind-at, beyond, long, long-at}
 use Rattle.tree.specs.TestsLaws.{OfKind, of-array, kind-is}
 use borrow.Author.Tests.{eq-eqb, ne-eqb}

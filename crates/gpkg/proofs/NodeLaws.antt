@@ -26,7 +26,9 @@ use Rattle.sql.specs.Template.{fill, templateOf}
 use Rattle.sql.specs.TemplateLaws.{translate-fills, translate-same}
 use Rattle.gpkg.specs.Text.{bare, reducePrecision, monadicText, reduces, endText, startText, stopText, boundText, dyadicText, text, children, texts}
 use Rattle.op.specs.Spelling.{word}
-use Rattle.gpkg.specs.PlanWords.{twin, twinOf, underOf, operandOf, itemsOf, nameOf, beforeText, behindText, collationFlags, slot, reducedText, infixText, leftBare, rightBare}
+use Rattle.gpkg.specs.EndWords.{slot}
+use Rattle.gpkg.specs.FormWords.{twin, twinOf, underOf, operandOf, itemsOf, beforeText, behindText, collationFlags, reducedText, infixText, leftBare, rightBare}
+use Rattle.gpkg.specs.LeafWords.{nameOf}
 use Rattle.tree.specs.TestsLaws.{OfKind, of-unbounded, of-array, of-interval, kind-is, interval-is}
 use borrow.Author.Tests.{eqb-true}
 

@@ -16,7 +16,10 @@ use Rattle.tree.specs.Tree.{Tree, Trees, encode, encodes, monadic, array, none,
 use Rattle.tree.specs.Tests.{first, second, endsOf, isItems, children}
 use Rattle.sql.specs.declared.Operand as operand
 use Rattle.sql.specs.Ends.{unfoldExpressions}
-use Rattle.gpkg.specs.PlanWords.{IsOperand, Stands, EndOf, Are, sound, sounds, twin, twinOf, underOf, itemsOf, operandOf, Bound, gone, item}
+use Rattle.gpkg.specs.EndWords.{IsOperand, Are}
+use Rattle.gpkg.specs.FormWords.{twin, twinOf, underOf, itemsOf, operandOf}
+use Rattle.gpkg.specs.NodeWords.{Bound, gone, item}
+use Rattle.gpkg.specs.RecordWords.{Stands, EndOf, sound, sounds}
 use Rattle.gpkg.proofs.RecordLaws.{bodyOf, beyond, ends-at, size-of}
 use Rattle.gpkg.proofs.LiteralLaws.{body-at}
 use Rattle.gpkg.proofs.EndLaws.{stands-kind, stands-part, both-first, both-second}

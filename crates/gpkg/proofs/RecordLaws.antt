@@ -10,7 +10,7 @@ use Rattle.prelude.specs.Choice.{pick}
 use Rattle.record.specs.Record.{le, le16, le32, recordOf}
 use Rattle.op.specs.Op.{opNumber}
 use Rattle.tree.specs.Tree.{Tree, encode, encodes, twos, dateBytes, counted, null, unbounded, bool, num, str, date, timestamp, spatial, id, monadic, dyadic, function, array, interval, kindOf}
-use Rattle.gpkg.specs.PlanWords.{part, EndOf}
+use Rattle.gpkg.specs.RecordWords.{part, EndOf}
 
 abbrev pub bodyOf : Tree → List ℕ
 bodyOf null = []

@@ -19,7 +19,9 @@ use Rattle.sql.specs.Ends.{columns}
 use Rattle.sql.specs.Template.{fill, templateOf}
 use Rattle.sql.specs.Translators.{translate}
 use Rattle.gpkg.specs.Text.{text}
-use Rattle.gpkg.specs.PlanWords.{Are, Node, one, two, nodeEnds, part, slot}
+use Rattle.gpkg.specs.EndWords.{Are, nodeEnds, slot}
+use Rattle.gpkg.specs.NodeWords.{Node, one, two}
+use Rattle.gpkg.specs.RecordWords.{part}
 use Rattle.gpkg.proofs.LiteralLaws.{kind-whole}
 use Rattle.gpkg.proofs.EndLaws.{stands-part}
 use Rattle.gpkg.proofs.NodeLaws.{is-between, is-spatial, is-temporal, apart, temporal-fills}

@@ -32,7 +32,11 @@ use Rattle.emit.specs.Emit.{countLimit, ended}
 use Rattle.emit.specs.LaysWords.{Lays}
 use Rattle.gpkg.specs.Text.{text, texts, joined}
 use Rattle.op.specs.Spelling.{word}
-use Rattle.gpkg.specs.PlanWords.{Inside, part, Is, Are, Stands, EndOf, Node, one, two, nodeEnds, Bound, gone, item, sound, sounds, slot, endPiece, pieceOf, flatText, leafText, itemsOf, temporalOf, infixText, reducedText, leftBare, rightBare, twin, twinOf, operandOf, beforeText, behindText}
+use Rattle.gpkg.specs.EndWords.{Is, Are, nodeEnds, slot, endPiece, pieceOf, flatText, temporalOf}
+use Rattle.gpkg.specs.FormWords.{itemsOf, infixText, reducedText, leftBare, rightBare, twin, twinOf, operandOf, beforeText, behindText}
+use Rattle.gpkg.specs.LeafWords.{leafText}
+use Rattle.gpkg.specs.NodeWords.{Node, one, two, Bound, gone, item}
+use Rattle.gpkg.specs.RecordWords.{Inside, part, Stands, EndOf, sound, sounds}
 use Rattle.gpkg.proofs.RecordLaws.{beyond, size-of, long, part-at}
 use Rattle.gpkg.proofs.LiteralLaws.{kind-whole}
 use Rattle.gpkg.proofs.EndLaws.{both-first, both-second, stands-part}

@@ -2,6 +2,10 @@
 pub mod Text
 pub mod Lowered
 -- Words of private contracts.
-pub mod PlanWords
+pub mod RecordWords
+pub mod LeafWords
+pub mod EndWords
+pub mod FormWords
+pub mod NodeWords
 -- Laws.
 pub mod LoweredLaws

@@ -11,7 +11,7 @@ ghost use Rattle.prelude.specs.Choice.{pick, both, negated, between, either};
 ghost use Rattle.emit.specs.Emit.{countLimit};
 ghost use Rattle.emit.specs.LaysWords.{Lays};
 ghost use Rattle.op.specs.Spelling.{word};
-ghost use Rattle.gpkg.specs.PlanWords.{precise, twinOf, infixText, reducedText, beforeText, behindText, collationFlags, leftBare, rightBare};
+ghost use Rattle.gpkg.specs.FormWords.{precise, twinOf, infixText, reducedText, beforeText, behindText, collationFlags, leftBare, rightBare};
 ghost use Rattle.tree.specs.Accepted.{settingsIn};
 ghost use Rattle.tree.specs.Tree.{Tree, encode};
 ghost use Rattle.op.specs.declared.Op.{Op};

@@ -7,7 +7,7 @@ ghost use Rattle.tree.specs.Parse.{nameAt};
 ghost use lib.ListN.{getD, drop};
 ghost use Rattle.emit.specs.Emit.{countLimit};
 ghost use Rattle.emit.specs.LaysWords.{Lays};
-ghost use Rattle.gpkg.specs.PlanWords.{leafText, collation, nameOf};
+ghost use Rattle.gpkg.specs.LeafWords.{leafText, collation, nameOf};
 ghost use Rattle.tree.specs.Accepted.{settingsIn};
 ghost use Rattle.literal.specs.Literal.{dateText, timestampText, quoted};
 use crate::records::least;

@@ -7,7 +7,7 @@ ghost use lib.ListN.{length, drop};
 ghost use lib.Dec.{eqb};
 ghost use Rattle.prelude.specs.Choice.{between};
 ghost use Rattle.tree.specs.Tests.{isLiteral, isLiteralOrId};
-ghost use Rattle.gpkg.specs.PlanWords.{EndOf};
+ghost use Rattle.gpkg.specs.RecordWords.{EndOf};
 ghost use Rattle.tree.specs.Tree.{Tree, encode};
 use record::BODY;
 use record::KIND;
@@ -24,11 +24,11 @@ pub(crate) const OPERAND_KIND: usize = OPERAND + KIND;
 
 pub(crate) const OPERAND_BODY: usize = OPERAND + BODY;
 
-// Where a Function's name starts, past its length byte.
-pub(crate) const NAME: usize = 7;
-
 // Where that operand's own operand starts, if it is a node of one.
 pub(crate) const TWIN_OPERAND: usize = OPERAND + OPERAND;
+
+// Where a Function's name starts, past its length byte.
+pub(crate) const NAME: usize = 7;
 
 pub(crate) fn least(a: usize, b: usize) -> usize
     ensures { λ r. ⌜ r ≡ min a b ⌝ }

@@ -1,7 +1,7 @@
 -- What the calls ensure, put together.
 use mathlib.Core.Path.{ap, sym}
 use Prim.Native.Nat.{_-_}
-use Rattle.gpkg.specs.PlanWords.{endPiece}
+use Rattle.gpkg.specs.EndWords.{endPiece}
 use borrow.Author.Needs.{needs}
 use Rattle.gpkg.proofs.ends.end_piece.Statement.{statement}
 use Rattle.gpkg.proofs.ends.end_piece.Tie as tie

@@ -1,6 +1,6 @@
 -- Each branch is a case of the definition.
 use borrow.Author.Tests.{eq-eqb, ne-eqb}
-use Rattle.gpkg.specs.PlanWords.{temporalOf}
+use Rattle.gpkg.specs.EndWords.{temporalOf}
 use borrow.Author.Needs.{needs}
 use Rattle.gpkg.proofs.ends.is_temporal.Statement.{statement}
 use Rattle.gpkg.proofs.ends.is_temporal.Tie as tie

@@ -1,7 +1,7 @@
 -- Each branch is a case of the definition.
 use Prim.Native.Nat.{_-_}
 use borrow.Author.Tests.{lt-ltb, le-ltb}
-use Rattle.gpkg.specs.PlanWords.{pieceOf}
+use Rattle.gpkg.specs.EndWords.{pieceOf}
 use borrow.Author.Needs.{needs}
 use Rattle.gpkg.proofs.ends.piece_of.Statement.{statement}
 use Rattle.gpkg.proofs.ends.piece_of.Tie as tie

@@ -1,6 +1,6 @@
 -- What the calls ensure, by the case that was taken.
 use mathlib.Core.Path.{sym, ap}
-use Rattle.gpkg.specs.PlanWords.{flatText}
+use Rattle.gpkg.specs.EndWords.{flatText}
 use Rattle.emit.specs.EmitLaws.{lays, lays-of}
 use borrow.Author.Needs.{needs}
 use Rattle.gpkg.proofs.ends.put_flat.Statement.{statement}

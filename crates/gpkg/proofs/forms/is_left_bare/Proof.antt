@@ -1,7 +1,7 @@
 -- Each branch is a case of the definition.
 use mathlib.Core.Path.{sym, _∙_}
 use Prim.Native.Nat.{_-_}
-use Rattle.gpkg.specs.PlanWords.{leftBare}
+use Rattle.gpkg.specs.FormWords.{leftBare}
 use borrow.Author.Needs.{needs}
 use Rattle.gpkg.proofs.forms.is_left_bare.Statement.{statement}
 use Rattle.gpkg.proofs.forms.is_left_bare.Tie as tie

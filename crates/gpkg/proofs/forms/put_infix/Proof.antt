@@ -1,7 +1,7 @@
 -- One write after the other.
 use Prim.Native.Nat.{_-_}
 use Rattle.emit.specs.EmitLaws.{lays, lays-then}
-use Rattle.gpkg.specs.PlanWords.{infixText}
+use Rattle.gpkg.specs.FormWords.{infixText}
 use borrow.Author.Needs.{needs}
 use Rattle.gpkg.proofs.forms.put_infix.Statement.{statement}
 use Rattle.gpkg.proofs.forms.put_infix.Tie as tie

@@ -11,7 +11,7 @@ use Rattle.record.specs.Record.{le16, le32}
 use Rattle.tree.specs.Parse.{mantissa}
 use Rattle.literal.specs.Literal.{boolText, numText, spatialText}
 use Rattle.emit.specs.EmitLaws.{lays, lays-of}
-use Rattle.gpkg.specs.PlanWords.{leafText}
+use Rattle.gpkg.specs.LeafWords.{leafText}
 use Rattle.tree.specs.Accepted.{settingsIn}
 use Rattle.gpkg.proofs.LeafLaws.{str-collated}
 use borrow.Author.Needs.{needs}

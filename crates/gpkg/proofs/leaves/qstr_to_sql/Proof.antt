@@ -6,7 +6,7 @@ use lib.ListN.{getD, drop}
 use borrow.Author.Tests.{eq-eqb, ne-eqb}
 use Rattle.literal.specs.Literal.{quoted, collate}
 use Rattle.emit.specs.EmitLaws.{lays, lays-of, lays-then}
-use Rattle.gpkg.specs.PlanWords.{collation}
+use Rattle.gpkg.specs.LeafWords.{collation}
 use Rattle.tree.specs.Accepted.{settingsIn}
 use borrow.Author.Needs.{needs}
 use Rattle.gpkg.proofs.leaves.qstr_to_sql.Statement.{statement}

@@ -12,7 +12,8 @@ use Rattle.record.specs.Record.{le16}
 use Rattle.sql.specs.Template.{fill, spelt}
 use Rattle.emit.specs.Emit.{countLimit}
 use Rattle.emit.specs.LaysWords.{Lays}
-use Rattle.gpkg.specs.PlanWords.{sound, sounds, slot, nodeEnds}
+use Rattle.gpkg.specs.EndWords.{slot, nodeEnds}
+use Rattle.gpkg.specs.RecordWords.{sound, sounds}
 use Rattle.tree.specs.Accepted.{settingsIn}
 use Rattle.gpkg.proofs.WalkLaws.{Come, come-start, come-next, come-end, leaf-step, high-text, six, fourteen, listed, node-of, node-piece, name-piece, plain-step, node-step, name-step, monadic-node, monadic-step, from-bounds, all-filled, items-fall, items-short, infix-step, two-node, temporal-node, node-ends, not-temporal, bounds-range, bound-null, bound-item, between-step, spatial-step}
 use borrow.Author.Tests.{not-true, not-false}
