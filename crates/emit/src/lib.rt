@@ -1,6 +1,7 @@
 // Laying texts over lent bytes and counting where each ends: the one way in which every writer writes.
 ghost use mathlib.Core.Path.{_≡_};
 ghost use Prim.Native.Nat.{_+_, _≤_, min};
+ghost use mathlib.Core.List.{_++_};
 ghost use mathlib.Core.Bool.{true};
 ghost use lib.ListN.{length};
 ghost use lib.Seq.{sets};
@@ -71,6 +72,35 @@ pub fn put(s: &[u8], out: &mut [u8], at: usize) -> usize
         return end;
     }
     copy(s, out, at);
+    end
+}
+
+// Three texts one after the other, by one test of room.
+pub fn put_three(a: &[u8], b: &[u8], c: &[u8], out: &mut [u8], at: usize) -> usize
+    ensures { λ r. ⌜ Puts countLimit at (now (a .entry) ++ now (b .entry) ++ now (c .entry)) (now (out .entry)) (now (out .exit)) r ⌝ }
+{
+    if COUNT_LIMIT <= at {
+        return COUNT_LIMIT;
+    }
+    // Up to the limit each sum fits.
+    let second = at + a.len();
+    if COUNT_LIMIT < second {
+        return COUNT_LIMIT;
+    }
+    let third = second + b.len();
+    if COUNT_LIMIT < third {
+        return COUNT_LIMIT;
+    }
+    let end = third + c.len();
+    if COUNT_LIMIT < end {
+        return COUNT_LIMIT;
+    }
+    if out.len() < end {
+        return end;
+    }
+    copy(a, out, at);
+    copy(b, out, second);
+    copy(c, out, third);
     end
 }
 

@@ -11,6 +11,7 @@ ghost use Rattle.prelude.specs.Choice.{pick, both, negated, between, either};
 ghost use Rattle.emit.specs.Emit.{countLimit};
 ghost use Rattle.emit.specs.LaysWords.{Lays};
 ghost use Rattle.op.specs.Spelling.{word};
+ghost use Rattle.op.specs.SpellingTable.{Spells};
 ghost use Rattle.gpkg.specs.FormWords.{precise, twinOf, infixText, reducedText, beforeText, behindText, collationFlags, leftBare, rightBare};
 ghost use Rattle.tree.specs.Accepted.{settingsIn};
 ghost use Rattle.tree.specs.Tree.{Tree, encode};
@@ -33,32 +34,50 @@ use op::IS_NOT_NULL;
 use op::IS_NULL;
 use op::MINUS;
 use op::NEG;
-use op::Named;
 use op::S_OVERLAPS;
 use op::S_TOUCHES;
+use op::Spelled;
 use record::BODY;
 use record::KIND;
 use tree::ARRAY;
 use tree::MONADIC;
 use tree::PRECISION_AT;
 
-// An operator's spelling (`Op::to_sql`), if it has one.
-pub(crate) fn put_word(op: usize, out: &mut [u8], at: usize) -> usize
-    ensures { λ r. ⌜ ((o : Op) → op ≡ opNumber o → Lays countLimit at (word o) (now (out .entry)) (now (out .exit)) r) ⌝ }
+// What is written of an operator: its spelling (`Op::to_sql`), nothing where it has none.
+pub(crate) fn word_of(words: &[u8; 256], op: usize) -> &[u8]
+    requires { ⌜ Spells (now words) ⌝ }
+    ensures { λ r. ⌜ ((o : Op) → op ≡ opNumber o → now r ≡ word o) ⌝ }
 {
-    let Named::Is(o) = op::op_of(op) else {
-        return emit::ended(at, 0);
-    };
-    op::to_sql(o, out, at)
+    let spelled = op::to_sql(words, op);
+    match spelled {
+        Spelled::NoSpelling => &words[..0],
+        Spelled::At(from, to) => &words[from..to],
+    }
 }
 
 // An operator between its sides, with the brackets that close the left and open the right one.
-pub(crate) fn put_infix(a: bool, op: usize, b: bool, out: &mut [u8], at: usize) -> usize
+pub(crate) fn put_infix(
+    a: bool,
+    op: usize,
+    b: bool,
+    words: &[u8; 256],
+    out: &mut [u8],
+    at: usize,
+) -> usize
+    requires { ⌜ Spells (now words) ⌝ }
     ensures { λ r. ⌜ ((o : Op) → op ≡ opNumber o → Lays countLimit at (infixText a (word o) b) (now (out .entry)) (now (out .exit)) r) ⌝ }
 {
-    let left = emit::put_either(a, b" ", b") ", out, at);
-    let word = put_word(op, out, left);
-    emit::put_either(b, b" ", b" (", out, word)
+    let word = word_of(words, op);
+    if a {
+        if b {
+            return emit::put_three(b" ", word, b" ", out, at);
+        }
+        return emit::put_three(b" ", word, b" (", out, at);
+    }
+    if b {
+        return emit::put_three(b") ", word, b" ", out, at);
+    }
+    emit::put_three(b") ", word, b" (", out, at)
 }
 
 // The left side is written without brackets.
@@ -118,14 +137,21 @@ fn is_neg_or_minus(op: usize) -> bool
 }
 
 // What stands before the operand of a node that has one, which is bare or in brackets.
-pub(crate) fn put_before(op: usize, bare: bool, out: &mut [u8], at: usize) -> usize
+pub(crate) fn put_before(
+    op: usize,
+    bare: bool,
+    words: &[u8; 256],
+    out: &mut [u8],
+    at: usize,
+) -> usize
+    requires { ⌜ Spells (now words) ⌝ }
     ensures { λ r. ⌜ ((o : Op) → op ≡ opNumber o → Lays countLimit at (beforeText op (word o) bare) (now (out .entry)) (now (out .exit)) r) ⌝ }
 {
     if within(IS_NULL, op, IS_NOT_NULL) {
         return emit::put_either(bare, b"", b"(", out, at);
     }
     if is_neg_or_minus(op) {
-        let word = put_word(op, out, at);
+        let word = emit::put(word_of(words, op), out, at);
         return emit::put_either(bare, b" ", b" (", out, word);
     }
     emit::ended(at, 0)
@@ -150,14 +176,16 @@ pub(crate) fn put_behind(
     bare: bool,
     twin: bool,
     set: &[u8],
+    words: &[u8; 256],
     out: &mut [u8],
     at: usize,
 ) -> usize
+    requires { ⌜ Spells (now words) ⌝ }
     ensures { λ r. ⌜ ((o : Op) → op ≡ opNumber o → Lays countLimit at (behindText (settingsIn (now (set .entry))) op (word o) bare twin) (now (out .entry)) (now (out .exit)) r) ⌝ }
 {
     if within(IS_NULL, op, IS_NOT_NULL) {
         let word = emit::put_either(bare, b" ", b") ", out, at);
-        return put_word(op, out, word);
+        return emit::put(word_of(words, op), out, word);
     }
     if is_neg_or_minus(op) {
         return emit::put_either(bare, b"", b")", out, at);

@@ -31,8 +31,8 @@ use crate::forms::put_behind;
 use crate::forms::put_comma;
 use crate::forms::put_infix;
 use crate::forms::put_reduced;
-use crate::forms::put_word;
 use crate::forms::reduce_precision;
+use crate::forms::word_of;
 use crate::leaves::put_leaf;
 use crate::records::NAME;
 use crate::records::OPERAND;
@@ -58,7 +58,7 @@ use tree::ID;
 use tree::MONADIC;
 
 // The items of a list, one after the other, with a comma between.
-fn write_items(s: &[u8], set: &[u8], out: &mut [u8], at: usize) -> usize
+fn write_items(s: &[u8], set: &[u8], words: &[u8; 256], out: &mut [u8], at: usize) -> usize
     requires { ⌜ length (now s) ≤ 32768 ⌝ }
     ensures { λ r. ⌜ ((ts : Trees) → now (s .entry) ≡ encodes ts → sounds ts ≡ true → Lays countLimit at (joined (texts (settingsIn (now (set .entry))) ts)) (now (out .entry)) (now (out .exit)) r) ⌝ }
 {
@@ -67,28 +67,43 @@ fn write_items(s: &[u8], set: &[u8], out: &mut [u8], at: usize) -> usize
     while p < s.len() {
         let comma = put_comma(p, out, here);
         let z = end_of(s, p);
-        here = to_sql_impl(&s[p..z], set, out, comma);
+        here = to_sql_impl(&s[p..z], set, words, out, comma);
         p = z;
     }
     here
 }
 
 // An operator between its sides, each in brackets unless it is bare.
-fn write_infix(s: &[u8], op: usize, m: usize, set: &[u8], out: &mut [u8], at: usize) -> usize
+fn write_infix(
+    s: &[u8],
+    op: usize,
+    m: usize,
+    set: &[u8],
+    words: &[u8; 256],
+    out: &mut [u8],
+    at: usize,
+) -> usize
     requires { ⌜ (length (now s) ≤ 32768) × (8 ≤ m) × (m ≤ length (now s)) ⌝ }
     ensures { λ r. ⌜ ((t : Tree) → Node (now (s .entry)) 10 op m t → between 26 op 40 ≡ false → between 18 op 25 ≡ false → between 47 op 48 ≡ false → Lays countLimit at (text (settingsIn (now (set .entry))) t) (now (out .entry)) (now (out .exit)) r) ⌝ }
 {
     let a = is_left_bare(op, &s[OPERAND..m]);
     let b = is_right_bare(op, &s[m..]);
     let open = emit::put_either(a, b"", b"(", out, at);
-    let left = to_sql_impl(&s[OPERAND..m], set, out, open);
-    let here = put_infix(a, op, b, out, left);
-    let right = to_sql_impl(&s[m..], set, out, here);
+    let left = to_sql_impl(&s[OPERAND..m], set, words, out, open);
+    let here = put_infix(a, op, b, words, out, left);
+    let right = to_sql_impl(&s[m..], set, words, out, here);
     emit::put_either(b, b"", b")", out, right)
 }
 
 // A node of one operand.
-fn write_monadic(s: &[u8], op: usize, set: &[u8], out: &mut [u8], at: usize) -> usize
+fn write_monadic(
+    s: &[u8],
+    op: usize,
+    set: &[u8],
+    words: &[u8; 256],
+    out: &mut [u8],
+    at: usize,
+) -> usize
     requires { ⌜ (length (now s) ≤ 32768) × (14 ≤ length (now s)) ⌝ }
     ensures { λ r. ⌜ ((m : ℕ) (t : Tree) → Node (now (s .entry)) 9 op m t → Lays countLimit at (text (settingsIn (now (set .entry))) t) (now (out .entry)) (now (out .exit)) r) ⌝ }
 {
@@ -99,39 +114,63 @@ fn write_monadic(s: &[u8], op: usize, set: &[u8], out: &mut [u8], at: usize) -> 
         record::word_at(s, OPERAND_BODY),
     );
     let from = operand_from(twin, s.len());
-    let before = put_before(op, bare, out, at);
-    let here = to_sql_impl(&s[from..], set, out, before);
-    put_behind(op, bare, twin, set, out, here)
+    let before = put_before(op, bare, words, out, at);
+    let here = to_sql_impl(&s[from..], set, words, out, before);
+    put_behind(op, bare, twin, set, words, out, here)
 }
 
 // A bound of BETWEEN, or NULL where there is none.
-fn write_bound(s: &[u8], a: usize, z: usize, set: &[u8], out: &mut [u8], at: usize) -> usize
+fn write_bound(
+    s: &[u8],
+    a: usize,
+    z: usize,
+    set: &[u8],
+    words: &[u8; 256],
+    out: &mut [u8],
+    at: usize,
+) -> usize
     requires { ⌜ (length (now s) ≤ 32768) × (8 ≤ a) × (a ≤ z) × (z ≤ length (now s)) ⌝ }
     ensures { λ r. ⌜ ((x : Tree) → Bound (now (s .entry)) a z x → Lays countLimit at (text (settingsIn (now (set .entry))) x) (now (out .entry)) (now (out .exit)) r) ⌝ }
 {
     if a == z {
         return emit::put(b"NULL", out, at);
     }
-    to_sql_impl(&s[a..z], set, out, at)
+    to_sql_impl(&s[a..z], set, words, out, at)
 }
 
 // BETWEEN, whose right side is an array of its bounds.
-fn write_between(s: &[u8], op: usize, m: usize, set: &[u8], out: &mut [u8], at: usize) -> usize
+fn write_between(
+    s: &[u8],
+    op: usize,
+    m: usize,
+    set: &[u8],
+    words: &[u8; 256],
+    out: &mut [u8],
+    at: usize,
+) -> usize
     requires { ⌜ (length (now s) ≤ 32768) × (8 ≤ m) × (m ≤ length (now s)) ⌝ }
     ensures { λ r. ⌜ ((t : Tree) → Node (now (s .entry)) 10 op m t → between 47 op 48 ≡ true → Lays countLimit at (text (settingsIn (now (set .entry))) t) (now (out .entry)) (now (out .exit)) r) ⌝ }
 {
     let p = bounds_at(s, m);
     let q = end_of(s, p);
     let z = end_of(s, q);
-    let left = to_sql_impl(&s[OPERAND..m], set, out, at);
-    let word = put_infix(true, op, true, out, left);
-    let low = write_bound(s, p, q, set, out, word);
+    let left = to_sql_impl(&s[OPERAND..m], set, words, out, at);
+    let word = put_infix(true, op, true, words, out, left);
+    let low = write_bound(s, p, q, set, words, out, word);
     let upto = emit::put(b" AND ", out, low);
-    write_bound(s, q, z, set, out, upto)
+    write_bound(s, q, z, set, words, out, upto)
 }
 
 // A spatial operator: a call, of whose sides one may have its precision reduced.
-fn write_spatial(s: &[u8], op: usize, m: usize, set: &[u8], out: &mut [u8], at: usize) -> usize
+fn write_spatial(
+    s: &[u8],
+    op: usize,
+    m: usize,
+    set: &[u8],
+    words: &[u8; 256],
+    out: &mut [u8],
+    at: usize,
+) -> usize
     requires { ⌜ (length (now s) ≤ 32768) × (8 ≤ m) × (m ≤ length (now s)) ⌝ }
     ensures { λ r. ⌜ ((t : Tree) → Node (now (s .entry)) 10 op m t → between 18 op 25 ≡ true → Lays countLimit at (text (settingsIn (now (set .entry))) t) (now (out .entry)) (now (out .exit)) r) ⌝ }
 {
@@ -139,12 +178,12 @@ fn write_spatial(s: &[u8], op: usize, m: usize, set: &[u8], out: &mut [u8], at: 
     let y = is_kind(&s[m..], ID);
     let a = reduce_precision(op, x, y);
     let b = reduce_precision(op, y, x);
-    let word = put_word(op, out, at);
+    let word = emit::put(word_of(words, op), out, at);
     let open = emit::put_either(a, b"(ST_ReducePrecision(", b"(", out, word);
-    let left = to_sql_impl(&s[OPERAND..m], set, out, open);
+    let left = to_sql_impl(&s[OPERAND..m], set, words, out, open);
     let comma = put_reduced(a, set, out, left);
     let next = emit::put_either(b, b", ST_ReducePrecision(", b", ", out, comma);
-    let right = to_sql_impl(&s[m..], set, out, next);
+    let right = to_sql_impl(&s[m..], set, words, out, next);
     let close = put_reduced(b, set, out, right);
     emit::put(b")", out, close)
 }
@@ -156,6 +195,7 @@ fn write_others(
     op: usize,
     m: usize,
     set: &[u8],
+    words: &[u8; 256],
     out: &mut [u8],
     at: usize,
 ) -> usize
@@ -163,19 +203,19 @@ fn write_others(
     ensures { λ r. ⌜ ((t : Tree) → Node (now (s .entry)) kind op m t → temporalOf kind op ≡ false → Lays countLimit at (text (settingsIn (now (set .entry))) t) (now (out .entry)) (now (out .exit)) r) ⌝ }
 {
     if kind == MONADIC {
-        return write_monadic(s, op, set, out, at);
+        return write_monadic(s, op, set, words, out, at);
     }
     if within(IS_BETWEEN, op, IS_NOT_BETWEEN) {
-        return write_between(s, op, m, set, out, at);
+        return write_between(s, op, m, set, words, out, at);
     }
     if within(S_INTERSECTS, op, S_CONTAINS) {
-        return write_spatial(s, op, m, set, out, at);
+        return write_spatial(s, op, m, set, words, out, at);
     }
-    write_infix(s, op, m, set, out, at)
+    write_infix(s, op, m, set, words, out, at)
 }
 
 // The text of a node with operands: of a temporal one its template filled.
-fn write_operands(s: &[u8], set: &[u8], out: &mut [u8], at: usize) -> usize
+fn write_operands(s: &[u8], set: &[u8], words: &[u8; 256], out: &mut [u8], at: usize) -> usize
     requires { ⌜ (length (now s) ≤ 32768) × (14 ≤ length (now s)) ⌝ }
     ensures { λ r. ⌜ ((t : Tree) → now (s .entry) ≡ encode t → sound t ≡ true → 9 ≤ le16 (now (s .entry)) 4 → le16 (now (s .entry)) 4 < 11 → Lays countLimit at (text (settingsIn (now (set .entry))) t) (now (out .entry)) (now (out .exit)) r) ⌝ }
 {
@@ -183,7 +223,7 @@ fn write_operands(s: &[u8], set: &[u8], out: &mut [u8], at: usize) -> usize
     let op = record::word_at(s, BODY);
     let m = end_of(s, OPERAND);
     if !is_temporal(kind, op) {
-        return write_others(s, kind, op, m, set, out, at);
+        return write_others(s, kind, op, m, set, words, out, at);
     }
     let e = temporal_ends(s, m);
     let t = template_of(s, op, m, e);
@@ -205,7 +245,7 @@ fn write_operands(s: &[u8], set: &[u8], out: &mut [u8], at: usize) -> usize
                 if !inside(a, z, s.len()) {
                     return here;
                 }
-                here = to_sql_impl(&s[a..z], set, out, here);
+                here = to_sql_impl(&s[a..z], set, words, out, here);
             }
             Piece::Name(a, z) => {
                 if !inside(a, z, s.len()) {
@@ -219,7 +259,13 @@ fn write_operands(s: &[u8], set: &[u8], out: &mut [u8], at: usize) -> usize
 }
 
 // The text of a tree. A node and the items of its list are written by turns, each inside the other.
-pub(crate) fn to_sql_impl(s: &[u8], set: &[u8], out: &mut [u8], at: usize) -> usize
+pub(crate) fn to_sql_impl(
+    s: &[u8],
+    set: &[u8],
+    words: &[u8; 256],
+    out: &mut [u8],
+    at: usize,
+) -> usize
     requires { ⌜ length (now s) ≤ 32768 ⌝ }
     ensures { λ r. ⌜ ((t : Tree) → now (s .entry) ≡ encode t → sound t ≡ true → Lays countLimit at (text (settingsIn (now (set .entry))) t) (now (out .entry)) (now (out .exit)) r) ⌝ }
 {
@@ -241,12 +287,12 @@ pub(crate) fn to_sql_impl(s: &[u8], set: &[u8], out: &mut [u8], at: usize) -> us
         if s.len() < OPERAND_BODY {
             return emit::ended(at, 0);
         }
-        return write_operands(s, set, out, at);
+        return write_operands(s, set, words, out, at);
     }
     let to = items_at(s, kind);
     let from = least(NAME, to);
     let name = emit::put(&s[from..to], out, at);
     let open = emit::put(b"(", out, name);
-    let here = write_items(&s[to..], set, out, open);
+    let here = write_items(&s[to..], set, words, out, open);
     emit::put(b")", out, here)
 }

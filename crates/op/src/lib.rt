@@ -1,10 +1,8 @@
 ghost use mathlib.Core.Path.{_≡_};
-ghost use Prim.Native.Nat.{_≤_, _<_};
-ghost use mathlib.Core.Bool.{true, false};
+ghost use Prim.Native.Nat.{_<_};
 ghost use Rattle.prelude.specs.Choice.{between};
 ghost use Rattle.op.specs.Op.{opNumber, opOf, isArithmetic, isArray, isComparison, isXtdComparison, isSpatial, isTemporal, isInstantOrInterval, isNullable};
-ghost use Rattle.op.specs.Spelling.{word};
-ghost use Rattle.emit.specs.Emit.{countLimit, Puts};
+ghost use Rattle.op.specs.SpellingTable.{Lies, Spells, placeIn};
 
 // The operators of src/op.rs, in its order.
 pub enum Op {
@@ -368,81 +366,85 @@ pub fn nullable(op: Op) -> bool
     within(IS_NULL, op_number(op), IS_NOT_NULL)
 }
 
-// The spellings of the operators up to Or: arithmetic, comparison, logic.
-fn put_basic(op: Op, out: &mut [u8], at: usize) -> usize
-    requires { ⌜ opNumber op ≤ 15 ⌝ }
-    ensures { λ r. ⌜ Puts countLimit at (word op) (now (out .entry)) (now (out .exit)) r ⌝ }
-{
-    match op {
-        Op::Plus => emit::put(b"+", out, at),
-        Op::Minus => emit::put(b"-", out, at),
-        Op::Mult => emit::put(b"*", out, at),
-        Op::Div => emit::put(b"/", out, at),
-        Op::IntDiv => emit::put(b"div", out, at),
-        Op::Mod => emit::put(b"%", out, at),
-        Op::Exp => emit::put(b"^", out, at),
-        Op::Neg => emit::put(b"NOT", out, at),
-        Op::Eq => emit::put(b"=", out, at),
-        Op::Neq => emit::put(b"<>", out, at),
-        Op::Lt => emit::put(b"<", out, at),
-        Op::Gt => emit::put(b">", out, at),
-        Op::Lte => emit::put(b"<=", out, at),
-        Op::Gte => emit::put(b">=", out, at),
-        Op::And => emit::put(b"AND", out, at),
-        Op::Or => emit::put(b"OR", out, at),
-        _ => emit::ended(at, 0),
-    }
+// The spellings of `Op::to_sql`. First stands, by operator number, where each begins, and it ends where the next one begins: nowhere if it has
+// none. Then come the spellings in order. A place is one byte, so with 256 bytes none lies outside.
+const SPELLINGS: [u8; 256] = *b"\
+    \x36\x37\x38\x39\x3a\x3d\x3e\x3f\x42\
+    \x43\x45\x46\x47\x49\x4b\x4e\x50\x50\
+    \x50\x5d\x66\x71\x7b\x84\x8f\x99\xa4\
+    \xa4\xa4\xa4\xa4\xa4\xa4\xa4\xa4\xa4\
+    \xa4\xa4\xa4\xa4\xa4\xa4\xa5\xa7\xa9\
+    \xab\xaf\xb7\xbe\xc9\xcb\xd1\xd8\xe3\
+    +\
+    -\
+    *\
+    /\
+    div\
+    %\
+    ^\
+    NOT\
+    =\
+    <>\
+    <\
+    >\
+    <=\
+    >=\
+    AND\
+    OR\
+    ST_Intersects\
+    ST_Equals\
+    ST_Disjoint\
+    ST_Touches\
+    ST_Within\
+    ST_Overlaps\
+    ST_Crosses\
+    ST_Contains\
+    =\
+    @>\
+    <@\
+    &&\
+    LIKE\
+    NOT LIKE\
+    BETWEEN\
+    NOT BETWEEN\
+    IN\
+    NOT IN\
+    IS NULL\
+    IS NOT NULL\
+    \x00\x00\x00\x00\x00\x00\x00\x00\x00\x00\x00\x00\x00\x00\x00\
+    \x00\x00\x00\x00\x00\x00\x00\x00\x00\x00\x00\x00\x00\x00";
+
+// Where an operator's spelling stands in the table: from the first place to the second.
+pub enum Spelled {
+    NoSpelling,
+    At(usize, usize),
 }
 
-// The spellings of the spatial operators.
-fn put_spatial(op: Op, out: &mut [u8], at: usize) -> usize
-    requires { ⌜ isSpatial op ≡ true ⌝ }
-    ensures { λ r. ⌜ Puts countLimit at (word op) (now (out .entry)) (now (out .exit)) r ⌝ }
+fn wide(x: u8) -> usize
+    ensures { λ r. ⌜ (r ≡ x) × (r < 256) ⌝ }
 {
-    match op {
-        Op::SIntersects => emit::put(b"ST_Intersects", out, at),
-        Op::SEquals => emit::put(b"ST_Equals", out, at),
-        Op::SDisjoint => emit::put(b"ST_Disjoint", out, at),
-        Op::STouches => emit::put(b"ST_Touches", out, at),
-        Op::SWithin => emit::put(b"ST_Within", out, at),
-        Op::SOverlaps => emit::put(b"ST_Overlaps", out, at),
-        Op::SCrosses => emit::put(b"ST_Crosses", out, at),
-        Op::SContains => emit::put(b"ST_Contains", out, at),
-        _ => emit::ended(at, 0),
-    }
+    x as usize
 }
 
-// The spellings of all others; CaseI, AccentI and the temporal operators have none.
-fn put_rest(op: Op, out: &mut [u8], at: usize) -> usize
-    requires { ⌜ (15 < opNumber op) × (isSpatial op ≡ false) ⌝ }
-    ensures { λ r. ⌜ Puts countLimit at (word op) (now (out .entry)) (now (out .exit)) r ⌝ }
+// The table of spellings.
+pub fn spellings() -> [u8; 256]
+    ensures { λ r. ⌜ Spells r ⌝ }
 {
-    match op {
-        Op::AEquals => emit::put(b"=", out, at),
-        Op::AContains => emit::put(b"@>", out, at),
-        Op::AContainedBy => emit::put(b"<@", out, at),
-        Op::AOverlaps => emit::put(b"&&", out, at),
-        Op::IsLike => emit::put(b"LIKE", out, at),
-        Op::IsNotLike => emit::put(b"NOT LIKE", out, at),
-        Op::IsBetween => emit::put(b"BETWEEN", out, at),
-        Op::IsNotBetween => emit::put(b"NOT BETWEEN", out, at),
-        Op::IsInList => emit::put(b"IN", out, at),
-        Op::IsNotInList => emit::put(b"NOT IN", out, at),
-        Op::IsNull => emit::put(b"IS NULL", out, at),
-        Op::IsNotNull => emit::put(b"IS NOT NULL", out, at),
-        _ => emit::ended(at, 0),
-    }
+    SPELLINGS
 }
 
-// Writes an operator's spelling (`Op::to_sql`) from `at`, whole or not at all; answers the place after it.
-pub fn to_sql(op: Op, out: &mut [u8], at: usize) -> usize
-    ensures { λ r. ⌜ Puts countLimit at (word op) (now (out .entry)) (now (out .exit)) r ⌝ }
+// The spelling (`Op::to_sql`) of the operator with a number, as a table has it.
+pub fn to_sql(table: &[u8; 256], n: usize) -> Spelled
+    ensures says { λ r. ⌜ r ≡ placeIn (now (table .entry)) n ⌝ }
+    ensures lies { λ r. ⌜ Lies r ⌝ }
 {
-    if op_number(op) <= OR {
-        return put_basic(op, out, at);
+    if IS_NOT_NULL < n {
+        return Spelled::NoSpelling;
     }
-    if spatial(op) {
-        return put_spatial(op, out, at);
+    let from = wide(table[n]);
+    let to = wide(table[n + 1]);
+    if to <= from {
+        return Spelled::NoSpelling;
     }
-    put_rest(op, out, at)
+    Spelled::At(from, to)
 }

@@ -1,58 +1,61 @@
--- `op::to_sql` meets its contract: each group writes its own.
-use mathlib.Core.Path.{sym, _∙_}
-use native.Mathlib.Omega.{arith}
+-- `op::to_sql` meets its contract: a test of the code for each of the definition.
+use Prim.Native.Nat.{ℕ, _+_, _≤_, _<_}
+use mathlib.Core.Path.{_≡_, sym}
+use mathlib.Core.List.{List}
+use lib.ListN.{getD}
 use borrow.Author.Needs.{needs}
+use borrow.Author.Tests.{lt-ltb, le-ltb, le-leb, lt-leb}
+use Rattle.op.specs.declared.Spelled.the-variants.{NoSpelling, At}
+use Rattle.op.specs.SpellingTable.{placeIn, Lies}
 use Rattle.op.proofs.to_sql.Statement.{statement}
 use Rattle.op.proofs.to_sql.Tie as tie
 
-op-number-requires : tie.Need-op-number-requires
-op-number-requires c κs = search needs
+nowhere : (table : List ℕ) (n from to : ℕ) → n ≤ 52 → from ≡ getD table n 0 → to ≡ getD table (n + 1) 0 → to ≤ from → NoSpelling ≡ placeIn table n
+unfolding placeIn
+nowhere table n from to h e f q = simp (le-ltb 52 n h, sym e, sym f, le-leb to from q)
 
-put-basic-requires : tie.Need-put-basic-requires
-put-basic-requires c κs = search needs
-
-same-length : tie.Need-same-length
-same-length c = search needs
+somewhere : (table : List ℕ) (n from to : ℕ) → n ≤ 52 → from ≡ getD table n 0 → to ≡ getD table (n + 1) 0 → from < to → At from to ≡ placeIn table n
+unfolding placeIn
+somewhere table n from to h e f q = simp (le-ltb 52 n h, sym e, sym f, lt-leb to from q)
 
 returns : tie.Need-returns
-returns c = search needs
+unfolding placeIn Lies
+returns c = (simp (lt-ltb 52 (c .before .args .n) (c .if1 .taken)), tt)
 
-spatial-requires : tie.Need-spatial-requires
-spatial-requires c κs = search needs
+element-copy-out-wide : tie.Need-element-copy-out-wide
+element-copy-out-wide c = search needs
 
-put-spatial-requires : tie.Need-put-spatial-requires
-put-spatial-requires c κs = sym (c .before .before .spatial .ensures) ∙ c .before .if2 .taken
+wide-requires : tie.Need-wide-requires
+wide-requires c κs = search needs
 
-same-length-2 : tie.Need-same-length-2
-same-length-2 c = search needs
+add-wide : tie.Need-add-wide
+add-wide c = search needs
+
+element-copy-out-wide-2 : tie.Need-element-copy-out-wide-2
+element-copy-out-wide-2 c = search needs
+
+wide-requires-2 : tie.Need-wide-requires-2
+wide-requires-2 c κs = search needs
 
 returns-2 : tie.Need-returns-2
-returns-2 c = search needs
-
-put-rest-requires : tie.Need-put-rest-requires
-put-rest-requires c κs =
-    let n = c .before .before .before .before .op-number .ensures in
-    let h = c .before .before .before .if1 .left in
-    (omega arith, sym (c .before .before .spatial .ensures) ∙ c .before .if2 .left)
-
-same-length-3 : tie.Need-same-length-3
-same-length-3 c = search needs
+unfolding Lies
+returns-2 c =
+    (nowhere (c .before .before .before .before .before .before .args .table .now) _ _ _ (c .before .before .before .before .before .if1 .left) (c .before .before .before .wide .ensures .0) (c .before .wide2 .ensures .0) (c .if2 .taken), tt)
 
 returns-3 : tie.Need-returns-3
-returns-3 c = search needs
+unfolding Lies
+returns-3 c =
+    (somewhere (c .before .before .before .before .before .before .args .table .now) _ _ _ (c .before .before .before .before .before .if1 .left) (c .before .before .before .wide .ensures .0) (c .before .wide2 .ensures .0) (c .if2 .left), (c .if2 .left, c .before .wide2 .ensures .1))
 
 pub to-sql-spec : {M : Type 1} → statement M
 to-sql-spec =
     tie.close
     (tie.spec
-    op-number-requires
-    put-basic-requires
-    same-length
     returns
-    spatial-requires
-    put-spatial-requires
-    same-length-2
+    element-copy-out-wide
+    wide-requires
+    add-wide
+    element-copy-out-wide-2
+    wide-requires-2
     returns-2
-    put-rest-requires
-    same-length-3
     returns-3)
