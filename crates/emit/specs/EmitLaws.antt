@@ -23,14 +23,14 @@ sets-append (a ∷ t) u l i =
     ap (λ (k : ℕ). sets (sets (set l i a) (suc i) t) k u) e ∙ sets-append t u (set l i a) (suc i)
 
 -- three runs one after the other
-pub length-three : (t u v : List ℕ) → length (t ++ u ++ v) ≡ (length t + length u) + length v
-length-three t u v = length-append (t ++ u) v ∙ ap (λ (k : ℕ). k + length v) (length-append t u)
+pub length-three : (t u v : List ℕ) → length (t ++ (u ++ v)) ≡ (length t + length u) + length v
+length-three t u v =
+    let e : length (t ++ (u ++ v)) ≡ length t + length (u ++ v) = length-append t (u ++ v) in
+    let f : length (u ++ v) ≡ length u + length v = length-append u v in
+    omega arith
 
-pub sets-three : (t u v l : List ℕ) (i : ℕ) → sets (sets (sets l i t) (i + length t) u) ((i + length t) + length u) v ≡ sets l i (t ++ u ++ v)
-sets-three t u v l i =
-    let e : length (t ++ u) ≡ length t + length u = length-append t u in
-    let k : (i + length t) + length u ≡ i + length (t ++ u) = omega arith in
-    rw (sets-append t u l i, k) (sets-append (t ++ u) v l i)
+pub sets-three : (t u v l : List ℕ) (i : ℕ) → sets (sets (sets l i t) (i + length t) u) ((i + length t) + length u) v ≡ sets l i (t ++ (u ++ v))
+sets-three t u v l i = sets-append u v (sets l i t) (i + length t) ∙ sets-append t (u ++ v) l i
 
 -- one more byte
 pub sets-more : (s l : List ℕ) (i k : ℕ) → k < length s → sets l i (take (k + 1) s) ≡ set (sets l i (take k s)) (i + k) (getD s k 0)

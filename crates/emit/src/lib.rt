@@ -77,7 +77,7 @@ pub fn put(s: &[u8], out: &mut [u8], at: usize) -> usize
 
 // Three texts one after the other, by one test of room.
 pub fn put_three(a: &[u8], b: &[u8], c: &[u8], out: &mut [u8], at: usize) -> usize
-    ensures { λ r. ⌜ Puts countLimit at (now (a .entry) ++ now (b .entry) ++ now (c .entry)) (now (out .entry)) (now (out .exit)) r ⌝ }
+    ensures { λ r. ⌜ Puts countLimit at (now (a .entry) ++ (now (b .entry) ++ now (c .entry))) (now (out .entry)) (now (out .exit)) r ⌝ }
 {
     if COUNT_LIMIT <= at {
         return COUNT_LIMIT;

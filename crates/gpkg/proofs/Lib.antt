@@ -2,7 +2,6 @@ pub mod RecordLaws
 pub mod ClipLaws
 pub mod LiteralLaws
 pub mod EndLaws
-pub mod WordLaws
 pub mod NodeLaws
 pub mod OperandLaws
 pub mod SortLaws

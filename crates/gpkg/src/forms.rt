@@ -23,6 +23,7 @@ use crate::records::OPERAND;
 use crate::records::TWIN_OPERAND;
 use crate::records::is_literal_or_id;
 use crate::records::least;
+use crate::records::part;
 use crate::records::within;
 use op::A_EQUALS;
 use op::A_OVERLAPS;
@@ -44,15 +45,22 @@ use tree::MONADIC;
 use tree::PRECISION_AT;
 
 // What is written of an operator: its spelling (`Op::to_sql`), nothing where it has none.
-pub(crate) fn word_of(words: &[u8; 256], op: usize) -> &[u8]
+fn word_of(words: &[u8; 256], op: usize) -> &[u8]
     requires { ⌜ Spells (now words) ⌝ }
     ensures { λ r. ⌜ ((o : Op) → op ≡ opNumber o → now r ≡ word o) ⌝ }
 {
     let spelled = op::to_sql(words, op);
     match spelled {
-        Spelled::NoSpelling => &words[..0],
-        Spelled::At(from, to) => &words[from..to],
+        Spelled::NoSpelling => part(words, 0, 0),
+        Spelled::At(from, to) => part(words, from, to),
     }
+}
+
+pub(crate) fn put_word(op: usize, words: &[u8; 256], out: &mut [u8], at: usize) -> usize
+    requires { ⌜ Spells (now words) ⌝ }
+    ensures { λ r. ⌜ ((o : Op) → op ≡ opNumber o → Lays countLimit at (word o) (now (out .entry)) (now (out .exit)) r) ⌝ }
+{
+    emit::put(word_of(words, op), out, at)
 }
 
 // An operator between its sides, with the brackets that close the left and open the right one.
@@ -151,7 +159,7 @@ pub(crate) fn put_before(
         return emit::put_either(bare, b"", b"(", out, at);
     }
     if is_neg_or_minus(op) {
-        let word = emit::put(word_of(words, op), out, at);
+        let word = put_word(op, words, out, at);
         return emit::put_either(bare, b" ", b" (", out, word);
     }
     emit::ended(at, 0)
@@ -185,7 +193,7 @@ pub(crate) fn put_behind(
 {
     if within(IS_NULL, op, IS_NOT_NULL) {
         let word = emit::put_either(bare, b" ", b") ", out, at);
-        return emit::put(word_of(words, op), out, word);
+        return put_word(op, words, out, word);
     }
     if is_neg_or_minus(op) {
         return emit::put_either(bare, b"", b")", out, at);

@@ -8,7 +8,7 @@ ghost use Rattle.prelude.specs.Choice.{between};
 ghost use Rattle.emit.specs.Emit.{countLimit};
 ghost use Rattle.emit.specs.LaysWords.{Lays};
 ghost use Rattle.gpkg.specs.Text.{text, texts, joined};
-ghost use Rattle.op.specs.Spelling.{word};
+ghost use Rattle.op.specs.SpellingTable.{Spells};
 ghost use Rattle.gpkg.specs.EndWords.{temporalOf};
 ghost use Rattle.gpkg.specs.NodeWords.{Bound, Node};
 ghost use Rattle.gpkg.specs.RecordWords.{sound, sounds};
@@ -31,8 +31,8 @@ use crate::forms::put_behind;
 use crate::forms::put_comma;
 use crate::forms::put_infix;
 use crate::forms::put_reduced;
+use crate::forms::put_word;
 use crate::forms::reduce_precision;
-use crate::forms::word_of;
 use crate::leaves::put_leaf;
 use crate::records::NAME;
 use crate::records::OPERAND;
@@ -59,7 +59,7 @@ use tree::MONADIC;
 
 // The items of a list, one after the other, with a comma between.
 fn write_items(s: &[u8], set: &[u8], words: &[u8; 256], out: &mut [u8], at: usize) -> usize
-    requires { ⌜ length (now s) ≤ 32768 ⌝ }
+    requires { ⌜ (length (now s) ≤ 32768) × Spells (now words) ⌝ }
     ensures { λ r. ⌜ ((ts : Trees) → now (s .entry) ≡ encodes ts → sounds ts ≡ true → Lays countLimit at (joined (texts (settingsIn (now (set .entry))) ts)) (now (out .entry)) (now (out .exit)) r) ⌝ }
 {
     let mut here = emit::ended(at, 0);
@@ -83,7 +83,7 @@ fn write_infix(
     out: &mut [u8],
     at: usize,
 ) -> usize
-    requires { ⌜ (length (now s) ≤ 32768) × (8 ≤ m) × (m ≤ length (now s)) ⌝ }
+    requires { ⌜ (length (now s) ≤ 32768) × (8 ≤ m) × (m ≤ length (now s)) × Spells (now words) ⌝ }
     ensures { λ r. ⌜ ((t : Tree) → Node (now (s .entry)) 10 op m t → between 26 op 40 ≡ false → between 18 op 25 ≡ false → between 47 op 48 ≡ false → Lays countLimit at (text (settingsIn (now (set .entry))) t) (now (out .entry)) (now (out .exit)) r) ⌝ }
 {
     let a = is_left_bare(op, &s[OPERAND..m]);
@@ -104,7 +104,7 @@ fn write_monadic(
     out: &mut [u8],
     at: usize,
 ) -> usize
-    requires { ⌜ (length (now s) ≤ 32768) × (14 ≤ length (now s)) ⌝ }
+    requires { ⌜ (length (now s) ≤ 32768) × (14 ≤ length (now s)) × Spells (now words) ⌝ }
     ensures { λ r. ⌜ ((m : ℕ) (t : Tree) → Node (now (s .entry)) 9 op m t → Lays countLimit at (text (settingsIn (now (set .entry))) t) (now (out .entry)) (now (out .exit)) r) ⌝ }
 {
     let bare = is_literal_or_id(&s[OPERAND..]);
@@ -129,7 +129,7 @@ fn write_bound(
     out: &mut [u8],
     at: usize,
 ) -> usize
-    requires { ⌜ (length (now s) ≤ 32768) × (8 ≤ a) × (a ≤ z) × (z ≤ length (now s)) ⌝ }
+    requires { ⌜ (length (now s) ≤ 32768) × (8 ≤ a) × (a ≤ z) × (z ≤ length (now s)) × Spells (now words) ⌝ }
     ensures { λ r. ⌜ ((x : Tree) → Bound (now (s .entry)) a z x → Lays countLimit at (text (settingsIn (now (set .entry))) x) (now (out .entry)) (now (out .exit)) r) ⌝ }
 {
     if a == z {
@@ -148,7 +148,7 @@ fn write_between(
     out: &mut [u8],
     at: usize,
 ) -> usize
-    requires { ⌜ (length (now s) ≤ 32768) × (8 ≤ m) × (m ≤ length (now s)) ⌝ }
+    requires { ⌜ (length (now s) ≤ 32768) × (8 ≤ m) × (m ≤ length (now s)) × Spells (now words) ⌝ }
     ensures { λ r. ⌜ ((t : Tree) → Node (now (s .entry)) 10 op m t → between 47 op 48 ≡ true → Lays countLimit at (text (settingsIn (now (set .entry))) t) (now (out .entry)) (now (out .exit)) r) ⌝ }
 {
     let p = bounds_at(s, m);
@@ -171,14 +171,14 @@ fn write_spatial(
     out: &mut [u8],
     at: usize,
 ) -> usize
-    requires { ⌜ (length (now s) ≤ 32768) × (8 ≤ m) × (m ≤ length (now s)) ⌝ }
+    requires { ⌜ (length (now s) ≤ 32768) × (8 ≤ m) × (m ≤ length (now s)) × Spells (now words) ⌝ }
     ensures { λ r. ⌜ ((t : Tree) → Node (now (s .entry)) 10 op m t → between 18 op 25 ≡ true → Lays countLimit at (text (settingsIn (now (set .entry))) t) (now (out .entry)) (now (out .exit)) r) ⌝ }
 {
     let x = is_kind(&s[OPERAND..m], ID);
     let y = is_kind(&s[m..], ID);
     let a = reduce_precision(op, x, y);
     let b = reduce_precision(op, y, x);
-    let word = emit::put(word_of(words, op), out, at);
+    let word = put_word(op, words, out, at);
     let open = emit::put_either(a, b"(ST_ReducePrecision(", b"(", out, word);
     let left = to_sql_impl(&s[OPERAND..m], set, words, out, open);
     let comma = put_reduced(a, set, out, left);
@@ -199,7 +199,7 @@ fn write_others(
     out: &mut [u8],
     at: usize,
 ) -> usize
-    requires { ⌜ (length (now s) ≤ 32768) × (14 ≤ length (now s)) × (8 ≤ m) × (m ≤ length (now s)) ⌝ }
+    requires { ⌜ (length (now s) ≤ 32768) × (14 ≤ length (now s)) × (8 ≤ m) × (m ≤ length (now s)) × Spells (now words) ⌝ }
     ensures { λ r. ⌜ ((t : Tree) → Node (now (s .entry)) kind op m t → temporalOf kind op ≡ false → Lays countLimit at (text (settingsIn (now (set .entry))) t) (now (out .entry)) (now (out .exit)) r) ⌝ }
 {
     if kind == MONADIC {
@@ -216,7 +216,7 @@ fn write_others(
 
 // The text of a node with operands: of a temporal one its template filled.
 fn write_operands(s: &[u8], set: &[u8], words: &[u8; 256], out: &mut [u8], at: usize) -> usize
-    requires { ⌜ (length (now s) ≤ 32768) × (14 ≤ length (now s)) ⌝ }
+    requires { ⌜ (length (now s) ≤ 32768) × (14 ≤ length (now s)) × Spells (now words) ⌝ }
     ensures { λ r. ⌜ ((t : Tree) → now (s .entry) ≡ encode t → sound t ≡ true → 9 ≤ le16 (now (s .entry)) 4 → le16 (now (s .entry)) 4 < 11 → Lays countLimit at (text (settingsIn (now (set .entry))) t) (now (out .entry)) (now (out .exit)) r) ⌝ }
 {
     let kind = record::word_at(s, KIND);
@@ -266,7 +266,7 @@ pub(crate) fn to_sql_impl(
     out: &mut [u8],
     at: usize,
 ) -> usize
-    requires { ⌜ length (now s) ≤ 32768 ⌝ }
+    requires { ⌜ (length (now s) ≤ 32768) × Spells (now words) ⌝ }
     ensures { λ r. ⌜ ((t : Tree) → now (s .entry) ≡ encode t → sound t ≡ true → Lays countLimit at (text (settingsIn (now (set .entry))) t) (now (out .entry)) (now (out .exit)) r) ⌝ }
 {
     // Past the limit nothing is counted or written any more.

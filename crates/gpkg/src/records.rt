@@ -1,9 +1,9 @@
 // How the walk reads a record: where it ends, which kind it is, what is literal in it.
 ghost use mathlib.Core.Path.{_≡_};
 ghost use mathlib.Core.Bool.{true, false};
-ghost use Prim.Native.Nat.{_+_, _≤_, _<_, min};
+ghost use Prim.Native.Nat.{_+_, _-_, _≤_, _<_, min};
 ghost use Rattle.record.specs.Record.{le16};
-ghost use lib.ListN.{length, drop};
+ghost use lib.ListN.{length, take, drop};
 ghost use lib.Dec.{eqb};
 ghost use Rattle.prelude.specs.Choice.{between};
 ghost use Rattle.tree.specs.Tests.{isLiteral, isLiteralOrId};
@@ -42,6 +42,14 @@ pub(crate) fn rest(s: &[u8], n: usize) -> &[u8]
 {
     let from = least(n, s.len());
     &s[from..]
+}
+
+// What stands in s from one place to another.
+pub(crate) fn part(s: &[u8], from: usize, to: usize) -> &[u8]
+    requires { ⌜ (from ≤ to) × (to ≤ length (now s)) ⌝ }
+    ensures { λ r. ⌜ now r ≡ take (to - from) (drop from (now (s .entry))) ⌝ }
+{
+    &s[from..to]
 }
 
 pub(crate) fn within(lo: usize, n: usize, hi: usize) -> bool

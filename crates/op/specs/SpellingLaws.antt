@@ -41,11 +41,12 @@ pub spells : (table : List ℕ) → T (every-op (spelledRight table) operators) 
 spells table t = record { right = λ o. same-spelling _ _ (each (spelledRight table) t o) }
 
 -- what stands at an operator's place in the table is what is written of it
-pub stands-word : {table : List ℕ} (o : Op) (from to : ℕ) → Spells table → placeIn table (opNumber o) ≡ At from to → take (to - from) (drop from table) ≡ word o
+pub stands-word : {table : List ℕ} {n from to : ℕ} (o : Op) → Spells table → n ≡ opNumber o → placeIn table n ≡ At from to
+    → take (to - from) (drop from table) ≡ word o
 unfolding standing spelledAs
-stands-word {table} o from to h e = ap spelledAs (sym (ap (standing table) e) ∙ h .right o)
+stands-word {table} o h q e = ap (λ r. spelledAs (standing table r)) (sym e) ∙ ap (λ (k : ℕ). spelledAs (standing table (placeIn table k))) q ∙ ap spelledAs (h .right o)
 
--- an operator that has no place has no spelling
-pub no-word : {table : List ℕ} (o : Op) → Spells table → placeIn table (opNumber o) ≡ NoSpelling → [] ≡ word o
+-- an operator that has no place has no spelling, and nothing is written
+pub no-word : {table : List ℕ} {n : ℕ} (o : Op) → Spells table → n ≡ opNumber o → placeIn table n ≡ NoSpelling → [] ≡ word o
 unfolding standing spelledAs
-no-word {table} o h e = ap spelledAs (sym (ap (standing table) e) ∙ h .right o)
+no-word {table} o h q e = ap (λ r. spelledAs (standing table r)) (sym e) ∙ ap (λ (k : ℕ). spelledAs (standing table (placeIn table k))) q ∙ ap spelledAs (h .right o)

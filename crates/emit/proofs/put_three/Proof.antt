@@ -10,28 +10,28 @@ use Rattle.emit.proofs.put_three.Statement.{statement}
 use Rattle.emit.proofs.put_three.Tie as tie
 
 returns : tie.Need-returns
-returns c = let i = c .before .before .before .before .before .args in let n = length-three (i .a .now) (i .b .now) (i .c .now) in record { laid = sym (placed-past 65536 (i .out .now) (i .at) (i .a .now ++ i .b .now ++ i .c .now) (c .if1 .taken)); end = omega arith }
+returns c = let i = c .before .before .before .before .before .args in let n = length-three (i .a .now) (i .b .now) (i .c .now) in record { laid = sym (placed-past 65536 (i .out .now) (i .at) (i .a .now ++ (i .b .now ++ i .c .now)) (c .if1 .taken)); end = omega arith }
 
 add-second : tie.Need-add-second
 add-second c = search needs
 
 returns-2 : tie.Need-returns-2
-returns-2 c = let i = c .before .before .before .before .before .before .args in let n = length-three (i .a .now) (i .b .now) (i .c .now) in record { laid = sym (placed-over 65536 (i .out .now) (i .at) (i .a .now ++ i .b .now ++ i .c .now) (omega arith)); end = omega arith }
+returns-2 c = let i = c .before .before .before .before .before .before .args in let n = length-three (i .a .now) (i .b .now) (i .c .now) in record { laid = sym (placed-over 65536 (i .out .now) (i .at) (i .a .now ++ (i .b .now ++ i .c .now)) (omega arith)); end = omega arith }
 
 add-third : tie.Need-add-third
 add-third c = search needs
 
 returns-3 : tie.Need-returns-3
-returns-3 c = let i = c .before .before .before .before .before .before .before .args in let n = length-three (i .a .now) (i .b .now) (i .c .now) in record { laid = sym (placed-over 65536 (i .out .now) (i .at) (i .a .now ++ i .b .now ++ i .c .now) (omega arith)); end = omega arith }
+returns-3 c = let i = c .before .before .before .before .before .before .before .args in let n = length-three (i .a .now) (i .b .now) (i .c .now) in record { laid = sym (placed-over 65536 (i .out .now) (i .at) (i .a .now ++ (i .b .now ++ i .c .now)) (omega arith)); end = omega arith }
 
 add-end : tie.Need-add-end
 add-end c = search needs
 
 returns-4 : tie.Need-returns-4
-returns-4 c = let i = c .before .before .before .before .before .before .before .before .args in let n = length-three (i .a .now) (i .b .now) (i .c .now) in record { laid = sym (placed-over 65536 (i .out .now) (i .at) (i .a .now ++ i .b .now ++ i .c .now) (omega arith)); end = omega arith }
+returns-4 c = let i = c .before .before .before .before .before .before .before .before .args in let n = length-three (i .a .now) (i .b .now) (i .c .now) in record { laid = sym (placed-over 65536 (i .out .now) (i .at) (i .a .now ++ (i .b .now ++ i .c .now)) (omega arith)); end = omega arith }
 
 returns-5 : tie.Need-returns-5
-returns-5 c = let i = c .before .before .before .before .before .before .before .before .before .args in let n = length-three (i .a .now) (i .b .now) (i .c .now) in record { laid = sym (placed-over 65536 (i .out .now) (i .at) (i .a .now ++ i .b .now ++ i .c .now) (omega arith)); end = omega arith }
+returns-5 c = let i = c .before .before .before .before .before .before .before .before .before .args in let n = length-three (i .a .now) (i .b .now) (i .c .now) in record { laid = sym (placed-over 65536 (i .out .now) (i .at) (i .a .now ++ (i .b .now ++ i .c .now)) (omega arith)); end = omega arith }
 
 copy-requires : tie.Need-copy-requires
 copy-requires c κs = search needs
@@ -50,7 +50,7 @@ returns-6 c = let i = c .before .before .before .before .before .before .before 
   laid =
       c .before .before .copy3 .ensures
       ∙ rw (c .before .before .before .before .before .before .copy2 .ensures, c .before .before .before .before .before .before .before .before .before .before .copy .ensures) (sets-three (i .a .now) (i .b .now) (i .c .now) (i .out .now) (i .at))
-      ∙ sym (placed-fits (i .out .now) (i .at) (i .a .now ++ i .b .now ++ i .c .now) (record { inside = omega arith; counted = omega arith }));
+      ∙ sym (placed-fits (i .out .now) (i .at) (i .a .now ++ (i .b .now ++ i .c .now)) (record { inside = omega arith; counted = omega arith }));
   end = omega arith;
 }
 

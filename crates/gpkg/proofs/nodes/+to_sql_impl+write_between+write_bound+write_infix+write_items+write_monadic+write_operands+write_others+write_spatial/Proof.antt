@@ -85,127 +85,127 @@ use Rattle.gpkg.proofs.nodes.+to_sql_impl+write_between+write_bound+wri
   close,
 }
 
-abbrev μ-to-sql-impl : Measures 3 to-sql-impl-kinds.ps ℕ
+abbrev μ-to-sql-impl : Measures 4 to-sql-impl-kinds.ps ℕ
 μ-to-sql-impl κs a = 5 * length (a .0 .now) + 4
 
-abbrev μ-write-between : Measures 3 write-between-kinds.ps ℕ
+abbrev μ-write-between : Measures 4 write-between-kinds.ps ℕ
 μ-write-between κs a = 5 * length (a .0 .now) + 1
 
-abbrev μ-write-bound : Measures 3 write-bound-kinds.ps ℕ
+abbrev μ-write-bound : Measures 4 write-bound-kinds.ps ℕ
 μ-write-bound κs a = 5 * length (a .0 .now)
 
-abbrev μ-write-infix : Measures 3 write-infix-kinds.ps ℕ
+abbrev μ-write-infix : Measures 4 write-infix-kinds.ps ℕ
 μ-write-infix κs a = 5 * length (a .0 .now) + 1
 
-abbrev μ-write-items : Measures 3 write-items-kinds.ps ℕ
+abbrev μ-write-items : Measures 4 write-items-kinds.ps ℕ
 μ-write-items κs a = 5 * length (a .0 .now) + 5
 
-abbrev μ-write-monadic : Measures 3 write-monadic-kinds.ps ℕ
+abbrev μ-write-monadic : Measures 4 write-monadic-kinds.ps ℕ
 μ-write-monadic κs a = 5 * length (a .0 .now) + 1
 
-abbrev μ-write-operands : Measures 3 write-operands-kinds.ps ℕ
+abbrev μ-write-operands : Measures 4 write-operands-kinds.ps ℕ
 μ-write-operands κs a = 5 * length (a .0 .now) + 3
 
-abbrev μ-write-others : Measures 3 write-others-kinds.ps ℕ
+abbrev μ-write-others : Measures 4 write-others-kinds.ps ℕ
 μ-write-others κs a = 5 * length (a .0 .now) + 2
 
-abbrev μ-write-spatial : Measures 3 write-spatial-kinds.ps ℕ
+abbrev μ-write-spatial : Measures 4 write-spatial-kinds.ps ℕ
 μ-write-spatial κs a = 5 * length (a .0 .now) + 1
 
-abbrev to-sql-impl-at : ℕ → In 3 to-sql-impl-kinds.ps
+abbrev to-sql-impl-at : ℕ → In 4 to-sql-impl-kinds.ps
 to-sql-impl-at t =
-    and 3 to-sql-impl-kinds.ps (is 3 to-sql-impl-kinds.ps μ-to-sql-impl t) to-sql-impl.Pre
+    and 4 to-sql-impl-kinds.ps (is 4 to-sql-impl-kinds.ps μ-to-sql-impl t) to-sql-impl.Pre
 
-abbrev to-sql-impl-below : ℕ → In 3 to-sql-impl-kinds.ps
+abbrev to-sql-impl-below : ℕ → In 4 to-sql-impl-kinds.ps
 to-sql-impl-below t =
-    and 3 to-sql-impl-kinds.ps (falls 3 to-sql-impl-kinds.ps _<_ μ-to-sql-impl t) to-sql-impl.Pre
+    and 4 to-sql-impl-kinds.ps (falls 4 to-sql-impl-kinds.ps _<_ μ-to-sql-impl t) to-sql-impl.Pre
 
-abbrev write-between-at : ℕ → In 3 write-between-kinds.ps
+abbrev write-between-at : ℕ → In 4 write-between-kinds.ps
 write-between-at t =
-    and 3 write-between-kinds.ps (is 3 write-between-kinds.ps μ-write-between t) write-between.Pre
+    and 4 write-between-kinds.ps (is 4 write-between-kinds.ps μ-write-between t) write-between.Pre
 
-abbrev write-between-below : ℕ → In 3 write-between-kinds.ps
+abbrev write-between-below : ℕ → In 4 write-between-kinds.ps
 write-between-below t =
     and
-    3
+    4
     write-between-kinds.ps
-    (falls 3 write-between-kinds.ps _<_ μ-write-between t)
+    (falls 4 write-between-kinds.ps _<_ μ-write-between t)
     write-between.Pre
 
-abbrev write-bound-at : ℕ → In 3 write-bound-kinds.ps
+abbrev write-bound-at : ℕ → In 4 write-bound-kinds.ps
 write-bound-at t =
-    and 3 write-bound-kinds.ps (is 3 write-bound-kinds.ps μ-write-bound t) write-bound.Pre
+    and 4 write-bound-kinds.ps (is 4 write-bound-kinds.ps μ-write-bound t) write-bound.Pre
 
-abbrev write-bound-below : ℕ → In 3 write-bound-kinds.ps
+abbrev write-bound-below : ℕ → In 4 write-bound-kinds.ps
 write-bound-below t =
-    and 3 write-bound-kinds.ps (falls 3 write-bound-kinds.ps _<_ μ-write-bound t) write-bound.Pre
+    and 4 write-bound-kinds.ps (falls 4 write-bound-kinds.ps _<_ μ-write-bound t) write-bound.Pre
 
-abbrev write-infix-at : ℕ → In 3 write-infix-kinds.ps
+abbrev write-infix-at : ℕ → In 4 write-infix-kinds.ps
 write-infix-at t =
-    and 3 write-infix-kinds.ps (is 3 write-infix-kinds.ps μ-write-infix t) write-infix.Pre
+    and 4 write-infix-kinds.ps (is 4 write-infix-kinds.ps μ-write-infix t) write-infix.Pre
 
-abbrev write-infix-below : ℕ → In 3 write-infix-kinds.ps
+abbrev write-infix-below : ℕ → In 4 write-infix-kinds.ps
 write-infix-below t =
-    and 3 write-infix-kinds.ps (falls 3 write-infix-kinds.ps _<_ μ-write-infix t) write-infix.Pre
+    and 4 write-infix-kinds.ps (falls 4 write-infix-kinds.ps _<_ μ-write-infix t) write-infix.Pre
 
-abbrev write-items-at : ℕ → In 3 write-items-kinds.ps
+abbrev write-items-at : ℕ → In 4 write-items-kinds.ps
 write-items-at t =
-    and 3 write-items-kinds.ps (is 3 write-items-kinds.ps μ-write-items t) write-items.Pre
+    and 4 write-items-kinds.ps (is 4 write-items-kinds.ps μ-write-items t) write-items.Pre
 
-abbrev write-items-below : ℕ → In 3 write-items-kinds.ps
+abbrev write-items-below : ℕ → In 4 write-items-kinds.ps
 write-items-below t =
-    and 3 write-items-kinds.ps (falls 3 write-items-kinds.ps _<_ μ-write-items t) write-items.Pre
+    and 4 write-items-kinds.ps (falls 4 write-items-kinds.ps _<_ μ-write-items t) write-items.Pre
 
-abbrev write-monadic-at : ℕ → In 3 write-monadic-kinds.ps
+abbrev write-monadic-at : ℕ → In 4 write-monadic-kinds.ps
 write-monadic-at t =
-    and 3 write-monadic-kinds.ps (is 3 write-monadic-kinds.ps μ-write-monadic t) write-monadic.Pre
+    and 4 write-monadic-kinds.ps (is 4 write-monadic-kinds.ps μ-write-monadic t) write-monadic.Pre
 
-abbrev write-monadic-below : ℕ → In 3 write-monadic-kinds.ps
+abbrev write-monadic-below : ℕ → In 4 write-monadic-kinds.ps
 write-monadic-below t =
     and
-    3
+    4
     write-monadic-kinds.ps
-    (falls 3 write-monadic-kinds.ps _<_ μ-write-monadic t)
+    (falls 4 write-monadic-kinds.ps _<_ μ-write-monadic t)
     write-monadic.Pre
 
-abbrev write-operands-at : ℕ → In 3 write-operands-kinds.ps
+abbrev write-operands-at : ℕ → In 4 write-operands-kinds.ps
 write-operands-at t =
     and
-    3
+    4
     write-operands-kinds.ps
-    (is 3 write-operands-kinds.ps μ-write-operands t)
+    (is 4 write-operands-kinds.ps μ-write-operands t)
     write-operands.Pre
 
-abbrev write-operands-below : ℕ → In 3 write-operands-kinds.ps
+abbrev write-operands-below : ℕ → In 4 write-operands-kinds.ps
 write-operands-below t =
     and
-    3
+    4
     write-operands-kinds.ps
-    (falls 3 write-operands-kinds.ps _<_ μ-write-operands t)
+    (falls 4 write-operands-kinds.ps _<_ μ-write-operands t)
     write-operands.Pre
 
-abbrev write-others-at : ℕ → In 3 write-others-kinds.ps
+abbrev write-others-at : ℕ → In 4 write-others-kinds.ps
 write-others-at t =
-    and 3 write-others-kinds.ps (is 3 write-others-kinds.ps μ-write-others t) write-others.Pre
+    and 4 write-others-kinds.ps (is 4 write-others-kinds.ps μ-write-others t) write-others.Pre
 
-abbrev write-others-below : ℕ → In 3 write-others-kinds.ps
+abbrev write-others-below : ℕ → In 4 write-others-kinds.ps
 write-others-below t =
     and
-    3
+    4
     write-others-kinds.ps
-    (falls 3 write-others-kinds.ps _<_ μ-write-others t)
+    (falls 4 write-others-kinds.ps _<_ μ-write-others t)
     write-others.Pre
 
-abbrev write-spatial-at : ℕ → In 3 write-spatial-kinds.ps
+abbrev write-spatial-at : ℕ → In 4 write-spatial-kinds.ps
 write-spatial-at t =
-    and 3 write-spatial-kinds.ps (is 3 write-spatial-kinds.ps μ-write-spatial t) write-spatial.Pre
+    and 4 write-spatial-kinds.ps (is 4 write-spatial-kinds.ps μ-write-spatial t) write-spatial.Pre
 
-abbrev write-spatial-below : ℕ → In 3 write-spatial-kinds.ps
+abbrev write-spatial-below : ℕ → In 4 write-spatial-kinds.ps
 write-spatial-below t =
     and
-    3
+    4
     write-spatial-kinds.ps
-    (falls 3 write-spatial-kinds.ps _<_ μ-write-spatial t)
+    (falls 4 write-spatial-kinds.ps _<_ μ-write-spatial t)
     write-spatial.Pre
 
 abbrev to-sql-impl-calls : ℕ → to-sql-impl-lts.Claims
@@ -262,7 +262,7 @@ to-sql-impl-returns-5 : (t : ℕ) → to-sql-impl-lts.Need-returns-5 (to-sql-imp
 to-sql-impl-returns-5 t c = λ t e f. absurd (let h = fourteen _ t (c .before .before .before .before .before .before .word-at .result) e (c .before .before .before .before .before .before .word-at .ensures .0) (omega arith) (omega arith) in let v : ⊥ = omega arith in v)
 
 to-sql-impl-write-operands-requires : (t : ℕ) → to-sql-impl-lts.Need-write-operands-requires (to-sql-impl-calls t) (to-sql-impl-at t) to-sql-impl.Post
-to-sql-impl-write-operands-requires t c κs = let m = c .before .before .before .before .before .before .before .before .before .before .before .pre in (omega arith, (omega arith, omega arith))
+to-sql-impl-write-operands-requires t c κs = let m = c .before .before .before .before .before .before .before .before .before .before .before .pre in (omega arith, (omega arith, omega arith, m .1 .1))
 
 to-sql-impl-same-length-2 : (t : ℕ) → to-sql-impl-lts.Need-same-length-2 (to-sql-impl-calls t) (to-sql-impl-at t) to-sql-impl.Post
 to-sql-impl-same-length-2 t c = search needs
@@ -304,7 +304,7 @@ to-sql-impl-part-write-items-end : (t : ℕ) → to-sql-impl-lts.Need-part-write
 to-sql-impl-part-write-items-end t c = omega arith
 
 to-sql-impl-write-items-requires : (t : ℕ) → to-sql-impl-lts.Need-write-items-requires (to-sql-impl-calls t) (to-sql-impl-at t) to-sql-impl.Post
-to-sql-impl-write-items-requires t c κs = let m = c .before .before .before .before .before .before .before .before .before .before .before .before .before .before .before .before .before .before .before .before .before .before .before .pre in (items-fall (c .before .before .before .before .before .before .before .before .before .before .before .before .before .before .before .before .before .before .before .before .before .before .before .args .s .now) (c .before .before .before .before .before .before .before .before .before .before .before .before .before .items-at .result) _ (c .before .before .before .before .before .before .before .before .before .before .before .before .before .items-at .ensures .0) (c .before .before .before .before .before .before .before .before .before .before .before .before .before .items-at .ensures .1) (m .0), items-short (c .before .before .before .before .before .before .before .before .before .before .before .before .before .before .before .before .before .before .before .before .before .before .before .args .s .now) (c .before .before .before .before .before .before .before .before .before .before .before .before .before .items-at .result) (c .before .before .before .before .before .before .before .before .before .before .before .before .before .items-at .ensures .1) (m .1))
+to-sql-impl-write-items-requires t c κs = let m = c .before .before .before .before .before .before .before .before .before .before .before .before .before .before .before .before .before .before .before .before .before .before .before .pre in (items-fall (c .before .before .before .before .before .before .before .before .before .before .before .before .before .before .before .before .before .before .before .before .before .before .before .args .s .now) (c .before .before .before .before .before .before .before .before .before .before .before .before .before .items-at .result) _ (c .before .before .before .before .before .before .before .before .before .before .before .before .before .items-at .ensures .0) (c .before .before .before .before .before .before .before .before .before .before .before .before .before .items-at .ensures .1) (m .0), (items-short (c .before .before .before .before .before .before .before .before .before .before .before .before .before .before .before .before .before .before .before .before .before .before .before .args .s .now) (c .before .before .before .before .before .before .before .before .before .before .before .before .before .items-at .result) (c .before .before .before .before .before .before .before .before .before .before .before .before .before .items-at .ensures .1) (m .1 .0), m .1 .1))
 
 to-sql-impl-slice-aggregate-put-2 : (t : ℕ) → to-sql-impl-lts.Need-slice-aggregate-put-2 (to-sql-impl-calls t) (to-sql-impl-at t) to-sql-impl.Post
 to-sql-impl-slice-aggregate-put-2 t c = search needs
@@ -353,13 +353,13 @@ write-between-part-to-sql-impl-end : (t : ℕ) → write-between-lts.Need-part-t
 write-between-part-to-sql-impl-end t c = c .before .before .before .before .before .before .pre .1 .2
 
 write-between-to-sql-impl-requires : (t : ℕ) → write-between-lts.Need-to-sql-impl-requires (write-between-calls t) (write-between-at t) write-between.Post
-write-between-to-sql-impl-requires t c κs = let m = c .before .before .before .before .before .before .before .before .pre in (simp (length-take, length-drop) (omega arith), simp (length-take, length-drop) (omega arith))
+write-between-to-sql-impl-requires t c κs = let m = c .before .before .before .before .before .before .before .before .pre in (simp (length-take, length-drop) (omega arith), (simp (length-take, length-drop) (omega arith), m .1 .3))
 
 write-between-put-infix-requires : (t : ℕ) → write-between-lts.Need-put-infix-requires (write-between-calls t) (write-between-at t) write-between.Post
 write-between-put-infix-requires t c κs = search needs
 
 write-between-write-bound-requires : (t : ℕ) → write-between-lts.Need-write-bound-requires (write-between-calls t) (write-between-at t) write-between.Post
-write-between-write-bound-requires t c κs = let m = c .before .before .before .before .before .before .before .before .before .before .before .before .before .before .before .before .pre in let w = bounds-range (eqb (le16 (c .before .before .before .before .before .before .before .before .before .before .before .before .before .before .before .before .args .s .now) (c .before .before .before .before .before .before .before .before .before .before .before .before .before .before .before .before .args .m + 4)) 12) _ _ _ (m .1 .1) (m .1 .2) (c .before .before .before .before .before .before .before .before .before .before .before .before .bounds-at .ensures) in (omega arith, (m .1 .0, w .0, c .before .before .before .before .before .before .before .before .before .before .before .end-of .ensures .low, c .before .before .before .before .before .before .before .before .before .before .before .end-of .ensures .high))
+write-between-write-bound-requires t c κs = let m = c .before .before .before .before .before .before .before .before .before .before .before .before .before .before .before .before .pre in let w = bounds-range (eqb (le16 (c .before .before .before .before .before .before .before .before .before .before .before .before .before .before .before .before .args .s .now) (c .before .before .before .before .before .before .before .before .before .before .before .before .before .before .before .before .args .m + 4)) 12) _ _ _ (m .1 .1) (m .1 .2) (c .before .before .before .before .before .before .before .before .before .before .before .before .bounds-at .ensures) in (omega arith, (m .1 .0, w .0, c .before .before .before .before .before .before .before .before .before .before .before .end-of .ensures .low, c .before .before .before .before .before .before .before .before .before .before .before .end-of .ensures .high, m .1 .3))
 
 write-between-slice-aggregate-put : (t : ℕ) → write-between-lts.Need-slice-aggregate-put (write-between-calls t) (write-between-at t) write-between.Post
 write-between-slice-aggregate-put t c = search needs
@@ -368,7 +368,7 @@ write-between-put-requires : (t : ℕ) → write-between-lts.Need-put-requires (
 write-between-put-requires t c κs = search needs
 
 write-between-write-bound-requires-2 : (t : ℕ) → write-between-lts.Need-write-bound-requires-2 (write-between-calls t) (write-between-at t) write-between.Post
-write-between-write-bound-requires-2 t c κs = let m = c .before .before .before .before .before .before .before .before .before .before .before .before .before .before .before .before .before .before .before .before .before .before .before .before .before .pre in let w = bounds-range (eqb (le16 (c .before .before .before .before .before .before .before .before .before .before .before .before .before .before .before .before .before .before .before .before .before .before .before .before .before .args .s .now) (c .before .before .before .before .before .before .before .before .before .before .before .before .before .before .before .before .before .before .before .before .before .before .before .before .before .args .m + 4)) 12) _ _ _ (m .1 .1) (m .1 .2) (c .before .before .before .before .before .before .before .before .before .before .before .before .before .before .before .before .before .before .before .before .before .bounds-at .ensures) in (omega arith, (m .1 .0, omega (arith, w .0, c .before .before .before .before .before .before .before .before .before .before .before .before .before .before .before .before .before .before .before .before .end-of .ensures .low), c .before .before .before .before .before .before .before .before .before .before .before .before .before .before .before .before .before .before .before .end-of2 .ensures .low, c .before .before .before .before .before .before .before .before .before .before .before .before .before .before .before .before .before .before .before .end-of2 .ensures .high))
+write-between-write-bound-requires-2 t c κs = let m = c .before .before .before .before .before .before .before .before .before .before .before .before .before .before .before .before .before .before .before .before .before .before .before .before .before .pre in let w = bounds-range (eqb (le16 (c .before .before .before .before .before .before .before .before .before .before .before .before .before .before .before .before .before .before .before .before .before .before .before .before .before .args .s .now) (c .before .before .before .before .before .before .before .before .before .before .before .before .before .before .before .before .before .before .before .before .before .before .before .before .before .args .m + 4)) 12) _ _ _ (m .1 .1) (m .1 .2) (c .before .before .before .before .before .before .before .before .before .before .before .before .before .before .before .before .before .before .before .before .before .bounds-at .ensures) in (omega arith, (m .1 .0, omega (arith, w .0, c .before .before .before .before .before .before .before .before .before .before .before .before .before .before .before .before .before .before .before .before .end-of .ensures .low), c .before .before .before .before .before .before .before .before .before .before .before .before .before .before .before .before .before .before .before .end-of2 .ensures .low, c .before .before .before .before .before .before .before .before .before .before .before .before .before .before .before .before .before .before .before .end-of2 .ensures .high, m .1 .3))
 
 write-between-same-length : (t : ℕ) → write-between-lts.Need-same-length (write-between-calls t) (write-between-at t) write-between.Post
 write-between-same-length t c = search needs
@@ -406,7 +406,7 @@ write-bound-part-to-sql-impl-end : (t : ℕ) → write-bound-lts.Need-part-to-sq
 write-bound-part-to-sql-impl-end t c = c .before .before .before .before .pre .1 .3
 
 write-bound-to-sql-impl-requires : (t : ℕ) → write-bound-lts.Need-to-sql-impl-requires (write-bound-calls t) (write-bound-at t) write-bound.Post
-write-bound-to-sql-impl-requires t c κs = let m = c .before .before .before .before .before .before .pre in (simp (length-take, length-drop) (omega arith), simp (length-take, length-drop) (omega arith))
+write-bound-to-sql-impl-requires t c κs = let m = c .before .before .before .before .before .before .pre in (simp (length-take, length-drop) (omega arith), (simp (length-take, length-drop) (omega arith), m .1 .4))
 
 write-bound-same-length-2 : (t : ℕ) → write-bound-lts.Need-same-length-2 (write-bound-calls t) (write-bound-at t) write-bound.Post
 write-bound-same-length-2 t c = search needs
@@ -472,7 +472,7 @@ write-infix-part-to-sql-impl-end : (t : ℕ) → write-infix-lts.Need-part-to-sq
 write-infix-part-to-sql-impl-end t c = c .before .before .before .before .before .before .before .before .before .before .before .before .before .pre .1 .2
 
 write-infix-to-sql-impl-requires : (t : ℕ) → write-infix-lts.Need-to-sql-impl-requires (write-infix-calls t) (write-infix-at t) write-infix.Post
-write-infix-to-sql-impl-requires t c κs = let m = c .before .before .before .before .before .before .before .before .before .before .before .before .before .before .before .pre in (simp (length-take, length-drop) (omega arith), simp (length-take, length-drop) (omega arith))
+write-infix-to-sql-impl-requires t c κs = let m = c .before .before .before .before .before .before .before .before .before .before .before .before .before .before .before .pre in (simp (length-take, length-drop) (omega arith), (simp (length-take, length-drop) (omega arith), m .1 .3))
 
 write-infix-put-infix-requires : (t : ℕ) → write-infix-lts.Need-put-infix-requires (write-infix-calls t) (write-infix-at t) write-infix.Post
 write-infix-put-infix-requires t c κs = search needs
@@ -487,7 +487,7 @@ write-infix-part-to-sql-impl-end-2 : (t : ℕ) → write-infix-lts.Need-part-to-
 write-infix-part-to-sql-impl-end-2 t c = search needs
 
 write-infix-to-sql-impl-requires-2 : (t : ℕ) → write-infix-lts.Need-to-sql-impl-requires-2 (write-infix-calls t) (write-infix-at t) write-infix.Post
-write-infix-to-sql-impl-requires-2 t c κs = let m = c .before .before .before .before .before .before .before .before .before .before .before .before .before .before .before .before .before .before .before .before .before .before .before .before .pre in (simp (length-take, length-drop) (omega arith), simp (length-take, length-drop) (omega arith))
+write-infix-to-sql-impl-requires-2 t c κs = let m = c .before .before .before .before .before .before .before .before .before .before .before .before .before .before .before .before .before .before .before .before .before .before .before .before .pre in (simp (length-take, length-drop) (omega arith), (simp (length-take, length-drop) (omega arith), m .1 .3))
 
 write-infix-slice-aggregate-put-either-3 :
     (t : ℕ) → write-infix-lts.Need-slice-aggregate-put-either-3 (write-infix-calls t) (write-infix-at t) write-infix.Post
@@ -519,10 +519,10 @@ write-items-calls t = (
 )
 
 abbrev write-items-Inv-loop : write-items-lts.InvT-loop
-write-items-Inv-loop s set out₀ at here₀ p₀ out here p = (length out ≡ length out₀) × ((ts : Trees) → s ≡ encodes ts → sounds ts ≡ true → Come (settingsIn set) s at out₀ ts p here out)
+write-items-Inv-loop s set words out₀ at here₀ p₀ out here p = (length out ≡ length out₀) × ((ts : Trees) → s ≡ encodes ts → sounds ts ≡ true → Come (settingsIn set) s at out₀ ts p here out)
 
 abbrev write-items-μ-loop : write-items-lts.MeasureT-loop
-write-items-μ-loop s set out₀ at here₀ p₀ out here p = length s - p
+write-items-μ-loop s set words out₀ at here₀ p₀ out here p = length s - p
 
 write-items-ended-requires : (t : ℕ) → write-items-lts.Need-ended-requires (write-items-calls t) (write-items-at t) write-items.Post write-items-Inv-loop write-items-μ-loop
 write-items-ended-requires t c κs = search needs
@@ -546,13 +546,13 @@ write-items-part-to-sql-impl-end : (t : ℕ) → write-items-lts.Need-part-to-sq
 write-items-part-to-sql-impl-end t c = c .end-of .ensures .high
 
 write-items-to-sql-impl-requires : (t : ℕ) → write-items-lts.Need-to-sql-impl-requires (write-items-calls t) (write-items-at t) write-items.Post write-items-Inv-loop write-items-μ-loop
-write-items-to-sql-impl-requires t c κs = let a = c .before .before .end-of .ensures .high in let b = c .before .before .end-of .ensures .low in let m = c .before .before .before .before .before .before .before .before .before .before .before .before .before .pre in (simp (length-take, length-drop) (omega arith), simp (length-take, length-drop) (omega arith))
+write-items-to-sql-impl-requires t c κs = let a = c .before .before .end-of .ensures .high in let b = c .before .before .end-of .ensures .low in let m = c .before .before .before .before .before .before .before .before .before .before .before .before .before .pre in (simp (length-take, length-drop) (omega arith), (simp (length-take, length-drop) (omega arith), m .1 .1))
 
 write-items-loop-less : (t : ℕ) → write-items-lts.Need-loop-less (write-items-calls t) (write-items-at t) write-items.Post write-items-Inv-loop write-items-μ-loop
 write-items-loop-less t c = let h = c .before .before .before .before .before .end-of .ensures .moves (omega arith) in omega arith
 
 write-items-loop-again : (t : ℕ) → write-items-lts.Need-loop-again (write-items-calls t) (write-items-at t) write-items.Post write-items-Inv-loop write-items-μ-loop
-write-items-loop-again t c = (c .before .before .to-sql-impl .kept .1 .1 .0 ∙ c .before .before .before .before .before .before .before .before .put-comma .kept .1 .0 ∙ c .before .before .before .before .before .before .before .before .before .before .before .loop .inv .0, λ ts e f. let w = come-next (omega arith) (c .before .before .before .before .before .end-of .ensures) (c .before .before .before .before .before .before .before .before .before .before .before .loop .inv .1 ts e f) in w .on (c .before .before .before .before .before .before .before .before .put-comma .ensures) (c .before .before .to-sql-impl .ensures (w .u) (w .stands) (w .fit)))
+write-items-loop-again t c = (c .before .before .to-sql-impl .kept .1 .1 .1 .0 ∙ c .before .before .before .before .before .before .before .before .put-comma .kept .1 .0 ∙ c .before .before .before .before .before .before .before .before .before .before .before .loop .inv .0, λ ts e f. let w = come-next (omega arith) (c .before .before .before .before .before .end-of .ensures) (c .before .before .before .before .before .before .before .before .before .before .before .loop .inv .1 ts e f) in w .on (c .before .before .before .before .before .before .before .before .put-comma .ensures) (c .before .before .to-sql-impl .ensures (w .u) (w .stands) (w .fit)))
 
 write-items-same-length : (t : ℕ) → write-items-lts.Need-same-length (write-items-calls t) (write-items-at t) write-items.Post write-items-Inv-loop write-items-μ-loop
 write-items-same-length t c = search needs
@@ -618,7 +618,7 @@ write-monadic-part-to-sql-impl-end : (t : ℕ) → write-monadic-lts.Need-part-t
 write-monadic-part-to-sql-impl-end t c = search needs
 
 write-monadic-to-sql-impl-requires : (t : ℕ) → write-monadic-lts.Need-to-sql-impl-requires (write-monadic-calls t) (write-monadic-at t) write-monadic.Post
-write-monadic-to-sql-impl-requires t c κs = let m = c .before .before .before .before .before .before .before .before .before .before .before .before .before .before .before .pre in let q = from-bounds (c .before .before .before .before .before .before .before .is-twin .result) _ _ (m .1 .1) (c .before .before .before .before .before .before .operand-from .ensures) in (simp (length-take, length-drop) (omega arith), simp (length-take, length-drop) (omega arith))
+write-monadic-to-sql-impl-requires t c κs = let m = c .before .before .before .before .before .before .before .before .before .before .before .before .before .before .before .pre in let q = from-bounds (c .before .before .before .before .before .before .before .is-twin .result) _ _ (m .1 .1) (c .before .before .before .before .before .before .operand-from .ensures) in (simp (length-take, length-drop) (omega arith), (simp (length-take, length-drop) (omega arith), m .1 .2))
 
 write-monadic-put-behind-requires : (t : ℕ) → write-monadic-lts.Need-put-behind-requires (write-monadic-calls t) (write-monadic-at t) write-monadic.Post
 write-monadic-put-behind-requires t c κs = search needs
@@ -660,10 +660,10 @@ write-operands-calls t = (
 )
 
 abbrev write-operands-Inv-loop : write-operands-lts.InvT-loop
-write-operands-Inv-loop s set out₀ at kind op m e codes n here₀ k₀ out here k = (length out ≡ length out₀) × (k ≤ n) × ((t : Tree) → s ≡ encode t → sound t ≡ true → 9 ≤ le16 s 4 → le16 s 4 < 11 → Lays countLimit at (fill (slot (settingsIn set) (nodeEnds t)) (spelt (take k (take n codes)))) out₀ out here)
+write-operands-Inv-loop s set words out₀ at kind op m e codes n here₀ k₀ out here k = (length out ≡ length out₀) × (k ≤ n) × ((t : Tree) → s ≡ encode t → sound t ≡ true → 9 ≤ le16 s 4 → le16 s 4 < 11 → Lays countLimit at (fill (slot (settingsIn set) (nodeEnds t)) (spelt (take k (take n codes)))) out₀ out here)
 
 abbrev write-operands-μ-loop : write-operands-lts.MeasureT-loop
-write-operands-μ-loop s set out₀ at kind op m e codes n here₀ k₀ out here k = n - k
+write-operands-μ-loop s set words out₀ at kind op m e codes n here₀ k₀ out here k = n - k
 
 write-operands-word-at-requires : (t : ℕ) → write-operands-lts.Need-word-at-requires (write-operands-calls t) (write-operands-at t) write-operands.Post write-operands-Inv-loop write-operands-μ-loop
 write-operands-word-at-requires t c κs = search needs
@@ -678,7 +678,7 @@ write-operands-is-temporal-requires : (t : ℕ) → write-operands-lts.Need-is-t
 write-operands-is-temporal-requires t c κs = search needs
 
 write-operands-write-others-requires : (t : ℕ) → write-operands-lts.Need-write-others-requires (write-operands-calls t) (write-operands-at t) write-operands.Post write-operands-Inv-loop write-operands-μ-loop
-write-operands-write-others-requires t c κs = let m = c .before .before .before .before .before .before .before .before .before .pre in (omega arith, (m .1 .0, m .1 .1, c .before .before .before .end-of .ensures .low, c .before .before .before .end-of .ensures .high))
+write-operands-write-others-requires t c κs = let m = c .before .before .before .before .before .before .before .before .before .pre in (omega arith, (m .1 .0, m .1 .1, c .before .before .before .end-of .ensures .low, c .before .before .before .end-of .ensures .high, m .1 .2))
 
 write-operands-same-length : (t : ℕ) → write-operands-lts.Need-same-length (write-operands-calls t) (write-operands-at t) write-operands.Post write-operands-Inv-loop write-operands-μ-loop
 write-operands-same-length t c = search needs
@@ -751,13 +751,13 @@ write-operands-part-to-sql-impl-end : (t : ℕ) → write-operands-lts.Need-part
 write-operands-part-to-sql-impl-end t c = let h = c .before .inside .ensures .0 (not-false (c .before .inside .result) (c .if2 .left)) in h .2
 
 write-operands-to-sql-impl-requires : (t : ℕ) → write-operands-lts.Need-to-sql-impl-requires (write-operands-calls t) (write-operands-at t) write-operands.Post write-operands-Inv-loop write-operands-μ-loop
-write-operands-to-sql-impl-requires t c κs = let h = c .before .before .before .inside .ensures .0 (not-false (c .before .before .before .inside .result) (c .before .before .if2 .left)) in let m = c .before .before .before .before .before .before .before .before .before .before .before .before .before .before .before .before .before .before .before .before .before .before .before .pre in (simp (length-take, length-drop) (omega arith), simp (length-take, length-drop) (omega arith))
+write-operands-to-sql-impl-requires t c κs = let h = c .before .before .before .inside .ensures .0 (not-false (c .before .before .before .inside .result) (c .before .before .if2 .left)) in let m = c .before .before .before .before .before .before .before .before .before .before .before .before .before .before .before .before .before .before .before .before .before .before .before .pre in (simp (length-take, length-drop) (omega arith), (simp (length-take, length-drop) (omega arith), m .1 .2))
 
 write-operands-loop-less-2 : (t : ℕ) → write-operands-lts.Need-loop-less-2 (write-operands-calls t) (write-operands-at t) write-operands.Post write-operands-Inv-loop write-operands-μ-loop
 write-operands-loop-less-2 t c = search needs
 
 write-operands-loop-again-2 : (t : ℕ) → write-operands-lts.Need-loop-again-2 (write-operands-calls t) (write-operands-at t) write-operands.Post write-operands-Inv-loop write-operands-μ-loop
-write-operands-loop-again-2 t c = (c .before .before .to-sql-impl .kept .1 .1 .0 ∙ c .before .before .before .before .before .before .before .before .before .before .before .before .before .loop .inv .0, omega arith, λ t e f a b. let tn = temporal-node (sym (c .before .before .before .before .before .before .before .before .before .before .before .before .before .before .before .before .before .before .before .is-temporal .ensures) ∙ not-false (c .before .before .before .before .before .before .before .before .before .before .before .before .before .before .before .before .before .before .before .is-temporal .result) (c .before .before .before .before .before .before .before .before .before .before .before .before .before .before .before .before .before .before .if1 .left)) (node-of (c .before .before .before .before .before .before .before .before .before .before .before .before .before .before .before .before .before .before .before .before .before .before .before .before .before .before .args .s .now) (c .before .before .before .before .before .before .before .before .before .before .before .before .before .before .before .before .before .before .before .before .before .before .word-at .result) (c .before .before .before .before .before .before .before .before .before .before .before .before .before .before .before .before .before .before .before .before .before .word-at2 .result) (c .before .before .before .before .before .before .before .before .before .before .before .before .before .before .before .before .before .before .before .before .end-of .result) t e f (c .before .before .before .before .before .before .before .before .before .before .before .before .before .before .before .before .before .before .before .before .before .before .word-at .ensures .0) (c .before .before .before .before .before .before .before .before .before .before .before .before .before .before .before .before .before .before .before .before .before .word-at2 .ensures .0) (c .before .before .before .before .before .before .before .before .before .before .before .before .before .before .before .before .before .before .before .before .end-of .ensures) (let q = c .before .before .before .before .before .before .before .before .before .before .before .before .before .before .before .before .before .before .before .before .before .before .word-at .ensures .0 in omega arith) (let q = c .before .before .before .before .before .before .before .before .before .before .before .before .before .before .before .before .before .before .before .before .before .before .word-at .ensures .0 in omega arith)) in let ar = node-ends (tn .0) _ (c .before .before .before .before .before .before .before .before .before .before .before .before .before .before .before .before .before .temporal-ends .ensures) in let hb = c .before .before .before .before .before .before .before .before .before .before .before .before .before .before .before .before .template-of .ensures .1 in let lb : length (c .before .before .before .before .before .before .before .before .before .before .before .before .before .before .before .before .template-of .result .codes) ≡ 24 = search (needs, c .before .before .before .before .before .before .before .before .before .before .before .before .before .before .before .before .template-of .ok) in let pc = sym (c .before .before .before .before .before .before .before .before .before .before .piece-of .ensures) ∙ c .before .before .before .before .before .before .before .before .piece2 .given .1 in let ch = node-piece (settingsIn (c .before .before .before .before .before .before .before .before .before .before .before .before .before .before .before .before .before .before .before .before .before .before .before .before .before .before .args .set .now)) ar _ _ _ pc in node-step (settingsIn (c .before .before .before .before .before .before .before .before .before .before .before .before .before .before .before .before .before .before .before .before .before .before .before .before .before .before .args .set .now)) ar (c .before .before .before .before .before .before .before .before .before .before .before .before .before .before .before .before .template-of .result .codes) (c .before .before .before .before .before .before .before .before .before .before .before .before .before .before .before .before .template-of .result .len) (c .before .before .before .before .before .before .before .before .before .before .before .before .before .loop .k) (omega arith) (omega arith) (c .before .before .before .before .before .before .before .before .before .before .before .before .before .loop .inv .2 t e f a b) _ _ pc (c .before .before .to-sql-impl .ensures (ch .x) (ch .stands) (ch .fit)))
+write-operands-loop-again-2 t c = (c .before .before .to-sql-impl .kept .1 .1 .1 .0 ∙ c .before .before .before .before .before .before .before .before .before .before .before .before .before .loop .inv .0, omega arith, λ t e f a b. let tn = temporal-node (sym (c .before .before .before .before .before .before .before .before .before .before .before .before .before .before .before .before .before .before .before .is-temporal .ensures) ∙ not-false (c .before .before .before .before .before .before .before .before .before .before .before .before .before .before .before .before .before .before .before .is-temporal .result) (c .before .before .before .before .before .before .before .before .before .before .before .before .before .before .before .before .before .before .if1 .left)) (node-of (c .before .before .before .before .before .before .before .before .before .before .before .before .before .before .before .before .before .before .before .before .before .before .before .before .before .before .args .s .now) (c .before .before .before .before .before .before .before .before .before .before .before .before .before .before .before .before .before .before .before .before .before .before .word-at .result) (c .before .before .before .before .before .before .before .before .before .before .before .before .before .before .before .before .before .before .before .before .before .word-at2 .result) (c .before .before .before .before .before .before .before .before .before .before .before .before .before .before .before .before .before .before .before .before .end-of .result) t e f (c .before .before .before .before .before .before .before .before .before .before .before .before .before .before .before .before .before .before .before .before .before .before .word-at .ensures .0) (c .before .before .before .before .before .before .before .before .before .before .before .before .before .before .before .before .before .before .before .before .before .word-at2 .ensures .0) (c .before .before .before .before .before .before .before .before .before .before .before .before .before .before .before .before .before .before .before .before .end-of .ensures) (let q = c .before .before .before .before .before .before .before .before .before .before .before .before .before .before .before .before .before .before .before .before .before .before .word-at .ensures .0 in omega arith) (let q = c .before .before .before .before .before .before .before .before .before .before .before .before .before .before .before .before .before .before .before .before .before .before .word-at .ensures .0 in omega arith)) in let ar = node-ends (tn .0) _ (c .before .before .before .before .before .before .before .before .before .before .before .before .before .before .before .before .before .temporal-ends .ensures) in let hb = c .before .before .before .before .before .before .before .before .before .before .before .before .before .before .before .before .template-of .ensures .1 in let lb : length (c .before .before .before .before .before .before .before .before .before .before .before .before .before .before .before .before .template-of .result .codes) ≡ 24 = search (needs, c .before .before .before .before .before .before .before .before .before .before .before .before .before .before .before .before .template-of .ok) in let pc = sym (c .before .before .before .before .before .before .before .before .before .before .piece-of .ensures) ∙ c .before .before .before .before .before .before .before .before .piece2 .given .1 in let ch = node-piece (settingsIn (c .before .before .before .before .before .before .before .before .before .before .before .before .before .before .before .before .before .before .before .before .before .before .before .before .before .before .args .set .now)) ar _ _ _ pc in node-step (settingsIn (c .before .before .before .before .before .before .before .before .before .before .before .before .before .before .before .before .before .before .before .before .before .before .before .before .before .before .args .set .now)) ar (c .before .before .before .before .before .before .before .before .before .before .before .before .before .before .before .before .template-of .result .codes) (c .before .before .before .before .before .before .before .before .before .before .before .before .before .before .before .before .template-of .result .len) (c .before .before .before .before .before .before .before .before .before .before .before .before .before .loop .k) (omega arith) (omega arith) (c .before .before .before .before .before .before .before .before .before .before .before .before .before .loop .inv .2 t e f a b) _ _ pc (c .before .before .to-sql-impl .ensures (ch .x) (ch .stands) (ch .fit)))
 
 write-operands-enum-known-piece-3 : (t : ℕ) → write-operands-lts.Need-enum-known-piece-3 (write-operands-calls t) (write-operands-at t) write-operands.Post write-operands-Inv-loop write-operands-μ-loop
 write-operands-enum-known-piece-3 t c = search needs
@@ -813,7 +813,7 @@ write-others-calls t = (
 )
 
 write-others-write-monadic-requires : (t : ℕ) → write-others-lts.Need-write-monadic-requires (write-others-calls t) (write-others-at t) write-others.Post
-write-others-write-monadic-requires t c κs = let m = c .before .before .before .before .before .pre in (omega arith, (m .1 .0, m .1 .1))
+write-others-write-monadic-requires t c κs = let m = c .before .before .before .before .before .pre in (omega arith, (m .1 .0, m .1 .1, m .1 .4))
 
 write-others-same-length : (t : ℕ) → write-others-lts.Need-same-length (write-others-calls t) (write-others-at t) write-others.Post
 write-others-same-length t c = search needs
@@ -825,7 +825,7 @@ write-others-within-requires : (t : ℕ) → write-others-lts.Need-within-requir
 write-others-within-requires t c κs = search needs
 
 write-others-write-between-requires : (t : ℕ) → write-others-lts.Need-write-between-requires (write-others-calls t) (write-others-at t) write-others.Post
-write-others-write-between-requires t c κs = let m = c .before .before .before .before .before .before .before .pre in (omega arith, (m .1 .0, m .1 .2, m .1 .3))
+write-others-write-between-requires t c κs = let m = c .before .before .before .before .before .before .before .pre in (omega arith, (m .1 .0, m .1 .2, m .1 .3, m .1 .4))
 
 write-others-same-length-2 : (t : ℕ) → write-others-lts.Need-same-length-2 (write-others-calls t) (write-others-at t) write-others.Post
 write-others-same-length-2 t c = search needs
@@ -837,7 +837,7 @@ write-others-within-requires-2 : (t : ℕ) → write-others-lts.Need-within-requ
 write-others-within-requires-2 t c κs = search needs
 
 write-others-write-spatial-requires : (t : ℕ) → write-others-lts.Need-write-spatial-requires (write-others-calls t) (write-others-at t) write-others.Post
-write-others-write-spatial-requires t c κs = let m = c .before .before .before .before .before .before .before .before .before .pre in (omega arith, (m .1 .0, m .1 .2, m .1 .3))
+write-others-write-spatial-requires t c κs = let m = c .before .before .before .before .before .before .before .before .before .pre in (omega arith, (m .1 .0, m .1 .2, m .1 .3, m .1 .4))
 
 write-others-same-length-3 : (t : ℕ) → write-others-lts.Need-same-length-3 (write-others-calls t) (write-others-at t) write-others.Post
 write-others-same-length-3 t c = search needs
@@ -846,7 +846,7 @@ write-others-returns-3 : (t : ℕ) → write-others-lts.Need-returns-3 (write-ot
 write-others-returns-3 t c = λ t nd nt. c .before .before .write-spatial .ensures t (two-node (c .before .before .before .before .before .before .before .before .if1 .left) nd .1) (sym (c .before .before .before .before .before .within2 .ensures) ∙ c .before .before .before .before .if3 .taken)
 
 write-others-write-infix-requires : (t : ℕ) → write-others-lts.Need-write-infix-requires (write-others-calls t) (write-others-at t) write-others.Post
-write-others-write-infix-requires t c κs = let m = c .before .before .before .before .before .before .before .before .before .pre in (omega arith, (m .1 .0, m .1 .2, m .1 .3))
+write-others-write-infix-requires t c κs = let m = c .before .before .before .before .before .before .before .before .before .pre in (omega arith, (m .1 .0, m .1 .2, m .1 .3, m .1 .4))
 
 write-others-same-length-4 : (t : ℕ) → write-others-lts.Need-same-length-4 (write-others-calls t) (write-others-at t) write-others.Post
 write-others-same-length-4 t c = search needs
@@ -928,7 +928,7 @@ write-spatial-part-to-sql-impl-end : (t : ℕ) → write-spatial-lts.Need-part-t
 write-spatial-part-to-sql-impl-end t c = c .before .before .before .before .before .before .before .before .before .before .before .before .before .before .before .before .before .before .before .pre .1 .2
 
 write-spatial-to-sql-impl-requires : (t : ℕ) → write-spatial-lts.Need-to-sql-impl-requires (write-spatial-calls t) (write-spatial-at t) write-spatial.Post
-write-spatial-to-sql-impl-requires t c κs = let m = c .before .before .before .before .before .before .before .before .before .before .before .before .before .before .before .before .before .before .before .before .before .pre in (simp (length-take, length-drop) (omega arith), simp (length-take, length-drop) (omega arith))
+write-spatial-to-sql-impl-requires t c κs = let m = c .before .before .before .before .before .before .before .before .before .before .before .before .before .before .before .before .before .before .before .before .before .pre in (simp (length-take, length-drop) (omega arith), (simp (length-take, length-drop) (omega arith), m .1 .3))
 
 write-spatial-put-reduced-requires : (t : ℕ) → write-spatial-lts.Need-put-reduced-requires (write-spatial-calls t) (write-spatial-at t) write-spatial.Post
 write-spatial-put-reduced-requires t c κs = search needs
@@ -954,7 +954,7 @@ write-spatial-part-to-sql-impl-end-2 : (t : ℕ) → write-spatial-lts.Need-part
 write-spatial-part-to-sql-impl-end-2 t c = search needs
 
 write-spatial-to-sql-impl-requires-2 : (t : ℕ) → write-spatial-lts.Need-to-sql-impl-requires-2 (write-spatial-calls t) (write-spatial-at t) write-spatial.Post
-write-spatial-to-sql-impl-requires-2 t c κs = let m = c .before .before .before .before .before .before .before .before .before .before .before .before .before .before .before .before .before .before .before .before .before .before .before .before .before .before .before .before .before .before .before .before .before .before .before .before .pre in (simp (length-take, length-drop) (omega arith), simp (length-take, length-drop) (omega arith))
+write-spatial-to-sql-impl-requires-2 t c κs = let m = c .before .before .before .before .before .before .before .before .before .before .before .before .before .before .before .before .before .before .before .before .before .before .before .before .before .before .before .before .before .before .before .before .before .before .before .before .pre in (simp (length-take, length-drop) (omega arith), (simp (length-take, length-drop) (omega arith), m .1 .3))
 
 write-spatial-put-reduced-requires-2 : (t : ℕ) → write-spatial-lts.Need-put-reduced-requires-2 (write-spatial-calls t) (write-spatial-at t) write-spatial.Post
 write-spatial-put-reduced-requires-2 t c κs = search needs
@@ -966,7 +966,7 @@ write-spatial-put-requires : (t : ℕ) → write-spatial-lts.Need-put-requires (
 write-spatial-put-requires t c κs = search needs
 
 write-spatial-same-length : (t : ℕ) → write-spatial-lts.Need-same-length (write-spatial-calls t) (write-spatial-at t) write-spatial.Post
-write-spatial-same-length t c = c .before .before .put .kept .1 .0 ∙ c .before .before .before .before .before .before .before .put-reduced2 .kept .1 .1 .0 ∙ c .before .before .before .before .before .before .before .before .before .before .before .to-sql-impl2 .kept .1 .1 .0 ∙ c .before .before .before .before .before .before .before .before .before .before .before .before .before .before .before .before .put-either2 .kept .1 .1 .1 .0 ∙ c .before .before .before .before .before .before .before .before .before .before .before .before .before .before .before .before .before .before .before .before .before .before .put-reduced .kept .1 .1 .0 ∙ c .before .before .before .before .before .before .before .before .before .before .before .before .before .before .before .before .before .before .before .before .before .before .before .before .before .before .to-sql-impl .kept .1 .1 .0 ∙ c .before .before .before .before .before .before .before .before .before .before .before .before .before .before .before .before .before .before .before .before .before .before .before .before .before .before .before .before .before .before .before .put-either .kept .1 .1 .1 .0 ∙ c .before .before .before .before .before .before .before .before .before .before .before .before .before .before .before .before .before .before .before .before .before .before .before .before .before .before .before .before .before .before .before .before .before .before .before .before .before .put-word .kept .1 .0
+write-spatial-same-length t c = c .before .before .put .kept .1 .0 ∙ c .before .before .before .before .before .before .before .put-reduced2 .kept .1 .1 .0 ∙ c .before .before .before .before .before .before .before .before .before .before .before .to-sql-impl2 .kept .1 .1 .1 .0 ∙ c .before .before .before .before .before .before .before .before .before .before .before .before .before .before .before .before .put-either2 .kept .1 .1 .1 .0 ∙ c .before .before .before .before .before .before .before .before .before .before .before .before .before .before .before .before .before .before .before .before .before .before .put-reduced .kept .1 .1 .0 ∙ c .before .before .before .before .before .before .before .before .before .before .before .before .before .before .before .before .before .before .before .before .before .before .before .before .before .before .to-sql-impl .kept .1 .1 .1 .0 ∙ c .before .before .before .before .before .before .before .before .before .before .before .before .before .before .before .before .before .before .before .before .before .before .before .before .before .before .before .before .before .before .before .put-either .kept .1 .1 .1 .0 ∙ c .before .before .before .before .before .before .before .before .before .before .before .before .before .before .before .before .before .before .before .before .before .before .before .before .before .before .before .before .before .before .before .before .before .before .before .before .before .put-word .kept .1 .1 .0
 
 write-spatial-returns : (t : ℕ) → write-spatial-lts.Need-returns (write-spatial-calls t) (write-spatial-at t) write-spatial.Post
 write-spatial-returns t c = λ t nd h. spatial-step (settingsIn (c .before .before .before .before .before .before .before .before .before .before .before .before .before .before .before .before .before .before .before .before .before .before .before .before .before .before .before .before .before .before .before .before .before .before .before .before .before .before .before .before .before .before .before .before .before .before .before .before .args .set .now)) nd h (c .before .before .before .before .before .before .before .before .before .before .before .before .before .before .before .before .before .before .before .before .before .before .before .before .before .before .before .before .before .before .before .before .before .before .before .before .before .before .before .before .before .before .before .is-kind .ensures) (c .before .before .before .before .before .before .before .before .before .before .before .before .before .before .before .before .before .before .before .before .before .before .before .before .before .before .before .before .before .before .before .before .before .before .before .before .before .before .before .before .before .is-kind2 .ensures) (c .before .before .before .before .before .before .before .before .before .before .before .before .before .before .before .before .before .before .before .before .before .before .before .before .before .before .before .before .before .before .before .before .before .before .before .before .before .before .before .before .reduce-precision .ensures) (c .before .before .before .before .before .before .before .before .before .before .before .before .before .before .before .before .before .before .before .before .before .before .before .before .before .before .before .before .before .before .before .before .before .before .before .before .before .before .before .reduce-precision2 .ensures) (c .before .before .before .before .before .before .before .before .before .before .before .before .before .before .before .before .before .before .before .before .before .before .before .before .before .before .before .before .before .before .before .before .before .before .before .before .before .put-word .ensures) (lays (c .before .before .before .before .before .before .before .before .before .before .before .before .before .before .before .before .before .before .before .before .before .before .before .before .before .before .before .before .before .before .before .put-either .ensures)) (c .before .before .before .before .before .before .before .before .before .before .before .before .before .before .before .before .before .before .before .before .before .before .before .before .before .before .to-sql-impl .ensures) (c .before .before .before .before .before .before .before .before .before .before .before .before .before .before .before .before .before .before .before .before .before .before .put-reduced .ensures) (lays (c .before .before .before .before .before .before .before .before .before .before .before .before .before .before .before .before .put-either2 .ensures)) (c .before .before .before .before .before .before .before .before .before .before .before .to-sql-impl2 .ensures) (c .before .before .before .before .before .before .before .put-reduced2 .ensures) (lays (c .before .before .put .ensures))
