@@ -22,9 +22,12 @@ def write(data, *path):
         f.write(data)
 
 
-def write_cases(crate, cases):
-    """Each case a tuple of parts, for the replay program of that name."""
-    write(b''.join(framed(*case) for case in cases), crate, 'data', 'cases')
+def write_cases(word, cases, line):
+    """Each case a tuple of parts, to the program `replay`: its file of that name, and the line that it must write of it."""
+    write(b''.join(framed(*case) for case in cases), 'replay', 'data', word)
+    with open(os.path.join(CRATES, 'replay', 'stdout')) as f:
+        lines = f.read().splitlines()
+    write(''.join('%s\n' % ('%s: %s' % (word, line) if one.startswith(word + ': ') else one) for one in lines), 'replay', 'stdout')
 
 
 def framed(*parts):
