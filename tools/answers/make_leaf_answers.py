@@ -1,5 +1,5 @@
 #!/usr/bin/env python3
-"""Writes leaves, records of the kinds 0 to 7, with the texts that the Rust writes, for crates/literal_replay: data/cases.
+"""Writes leaves, records of the kinds 0 to 7, with the texts that the Rust writes, for crates/replay: data/leaves and its line of stdout.
 
 usage: python3 tools/answers/make_leaf_answers.py ORACLE     ORACLE: the program that ../shared/oracle/build.py makes
 
@@ -22,7 +22,7 @@ def main(oracle):
     agree, differ = compared(oracle, [(SHEET_SETTINGS, tree) for tree in trees])
     print('%d leaves, %d differ from the model' % (len(trees), differ))
     counts.stop_if_wrong(differ, ('leaves', len(trees), CASES))
-    stored.write_cases('literal_replay', [(encode(tree), text) for _, tree, text in agree])
+    stored.write_cases('leaves', [(encode(tree), text) for _, tree, text in agree], '%d leaves right of %d' % (len(agree), len(agree)))
 
 
 if __name__ == '__main__':

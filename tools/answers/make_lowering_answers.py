@@ -1,10 +1,11 @@
 #!/usr/bin/env python3
-"""Writes trees with the texts that the Rust writes, and with refusals, for crates/gpkg_replay: data/cases.
+"""Writes trees with the texts that the Rust writes, and with refusals, for crates/replay: data/lowerings and its line of stdout.
 
 usage: python3 tools/answers/make_lowering_answers.py ORACLE     ORACLE: the program that ../shared/oracle/build.py makes
 
 Writes nothing and exits with 1 if the Rust and the model differ on one of some 5,600 trees (as compare_lowerings.py), if the model's answer to a
 stored case is another, or if there are fewer than 1,116 cases, of which 1,001 are texts."""
+import collections
 import os
 import random
 import sys
@@ -66,10 +67,13 @@ def main(oracle):
         *sampled(agree), *at_the_limit(oracle), *((SHEET_SETTINGS, tree, ROOM, number) for tree, number in TAKEN))]
     cases.append((settings_record(SHEET_SETTINGS), b'', ROOM, FRAME))
     differ = [case for case in cases if calls.to_sql(*case[:3]) != case[3]]
-    texts = sum(isinstance(answer, bytes) for *_, answer in cases)
+    tally = collections.Counter(answer if isinstance(answer, int) else 0 for *_, answer in cases)
+    texts = tally[0]
     print('%d cases, %d of them texts, %d differ from the model' % (len(cases), texts, len(differ)))
     counts.stop_if_wrong(len(differ), ('cases', len(cases), CASES), ('texts', texts, TEXTS))
-    stored.write_cases('gpkg_replay', [stored.lowering_case(*case) for case in cases])
+    line = 'cases %d, as stored: texts %d, refused %s' % (
+        len(cases), texts, ', '.join('%d %d' % (n, tally[n]) for n in (FRAME, KIND, FIELD, PLACE, TEXT_SIZE, BUFFER)))
+    stored.write_cases('lowerings', [stored.lowering_case(*case) for case in cases], line)
 
 
 if __name__ == '__main__':

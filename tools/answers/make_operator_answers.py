@@ -1,5 +1,5 @@
 #!/usr/bin/env python3
-"""Writes the Rust's list of its operators for crates/op_replay: number, name, spelling, class bits.
+"""Writes the Rust's list of its operators for crates/replay, data/operators and its line of stdout: number, name, spelling, class bits.
 
 usage: python3 tools/answers/make_operator_answers.py ORACLE     ORACLE: the program that ../shared/oracle/build.py makes
 
@@ -26,7 +26,7 @@ def main(oracle):
         print('differs: Rust %r, model %r' % (line, right))
     print('%d operators, %d differ from the model' % (len(lines), len(differ)))
     counts.stop_if_wrong(len(differ), ('operators', len(lines), len(NAMES)))
-    stored.write_cases('op_replay', [(line.encode(),) for line in lines])
+    stored.write_cases('operators', [(line.encode(),) for line in lines], '%d lines right of %d' % (len(lines), len(lines)))
 
 
 if __name__ == '__main__':

@@ -1,15 +1,18 @@
 #!/usr/bin/env python3
-"""Writes SQL texts and rows with the model's answers, which were held against SQLite, for crates/truth_replay: data/cases.
+"""Writes SQL texts and rows with the model's answers, which were held against SQLite, for crates/replay: data/readings and its line
+of stdout.
 
 usage: python3 tools/answers/make_reading_answers.py
 
 Writes nothing and exits with 1 where compare_readings.py does, or if there are fewer than 1,655 cases: all at the edges, 1,300 random ones."""
+import collections
 import os
 import random
 import sys
 
 sys.path.insert(0, os.path.join(os.path.dirname(os.path.abspath(__file__)), '..'))
 from answers import compare_readings, counts, stored
+from model.refusals import ABSENT, GRAMMAR, READING_SIZE, ROW
 
 CASES, SAMPLE = 1655, 1300
 SMALL = 700    # bytes of a random text and its row together, if they are stored
@@ -22,7 +25,11 @@ def main():
     cases = edges + [others[k] for k in picked]
     print('%d cases' % len(cases))
     counts.stop_if_wrong(0, ('cases', len(cases), CASES))
-    stored.write_cases('truth_replay', [stored.reading_case(*case) for case in cases])
+    stored_cases = [stored.reading_case(*case) for case in cases]
+    tally = collections.Counter(answer[0] for *_, answer in stored_cases)
+    line = 'cases %d, right: true %d, false %d, unknown %d, refused %s' % (
+        len(cases), tally[1], tally[0], tally[2], ', '.join('%d %d' % (n, tally[n]) for n in (READING_SIZE, ROW, GRAMMAR, ABSENT)))
+    stored.write_cases('readings', stored_cases, line)
 
 
 if __name__ == '__main__':

@@ -1,5 +1,6 @@
 #!/usr/bin/env python3
-"""Writes settings and trees at the edges of every rule with the model's answers, for crates/tree_replay: data/cases, and the line of stdout.
+"""Writes settings and trees at the edges of every rule with the model's answers, for crates/replay: data/trees and its line of
+stdout.
 
 usage: python3 tools/answers/make_tree_answers.py
 
@@ -20,12 +21,11 @@ def main():
     cases = list(dict.fromkeys([*trees.edges(), *trees.mutations(MUTATIONS)]))
     answers = [calls.check(*case) for case in cases]
     tally = collections.Counter(answers)
-    line = '%d cases, %d as expected; accepted %d, refusals 1 to 7: %s\n' % (
+    line = '%d cases, %d as expected; accepted %d, refusals 1 to 7: %s' % (
         len(cases), len(cases), tally[0], ' '.join(str(tally[n]) for n in range(1, 8)))
-    print(line, end='')
+    print(line)
     counts.stop_if_wrong(0, ('cases', len(cases), CASES), *(('answers %d' % n, tally[n], 1) for n in range(8)))
-    stored.write_cases('tree_replay', [(*case, bytes([answer])) for case, answer in zip(cases, answers)])
-    stored.write(line, 'tree_replay', 'stdout')
+    stored.write_cases('trees', [(*case, bytes([answer])) for case, answer in zip(cases, answers)], line)
 
 
 if __name__ == '__main__':

@@ -6,6 +6,7 @@ import sys
 from model.c import TRUTH
 
 CRATES = os.path.join(os.path.dirname(os.path.abspath(__file__)), '..', '..', 'crates')
+REPLAYED = ('operators', 'trees', 'leaves', 'lowerings', 'readings')    # in the order of the program's lines
 checking = False    # set by make_all.py
 
 
@@ -22,9 +23,13 @@ def write(data, *path):
         f.write(data)
 
 
-def write_cases(crate, cases):
-    """Each case a tuple of parts, for the replay program of that name."""
-    write(b''.join(framed(*case) for case in cases), crate, 'data', 'cases')
+def write_cases(word, cases, line):
+    """Each case a tuple of parts, to the program `replay`: its file of that name, and the line that it must write of it."""
+    write(b''.join(framed(*case) for case in cases), 'replay', 'data', word)
+    with open(os.path.join(CRATES, 'replay', 'stdout')) as f:
+        lines = dict(zip(REPLAYED, f.read().splitlines()))
+    lines[word] = '%s: %s' % (word, line)
+    write(''.join('%s\n' % lines.get(one, '') for one in REPLAYED), 'replay', 'stdout')
 
 
 def framed(*parts):

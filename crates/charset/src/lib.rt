@@ -51,7 +51,7 @@ pub fn is_name_start(b: u8) -> bool
 }
 
 // Most bytes of names are small letters, so these are looked at first, by two comparisons; then the capitals and the underscore, which lie below them, then the digits.
-pub fn is_name_byte(b: u8) -> bool
+fn is_name_byte(b: u8) -> bool
     ensures { λ r. ⌜ r ≡ nameByte b ⌝ }
 {
     if b'a' <= b {
@@ -77,7 +77,7 @@ pub fn upper_of(b: u8) -> u8
     }
 }
 
-pub fn is_str_byte(b: u8) -> bool
+fn is_str_byte(b: u8) -> bool
     ensures { λ r. ⌜ r ≡ strByte b ⌝ }
 {
     if within(b' ', b, b'~') {
@@ -224,7 +224,7 @@ fn may_be_reserved(n: usize, b: u8) -> bool
 }
 
 // A word that no name may be, in any letter case.
-pub fn is_reserved(s: &[u8]) -> bool
+fn is_reserved(s: &[u8]) -> bool
     ensures { λ r. ⌜ r ≡ reserved (now (s .entry)) ⌝ }
 {
     if s.len() < 2 {

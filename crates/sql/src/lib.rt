@@ -196,7 +196,7 @@ fn either(t: Template, u: Template) -> Template
 
 // Mixed (instant and interval) arguments.
 
-pub fn t_after_sql(a: bool, b: bool, e: [End; 4]) -> Template
+fn t_after_sql(a: bool, b: bool, e: [End; 4]) -> Template
     ensures { λ r. ⌜ (held r ≡ templateOf (tAfter a b (columns e))) × (r .len ≤ 24) ⌝ }
 {
     if a {
@@ -211,7 +211,7 @@ pub fn t_after_sql(a: bool, b: bool, e: [End; 4]) -> Template
     sql(&[E0, GREATER, E2])
 }
 
-pub fn t_before_sql(a: bool, b: bool, e: [End; 4]) -> Template
+fn t_before_sql(a: bool, b: bool, e: [End; 4]) -> Template
     ensures { λ r. ⌜ (held r ≡ templateOf (tBefore a b (columns e))) × (r .len ≤ 24) ⌝ }
 {
     if a {
@@ -226,7 +226,7 @@ pub fn t_before_sql(a: bool, b: bool, e: [End; 4]) -> Template
     sql(&[E0, LESS, E2])
 }
 
-pub fn t_disjoint_sql(a: bool, b: bool, e: [End; 4]) -> Template
+fn t_disjoint_sql(a: bool, b: bool, e: [End; 4]) -> Template
     ensures { λ r. ⌜ (held r ≡ templateOf (tDisjoint a b (columns e))) × (r .len ≤ 24) ⌝ }
 {
     if a {
@@ -244,7 +244,7 @@ pub fn t_disjoint_sql(a: bool, b: bool, e: [End; 4]) -> Template
     sql(&[E0, UNEQUAL, E2])
 }
 
-pub fn t_equals_sql(a: bool, b: bool, e: [End; 4]) -> Template
+fn t_equals_sql(a: bool, b: bool, e: [End; 4]) -> Template
     ensures { λ r. ⌜ (held r ≡ templateOf (tEquals a b (columns e))) × (r .len ≤ 24) ⌝ }
 {
     if a {
@@ -259,7 +259,7 @@ pub fn t_equals_sql(a: bool, b: bool, e: [End; 4]) -> Template
     sql(&[E0, EQUAL, E2])
 }
 
-pub fn t_intersects_sql(a: bool, b: bool, e: [End; 4]) -> Template
+fn t_intersects_sql(a: bool, b: bool, e: [End; 4]) -> Template
     ensures { λ r. ⌜ (held r ≡ templateOf (tIntersects a b (columns e))) × (r .len ≤ 24) ⌝ }
 {
     if a {
@@ -276,43 +276,43 @@ pub fn t_intersects_sql(a: bool, b: bool, e: [End; 4]) -> Template
 
 // Intervals only.
 
-pub fn t_contains_sql(a: bool, b: bool, e: [End; 4]) -> Template
+fn t_contains_sql(a: bool, b: bool, e: [End; 4]) -> Template
     ensures { λ r. ⌜ (held r ≡ templateOf (tContains a b (columns e))) × (r .len ≤ 24) ⌝ }
 {
     sql(&[OPEN, E0, LESS, E2, AND, E1, GREATER, E3, CLOSE])
 }
 
-pub fn t_during_sql(a: bool, b: bool, e: [End; 4]) -> Template
+fn t_during_sql(a: bool, b: bool, e: [End; 4]) -> Template
     ensures { λ r. ⌜ (held r ≡ templateOf (tDuring a b (columns e))) × (r .len ≤ 24) ⌝ }
 {
     sql(&[OPEN, E0, GREATER, E2, AND, E1, LESS, E3, CLOSE])
 }
 
-pub fn t_finished_by_sql(a: bool, b: bool, e: [End; 4]) -> Template
+fn t_finished_by_sql(a: bool, b: bool, e: [End; 4]) -> Template
     ensures { λ r. ⌜ (held r ≡ templateOf (tFinishedBy a b (columns e))) × (r .len ≤ 24) ⌝ }
 {
     sql(&[OPEN, E0, LESS, E2, AND, E1, EQUAL, E3, CLOSE])
 }
 
-pub fn t_finishes_sql(a: bool, b: bool, e: [End; 4]) -> Template
+fn t_finishes_sql(a: bool, b: bool, e: [End; 4]) -> Template
     ensures { λ r. ⌜ (held r ≡ templateOf (tFinishes a b (columns e))) × (r .len ≤ 24) ⌝ }
 {
     sql(&[OPEN, E0, GREATER, E2, AND, E1, EQUAL, E3, CLOSE])
 }
 
-pub fn t_meets_sql(a: bool, b: bool, e: [End; 4]) -> Template
+fn t_meets_sql(a: bool, b: bool, e: [End; 4]) -> Template
     ensures { λ r. ⌜ (held r ≡ templateOf (tMeets a b (columns e))) × (r .len ≤ 24) ⌝ }
 {
     check_ids(E0, E3, e, &[E1, EQUAL, E2])
 }
 
-pub fn t_met_by_sql(a: bool, b: bool, e: [End; 4]) -> Template
+fn t_met_by_sql(a: bool, b: bool, e: [End; 4]) -> Template
     ensures { λ r. ⌜ (held r ≡ templateOf (tMetBy a b (columns e))) × (r .len ≤ 24) ⌝ }
 {
     check_ids(E1, E2, e, &[E0, EQUAL, E3])
 }
 
-pub fn t_overlapped_by_sql(a: bool, b: bool, e: [End; 4]) -> Template
+fn t_overlapped_by_sql(a: bool, b: bool, e: [End; 4]) -> Template
     ensures { λ r. ⌜ (held r ≡ templateOf (tOverlappedBy a b (columns e))) × (r .len ≤ 24) ⌝ }
 {
     sql(
@@ -334,7 +334,7 @@ pub fn t_overlapped_by_sql(a: bool, b: bool, e: [End; 4]) -> Template
     )
 }
 
-pub fn t_overlaps_sql(a: bool, b: bool, e: [End; 4]) -> Template
+fn t_overlaps_sql(a: bool, b: bool, e: [End; 4]) -> Template
     ensures { λ r. ⌜ (held r ≡ templateOf (tOverlaps a b (columns e))) × (r .len ≤ 24) ⌝ }
 {
     sql(
@@ -356,13 +356,13 @@ pub fn t_overlaps_sql(a: bool, b: bool, e: [End; 4]) -> Template
     )
 }
 
-pub fn t_started_by_sql(a: bool, b: bool, e: [End; 4]) -> Template
+fn t_started_by_sql(a: bool, b: bool, e: [End; 4]) -> Template
     ensures { λ r. ⌜ (held r ≡ templateOf (tStartedBy a b (columns e))) × (r .len ≤ 24) ⌝ }
 {
     sql(&[OPEN, E0, EQUAL, E2, AND, E1, GREATER, E3, CLOSE])
 }
 
-pub fn t_starts_sql(a: bool, b: bool, e: [End; 4]) -> Template
+fn t_starts_sql(a: bool, b: bool, e: [End; 4]) -> Template
     ensures { λ r. ⌜ (held r ≡ templateOf (tStarts a b (columns e))) × (r .len ≤ 24) ⌝ }
 {
     sql(&[OPEN, E0, EQUAL, E2, AND, E1, LESS, E3, CLOSE])

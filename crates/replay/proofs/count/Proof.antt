@@ -1,34 +1,16 @@
 -- `replay::count` meets its contract: the array changes only where the answers agree, and there at their number.
 use borrow.Author.Tests.{eq-eqb, ne-eqb, lt-ltb, le-ltb}
-use Rattle.replay.specs.Tally.{tallied}
+use Rattle.replay.specs.TallyWords.{tallied}
 use borrow.Author.Needs.{needs}
 use Rattle.replay.proofs.count.Statement.{statement}
 use Rattle.replay.proofs.count.Tie as tie
 
-slice-aggregate-say : tie.Need-slice-aggregate-say
-slice-aggregate-say c = search needs
-
-say-requires : tie.Need-say-requires
-say-requires c κs = search needs
-
-slice-aggregate-say-2 : tie.Need-slice-aggregate-say-2
-slice-aggregate-say-2 c = search needs
-
-say-requires-2 : tie.Need-say-requires-2
-say-requires-2 c κs = search needs
-
-slice-aggregate-say-3 : tie.Need-slice-aggregate-say-3
-slice-aggregate-say-3 c = search needs
-
-say-requires-3 : tie.Need-say-requires-3
-say-requires-3 c κs = search needs
-
-end-line-requires : tie.Need-end-line-requires
-end-line-requires c κs = search needs
+say-other-requires : tie.Need-say-other-requires
+say-other-requires c κs = search needs
 
 returns : tie.Need-returns
 unfolding tallied
-returns c = simp (ne-eqb _ _ (c .before .before .before .before .before .before .before .if1 .taken))
+returns c = simp (ne-eqb _ _ (c .before .if1 .taken))
 
 returns-2 : tie.Need-returns-2
 unfolding tallied
@@ -60,13 +42,7 @@ pub count-spec : {M : Type 1} → statement M
 count-spec =
     tie.close
     (tie.spec
-    slice-aggregate-say
-    say-requires
-    slice-aggregate-say-2
-    say-requires-2
-    slice-aggregate-say-3
-    say-requires-3
-    end-line-requires
+    say-other-requires
     returns
     returns-2
     wide-requires

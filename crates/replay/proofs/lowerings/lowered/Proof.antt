@@ -1,0 +1,40 @@
+-- `replay::lowerings::lowered` stays in bounds: the room is compared first.
+use mathlib.Core.Path.{sym}
+use native.Mathlib.Omega.{arith}
+use lib.Seq.{length-take-le}
+use borrow.Author.Needs.{needs}
+use Rattle.replay.proofs.lowerings.lowered.Statement.{statement}
+use Rattle.replay.proofs.lowerings.lowered.Tie as tie
+
+returns : tie.Need-returns
+returns c = search needs
+
+slice-relend-prefix-to-sql : tie.Need-slice-relend-prefix-to-sql
+slice-relend-prefix-to-sql c = search needs
+
+slice-aggregate-to-sql : tie.Need-slice-aggregate-to-sql
+slice-aggregate-to-sql c = sym (length-take-le _ _ (omega arith))
+
+to-sql-requires : tie.Need-to-sql-requires
+to-sql-requires c κs = search needs
+
+found-of-requires : tie.Need-found-of-requires
+found-of-requires c κs = search needs
+
+same-length : tie.Need-same-length
+same-length c = search needs
+
+returns-2 : tie.Need-returns-2
+returns-2 c = search needs
+
+pub lowered-spec : {M : Type 1} → statement M
+lowered-spec =
+    tie.close
+    (tie.spec
+    returns
+    slice-relend-prefix-to-sql
+    slice-aggregate-to-sql
+    to-sql-requires
+    found-of-requires
+    same-length
+    returns-2)

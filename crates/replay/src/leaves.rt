@@ -1,0 +1,139 @@
+// Records of the leaf kinds, each with the text that the Rust itself wrote. A case: the record, the text.
+// A case is right if the crate `literal` writes that text into a buffer that just holds it, changes no byte beside it,
+// and changes nothing where the buffer is one byte short.
+use crate::cases::Turn;
+use crate::cases::all_are;
+use crate::lines::say;
+use record::byte_at;
+use record::dword_at;
+use record::word_at;
+
+// What is counted of a case that is right.
+const RIGHT: u8 = 1;
+
+// What every byte of a buffer is before a text is written.
+const BLANK: u8 = 238;
+
+// Where the texts are written, so that bytes before them can be watched.
+const START: usize = 3;
+
+// The bytes from i on, none past the end.
+fn from(s: &[u8], i: usize) -> &[u8] {
+    if i <= s.len() { &s[i..] } else { &s[0..0] }
+}
+
+// A Str is its text in quotes, and then the collation that its flags ask for.
+fn write_str(body: &[u8], out: &mut [u8]) -> usize {
+    let end = literal::put_quoted(from(body, 1), out, START);
+    match byte_at(body, 0) {
+        0 => end,
+        1 => literal::put_collate(b"NC", out, end),
+        2 => literal::put_collate(b"NA", out, end),
+        _ => literal::put_collate(b"NCA", out, end),
+    }
+}
+
+fn write_date(body: &[u8], out: &mut [u8]) -> usize {
+    literal::put_date(
+        word_at(body, 0),
+        byte_at(body, 2),
+        byte_at(body, 3),
+        out,
+        START,
+    )
+}
+
+fn write_timestamp(body: &[u8], out: &mut [u8]) -> usize {
+    literal::put_timestamp(
+        word_at(body, 0),
+        byte_at(body, 2),
+        byte_at(body, 3),
+        byte_at(body, 4),
+        byte_at(body, 5),
+        byte_at(body, 6),
+        out,
+        START,
+    )
+}
+
+fn write_leaf(kind: usize, body: &[u8], out: &mut [u8]) -> usize {
+    match kind {
+        0 => emit::put(b"NULL", out, START),
+        1 => literal::put_unbounded(out, START),
+        2 => literal::put_bool(byte_at(body, 0) != 0, out, START),
+        3 => literal::put_num(
+            tree::mantissa_at(body, 0),
+            byte_at(body, 8) as u8,
+            out,
+            START,
+        ),
+        4 => write_str(body, out),
+        5 => write_date(body, out),
+        6 => write_timestamp(body, out),
+        7 => literal::put_spatial(dword_at(body, 0), from(body, 4), out, START),
+        _ => START,
+    }
+}
+
+// Into a part of the buffer that just holds the text.
+fn fits(kind: usize, body: &[u8], text: &[u8], out: &mut [u8]) -> bool {
+    let end = START + text.len();
+    if out.len() < end {
+        return false;
+    }
+    if write_leaf(kind, body, &mut out[0..end]) != end {
+        return false;
+    }
+    if out.len() < end {
+        return false;
+    }
+    if check::same(&out[START..end], text) {
+        if all_are(&out[0..START], BLANK) {
+            return all_are(&out[end..], BLANK);
+        }
+    }
+    false
+}
+
+// Into a part of the buffer that is one byte short: the text is counted, and nothing is written (of a Str with a collation its quoted text may be).
+fn falls_short(kind: usize, body: &[u8], text: &[u8], out: &mut [u8]) -> bool {
+    let short = 2 + text.len();
+    if out.len() < short {
+        return false;
+    }
+    if write_leaf(kind, body, &mut out[0..short]) != START + text.len() {
+        return false;
+    }
+    if kind == 4 {
+        if byte_at(body, 0) != 0 {
+            return true;
+        }
+    }
+    all_are(out, BLANK)
+}
+
+// RIGHT for a leaf that is written as it should be, else 0.
+fn score(record: &[u8], text: &[u8]) -> u8 {
+    let kind = word_at(record, 4);
+    let body = from(record, 6);
+    let mut room = [BLANK; 1024];
+    let mut short = [BLANK; 1024];
+    if fits(kind, body, text, &mut room) {
+        if falls_short(kind, body, text, &mut short) {
+            return RIGHT;
+        }
+    }
+    0
+}
+
+pub(crate) fn judged(record: &[u8], text: &[u8]) -> Turn {
+    Turn::Case {
+        want: RIGHT,
+        found: score(record, text),
+    }
+}
+
+pub(crate) fn report(done: u64, counts: [u64; 16]) {
+    say(b"", counts[1]);
+    say(b" leaves right of ", done);
+}

@@ -1,0 +1,90 @@
+// Trees with texts that the Rust wrote, against gpkg::to_sql. A case: the settings, the tree, the buffer's length in four bytes,
+// the answer, which is a byte 0 and the text, or the refusal's number.
+ghost use mathlib.Core.Path.{_≡_};
+ghost use Prim.Native.Nat.{_<_};
+ghost use lib.ListN.{length};
+use crate::cases::Turn;
+use crate::cases::all_are;
+use crate::lines::say;
+use gpkg::Lowered;
+
+// A byte that no text has: the buffer is full of it before the call.
+const BLANK: u8 = 7;
+// What is found instead of an answer: a text that is not the stored one; a byte changed that is not the text's; a case that asks for more
+// room than there is.
+const OTHER_TEXT: u8 = 100;
+
+const BYTE_CHANGED: u8 = 101;
+
+const NO_ROOM: u8 = 102;
+
+fn blank_buffer() -> [u8; 65536]
+    ensures { λ r. ⌜ 65536 ≡ length r ⌝ }
+{
+    [BLANK; 65536]
+}
+
+fn text_found<'a>(n: usize, text: &'a [u8], out: &'a [u8]) -> u8 {
+    if !check::same(input::first(out, n), text) {
+        return OTHER_TEXT;
+    }
+    if out.len() < n {
+        return OTHER_TEXT;
+    }
+    if !all_are(&out[n..], BLANK) {
+        return BYTE_CHANGED;
+    }
+    0
+}
+
+fn refusal_found(number: u8, out: &[u8]) -> u8 {
+    if !all_are(out, BLANK) {
+        return BYTE_CHANGED;
+    }
+    number
+}
+
+fn found_of<'a>(r: Lowered, text: &'a [u8], out: &'a [u8]) -> u8 {
+    match r {
+        Lowered::Text(n) => text_found(n, text, out),
+        Lowered::Refused(e) => refusal_found(refusal::number(e), out),
+    }
+}
+
+// A part of the buffer is lent, and the whole is compared.
+fn lowered(settings: &[u8], tree: &[u8], text: &[u8], out: &mut [u8], room: usize) -> u8 {
+    if out.len() < room {
+        return NO_ROOM;
+    }
+    let r = gpkg::to_sql(settings, tree, &mut out[..room]);
+    found_of(r, text, out)
+}
+
+fn answer(settings: &[u8], tree: &[u8], text: &[u8], room: usize) -> u8 {
+    let mut out = blank_buffer();
+    lowered(settings, tree, text, &mut out, room)
+}
+
+pub(crate) fn judged(settings: &[u8], tree: &[u8], room: &[u8], stored: &[u8]) -> Turn {
+    if room.len() != 4 {
+        return Turn::Broken;
+    }
+    if stored.len() == 0 {
+        return Turn::Broken;
+    }
+    Turn::Case {
+        want: stored[0],
+        found: answer(settings, tree, &stored[1..], record::dword_at(room, 0)),
+    }
+}
+
+pub(crate) fn report(done: u64, counts: [u64; 16]) {
+    say(b"cases ", done);
+    say(b", as stored: texts ", counts[0]);
+    say(b", refused 3 ", counts[3]);
+    say(b", 5 ", counts[5]);
+    say(b", 6 ", counts[6]);
+    say(b", 7 ", counts[7]);
+    say(b", 8 ", counts[8]);
+    say(b", 9 ", counts[9]);
+}
