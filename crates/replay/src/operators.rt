@@ -6,6 +6,7 @@ use crate::cases::Turn;
 use crate::lines::say;
 use op::Named;
 use op::Op;
+use op::Spelled;
 
 const TAB: u8 = 9;
 
@@ -79,21 +80,14 @@ fn classes_right(op: Op, bits: &[u8]) -> bool {
     true
 }
 
-// The Rust panics where an operator has no spelling. The bytes past a spelling stay as they were.
-fn spelling_right(op: Op, text: &[u8]) -> bool {
-    let blank = [b'#'; 20];
-    let mut out = [b'#'; 20];
-    let n = op::to_sql(op, &mut out, 0);
-    if 20 < n {
-        return false;
+// The Rust panics where an operator has no spelling.
+fn spelling_right(number: usize, text: &[u8]) -> bool {
+    let table = op::spellings();
+    let spelled = op::to_sql(&table, number);
+    match spelled {
+        Spelled::NoSpelling => check::same(text, b"PANIC"),
+        Spelled::At(from, to) => check::same(text, &table[from..to]),
     }
-    if check::same(&out[n..], &blank[n..]) {
-        if n == 0 {
-            return check::same(text, b"PANIC");
-        }
-        return check::same(text, &out[0..n]);
-    }
-    false
 }
 
 fn line_right(line: &[u8], number: usize) -> bool {
@@ -104,7 +98,7 @@ fn line_right(line: &[u8], number: usize) -> bool {
         return false;
     }
     let spelled = behind(behind(line, TAB), TAB);
-    if spelling_right(op, upto(spelled, TAB)) {
+    if spelling_right(number, upto(spelled, TAB)) {
         return classes_right(op, behind(spelled, TAB));
     }
     false
