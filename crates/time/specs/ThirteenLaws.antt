@@ -26,7 +26,8 @@ use Rattle.row.specs.Row.{val, Column, Found, absent, has}
 use Rattle.row.specs.Row as row
 use Rattle.truth.specs.declared.Truth.{Truth}
 use Rattle.truth.specs.declared.Truth.the-variants.{True, False}
-use Rattle.truth.specs.Lex.{LT, GT, EQ}
+use Rattle.truth.specs.declared.Kind.{Kind}
+use Rattle.truth.specs.declared.Kind.the-variants.{Lt as LT, Gt as GT, Eq as EQ}
 use Rattle.truth.specs.Grammar.{and3, truthOf, compared, holds}
 use Rattle.time.specs.FilterTruth.{endOn, signOf, condTruth, endValues, temporalTruth, isValue, liesBelow, proper}
 use Rattle.time.specs.Converse.{thirteen}
@@ -67,7 +68,7 @@ module _ (v : ℕ → Found) (c : ℕ → Bool) (x0 x1 x2 x3 : List ℕ)
   Answers q =
       condTruth v (translate (opNumber q) true true c) ≡ truthOf (by (order x0 x2) (order x0 x3) (order x1 x2) (order x1 x3) q)
 
-  compare : (op i j : ℕ) (x y : List ℕ) → v i ≡ has (val x) → v j ≡ has (val y) → compared op (v i) (v j) ≡ truthOf (holds op (order x y))
+  compare : (op : Kind) (i j : ℕ) (x y : List ℕ) → v i ≡ has (val x) → v j ≡ has (val y) → compared op (v i) (v j) ≡ truthOf (holds op (order x y))
   compare op i j x y e f = rw (e, f)
 
   after-answers : Answers TAfter

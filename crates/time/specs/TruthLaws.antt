@@ -18,7 +18,8 @@ use Rattle.row.specs.Row.{val, Column, Found, absent, has}
 use Rattle.row.specs.Row as row
 use Rattle.truth.specs.declared.Truth.{Truth}
 use Rattle.truth.specs.declared.Truth.the-variants.{True, False, Unknown, Missing}
-use Rattle.truth.specs.Lex.{LT, GT, EQ, NE}
+use Rattle.truth.specs.declared.Kind.{Kind}
+use Rattle.truth.specs.declared.Kind.the-variants.{Lt as LT, Gt as GT, Eq as EQ, Ne as NE}
 use Rattle.truth.specs.Grammar.{text, value, not3, and3, or3, truthOf, compared, nullity, holds}
 use Rattle.sql.specs.Condition as sql
 use Rattle.time.specs.FilterTruth.{treeAtom, endAtom, valueOn, endOn, condTruth, isValue}
@@ -117,10 +118,10 @@ orders P below same above x y =
     (order-cases x y)
 
 -- a sign and the sign that says the same from the other side
-abbrev pub Facing : ℕ → ℕ → Type 0
+abbrev pub Facing : Kind → Kind → Type 0
 Facing p q = (holds p Less ≡ holds q Greater) × (holds p Equal ≡ holds q Equal) × (holds p Greater ≡ holds q Less)
 
-pub facing : (p q : ℕ) → Facing p q → (x y : Found) → compared p x y ≡ compared q y x
+pub facing : (p q : Kind) → Facing p q → (x y : Found) → compared p x y ≡ compared q y x
 facing p q h absent absent = refl
 facing p q h absent (has y) = refl
 facing p q h (has x) absent = refl
