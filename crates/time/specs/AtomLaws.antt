@@ -8,15 +8,17 @@ use native.Mathlib.Omega.{arith}
 use lib.Dec.{eqb}
 use lib.ListN.{length, take, length-append}
 use lib.Seq.{take-append-seam, drop-append-seam, getD-append-seam, take-append-add, drop-append-add}
-use borrow.Author.Tests.{ne-eqb, eqb-true}
+use borrow.Author.Tests.{eqb-true}
 use Rattle.prelude.specs.Bytes.{bytes}
 use Rattle.prelude.specs.Choice.{pick, both, negated, between, all, some, same}
 use Rattle.prelude.specs.ChoiceLaws.{both-true}
 use Rattle.charset.specs.Charset.{letter, digit, nameStart, nameByte, upper, uppers, name, reserved, reservedWords, strByte}
-use Rattle.truth.specs.Lex.{NAME, QUOTED, TEXT, OPEN, LT, GT, LE, GE, EQ, NE, NOT, NULL, TRUE, FALSE, IS, Token, tokens, kind, body, rest, lexeme, quoteKind, run, wordKind, signKind, signMore}
-use Rattle.truth.specs.LexLaws.{tokens-space, tokens-one}
+use Rattle.truth.specs.declared.Kind.{Kind}
+use Rattle.truth.specs.declared.Kind.the-variants.{Name as NAME, Quoted as QUOTED, Text as TEXT, Open as OPEN, Lt as LT, Gt as GT, Le as LE, Ge as GE, Eq as EQ, Ne as NE, Not as NOT, Null as NULL, True as TRUE, False as FALSE, Is as IS}
+use Rattle.truth.specs.Lex.{Token, tokens, kind, body, rest, lexeme, quoteKind, run, wordKind, signKind, signMore}
+use Rattle.truth.specs.LexLaws.{is-other, is-apart, tokens-space, tokens-one}
 use Rattle.truth.specs.declared.Truth.the-variants.{True, False, Unknown}
-use Rattle.truth.specs.Grammar.{Atom, column, text, none, Ast, cmp, isNull, const, neg, got, isName, isAtom, inner, atomOf, notNull, nullTest, fromAtom, simple}
+use Rattle.truth.specs.Grammar.{Atom, column, text, none, Ast, cmp, isNull, const, neg, got, isName, isAtom, isComparison, inner, atomOf, notNull, nullTest, fromAtom, simple}
 use Rattle.time.specs.ReadBackLaws.{Break, at-end, at-space, at-close, Boundary, tok, Item}
 
 -- a run ends where the first byte of what follows fails the test
@@ -187,42 +189,42 @@ unfolding kind body atomOf
 null-atom = record { token = tok NULL (bytes "NULL"); lexed = λ {k} c. null-token c; kinded = refl; means = λ ts. refl }
 
 -- an atom's token is of no other kind
-not-kind : (k j : ℕ) → isAtom k ≡ true → isAtom j ≡ false → k ≡ j → ⊥
+not-kind : (k j : Kind) → isAtom k ≡ true → isAtom j ≡ false → k ≡ j → ⊥
 not-kind k j p q e = let z : _≡_ {A = ℕ} 0 1 = cc (ap isAtom e) in omega arith
 
 -- Signs between spaces.
-pub record SignText (w : List ℕ) (n : ℕ) : Type 0 where
+pub record SignText (w : List ℕ) (n : Kind) : Type 0 where
   pub lexed : (k : List ℕ) → tokens (bytes " " ++ (w ++ (bytes " " ++ k))) ≡ tok n w ∷ tokens k
-  pub isSign : between LT n NE ≡ true
+  pub isSign : isComparison n ≡ true
 
 pub sign-lt : SignText (bytes "<") LT
-unfolding lexeme nameStart letter signKind signMore
+unfolding lexeme nameStart letter signKind signMore some
 sign-lt = record { lexed = λ k. tokens-space _ ∙ (tokens-one 60 (bytes " " ++ k) LT 0 refl refl ∙ ap (λ l. tok LT (bytes "<") ∷ l) (tokens-space k)); isSign = refl }
 
 pub sign-gt : SignText (bytes ">") GT
-unfolding lexeme nameStart letter signKind signMore
+unfolding lexeme nameStart letter signKind signMore some
 sign-gt = record { lexed = λ k. tokens-space _ ∙ (tokens-one 62 (bytes " " ++ k) GT 0 refl refl ∙ ap (λ l. tok GT (bytes ">") ∷ l) (tokens-space k)); isSign = refl }
 
 pub sign-eq : SignText (bytes "=") EQ
-unfolding lexeme nameStart letter signKind signMore
+unfolding lexeme nameStart letter signKind signMore some
 sign-eq = record { lexed = λ k. tokens-space _ ∙ (tokens-one 61 (bytes " " ++ k) EQ 0 refl refl ∙ ap (λ l. tok EQ (bytes "=") ∷ l) (tokens-space k)); isSign = refl }
 
 pub sign-le : SignText (bytes "<=") LE
-unfolding lexeme nameStart letter signKind signMore
+unfolding lexeme nameStart letter signKind signMore some
 sign-le = record { lexed = λ k. tokens-space _ ∙ (tokens-one 60 (bytes "= " ++ k) LE 1 refl refl ∙ ap (λ l. tok LE (bytes "<=") ∷ l) (tokens-space k)); isSign = refl }
 
 pub sign-ge : SignText (bytes ">=") GE
-unfolding lexeme nameStart letter signKind signMore
+unfolding lexeme nameStart letter signKind signMore some
 sign-ge = record { lexed = λ k. tokens-space _ ∙ (tokens-one 62 (bytes "= " ++ k) GE 1 refl refl ∙ ap (λ l. tok GE (bytes ">=") ∷ l) (tokens-space k)); isSign = refl }
 
 -- <>
 pub sign-ne : SignText (bytes "<>") NE
-unfolding lexeme nameStart letter signKind signMore
+unfolding lexeme nameStart letter signKind signMore some
 sign-ne = record { lexed = λ k. tokens-space _ ∙ (tokens-one 60 (bytes "> " ++ k) NE 1 refl refl ∙ ap (λ l. tok NE (bytes "<>") ∷ l) (tokens-space k)); isSign = refl }
 
 -- !=
 pub sign-bang : SignText (bytes "!=") NE
-unfolding lexeme nameStart letter signKind signMore
+unfolding lexeme nameStart letter signKind signMore some
 sign-bang = record { lexed = λ k. tokens-space _ ∙ (tokens-one 33 (bytes "= " ++ k) NE 1 refl refl ∙ ap (λ l. tok NE (bytes "!=") ∷ l) (tokens-space k)); isSign = refl }
 
 -- An item from its tokens: they begin with an atom, so with neither NOT nor a bracket.
@@ -241,15 +243,15 @@ from-tokens s x t a f e r =
 simple-atom : (t : Token) (ts : List Token) → isAtom (t .kind) ≡ true → simple (t ∷ ts) ≡ fromAtom (t ∷ ts)
 unfolding simple kind
 simple-atom t ts a =
-    rw (ne-eqb (t .kind) TRUE (not-kind (t .kind) TRUE a refl), ne-eqb (t .kind) FALSE (not-kind (t .kind) FALSE a refl), a)
+    rw (is-other (t .kind) TRUE (not-kind (t .kind) TRUE a refl), is-other (t .kind) FALSE (not-kind (t .kind) FALSE a refl), a)
 
-compare-tokens : (s w t k : List ℕ) (a b : Atom) (n : ℕ) (A : AtomText s a) → SignText w n → (B : AtomText t b) → Break k
+compare-tokens : (s w t k : List ℕ) (a b : Atom) (n : Kind) (A : AtomText s a) → SignText w n → (B : AtomText t b) → Break k
     → tokens ((s ++ (bytes " " ++ (w ++ (bytes " " ++ t)))) ++ k) ≡ A .token ∷ (tok n w ∷ (B .token ∷ tokens k))
 compare-tokens s w t k a b n A S B c =
     ap tokens (append-assoc s (bytes " " ++ (w ++ (bytes " " ++ t))) k ∙ ap (λ l. s ++ (bytes " " ++ l)) (append-assoc w (bytes " " ++ t) k))
     ∙ (A .lexed (at-space _) ∙ ap (λ l. A .token ∷ l) (S .lexed (t ++ k) ∙ ap (λ l. tok n w ∷ l) (B .lexed c)))
 
-pub compare-item : {s w t : List ℕ} {a b : Atom} {n : ℕ} → AtomText s a → SignText w n → AtomText t b → Item (s ++ (bytes " " ++ (w ++ (bytes " " ++ t)))) (cmp n a b)
+pub compare-item : {s w t : List ℕ} {a b : Atom} {n : Kind} → AtomText s a → SignText w n → AtomText t b → Item (s ++ (bytes " " ++ (w ++ (bytes " " ++ t)))) (cmp n a b)
 unfolding fromAtom kind rest
 compare-item {s} {w} {t} {a} {b} {n} A S B =
     from-tokens (s ++ (bytes " " ++ (w ++ (bytes " " ++ t)))) (cmp n a b) (A .token) (A .kinded) (λ r. tok n w ∷ (B .token ∷ r))
@@ -268,8 +270,8 @@ pub true-item : Item (bytes "TRUE") (const True)
 unfolding simple kind rest
 true-item =
     record {
-      no-not = λ k b q. (let e = ap kind (true-token (b .breaks)) in omega arith);
-      no-open = λ k b q. (let e = ap kind (true-token (b .breaks)) in omega arith);
+      no-not = λ k b q. is-apart TRUE NOT refl (sym (ap kind (true-token (b .breaks))) ∙ q);
+      no-open = λ k b q. is-apart TRUE OPEN refl (sym (ap kind (true-token (b .breaks))) ∙ q);
       reads = λ k b. ap simple (true-token (b .breaks));
     }
 
@@ -277,8 +279,8 @@ pub false-item : Item (bytes "FALSE") (const False)
 unfolding simple kind rest
 false-item =
     record {
-      no-not = λ k b q. (let e = ap kind (false-token (b .breaks)) in omega arith);
-      no-open = λ k b q. (let e = ap kind (false-token (b .breaks)) in omega arith);
+      no-not = λ k b q. is-apart FALSE NOT refl (sym (ap kind (false-token (b .breaks))) ∙ q);
+      no-open = λ k b q. is-apart FALSE OPEN refl (sym (ap kind (false-token (b .breaks))) ∙ q);
       reads = λ k b. ap simple (false-token (b .breaks));
     }
 
@@ -295,7 +297,7 @@ pub quoted-name : (n : List ℕ) → name n ≡ true → NameText (bytes "\"" ++
 unfolding quoted-atom
 quoted-name n e = record { atom = quoted-atom n e; named = refl }
 
-name-no-null : (k : ℕ) → isName k ≡ true → k ≡ NULL → ⊥
+name-no-null : (k : Kind) → isName k ≡ true → k ≡ NULL → ⊥
 name-no-null k p e = let z : _≡_ {A = ℕ} 0 1 = cc (ap isName e) in omega arith
 
 abbrev nullToken : Token
@@ -309,15 +311,15 @@ isToken = tok IS (bytes "IS")
 
 -- a name's token, and what a test for NULL makes of the tokens after it
 name-test : (t u : Token) (ts : List Token) (n : List ℕ) → isAtom (t .kind) ≡ true → isName (t .kind) ≡ true
-    → ((r : List Token) → atomOf (t ∷ r) ≡ column n) → between LT (u .kind) NE ≡ false
+    → ((r : List Token) → atomOf (t ∷ r) ≡ column n) → isComparison (u .kind) ≡ false
     → simple (t ∷ (u ∷ ts)) ≡ nullTest (column n) (u ∷ ts)
 unfolding fromAtom kind rest
 name-test t u ts n a m v b =
-    simple-atom t (u ∷ ts) a ∙ rw (b, ne-eqb (t .kind) NULL (name-no-null (t .kind) m), m, v (u ∷ ts))
+    simple-atom t (u ∷ ts) a ∙ rw (b, is-other (t .kind) NULL (name-no-null (t .kind) m), m, v (u ∷ ts))
 
 module _ {s n : List ℕ} (N : NameText s n) where
   pub is-null-item : Item (s ++ bytes " IS NULL") (isNull (column n))
-  unfolding nullTest kind rest
+  unfolding nullTest kind rest some
   is-null-item =
       from-tokens _ _ (N .atom .token) (N .atom .kinded) (λ r. isToken ∷ (nullToken ∷ r))
       (λ k c. ap tokens (append-assoc s _ k)
@@ -325,7 +327,7 @@ module _ {s n : List ℕ} (N : NameText s n) where
       (λ k c. name-test (N .atom .token) isToken (nullToken ∷ tokens k) n (N .atom .kinded) (N .named) (N .atom .means) refl)
 
   pub is-not-null-item : Item (s ++ bytes " IS NOT NULL") (neg (isNull (column n)))
-  unfolding nullTest notNull kind rest
+  unfolding nullTest notNull kind rest some
   is-not-null-item =
       from-tokens _ _ (N .atom .token) (N .atom .kinded) (λ r. isToken ∷ (notToken ∷ (nullToken ∷ r)))
       (λ k c. ap tokens (append-assoc s _ k)
@@ -333,7 +335,7 @@ module _ {s n : List ℕ} (N : NameText s n) where
       (λ k c. name-test (N .atom .token) isToken (notToken ∷ (nullToken ∷ tokens k)) n (N .atom .kinded) (N .named) (N .atom .means) refl)
 
   pub not-null-item : Item (s ++ bytes " NOT NULL") (neg (isNull (column n)))
-  unfolding nullTest notNull kind rest
+  unfolding nullTest notNull kind rest some
   not-null-item =
       from-tokens _ _ (N .atom .token) (N .atom .kinded) (λ r. notToken ∷ (nullToken ∷ r))
       (λ k c. ap tokens (append-assoc s _ k)

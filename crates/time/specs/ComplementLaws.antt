@@ -3,9 +3,10 @@
 use Prim.Native.Nat.{ℕ}
 use mathlib.Core.Path.{_≡_, refl, sym, _∙_}
 use mathlib.Core.List.{List}
-use mathlib.Core.Bool.{Bool, true, false, not}
-use lib.Dec.{eqb}
-use Rattle.prelude.specs.Choice.{either, negated}
+use mathlib.Core.Bool.{Bool, true, false}
+use Rattle.prelude.specs.Choice.{either, negated, some}
+use Rattle.order.specs.declared.Ordering.{Ordering}
+use Rattle.order.specs.declared.Ordering.the-variants.{Less, Equal, Greater}
 use Rattle.order.specs.Order.{order}
 use Rattle.op.specs.declared.Op.the-variants.{TDisjoint, TIntersects}
 use Rattle.tree.specs.Tree.{Tree}
@@ -20,7 +21,7 @@ use Rattle.truth.specs.declared.Truth.{Truth}
 use Rattle.truth.specs.declared.Truth.the-variants.{True, False, Unknown, Missing}
 use Rattle.truth.specs.declared.Reading.the-variants.{True as SaysTrue, False as SaysFalse, Unknown as SaysUnknown}
 use Rattle.truth.specs.Reading.{answered}
-use Rattle.truth.specs.Lex.{EQ, NE}
+use Rattle.truth.specs.declared.Kind.the-variants.{Eq as EQ, Ne as NE}
 use Rattle.truth.specs.Grammar.{not3, or3, truthOf, compared, holds}
 use Rattle.time.specs.FilterTruth.{endOn, isValue, condTruth, endValues, temporalTruth, nonNull, columnsNonNull}
 use Rattle.time.specs.Claims.{Opposite}
@@ -46,16 +47,17 @@ open-guard cs slot e h b = go (isId e) (everywhere-here (λ n. either (negated (
 
 -- the two signs of two instants
 pub ne-eq : (x y : Found) → compared NE x y ≡ not3 (compared EQ x y)
-unfolding holds
+unfolding holds some
 ne-eq absent y = refl
 ne-eq (has x) absent = refl
 ne-eq (has row.null) (has y) = refl
 ne-eq (has (val x)) (has row.null) = refl
-ne-eq (has (val x)) (has (val y)) = go (eqb (order x y) 1)
+ne-eq (has (val x)) (has (val y)) = go (order x y)
   where
-    go : (b : Bool) → truthOf (not b) ≡ not3 (truthOf b)
-    go true = refl
-    go false = refl
+    go : (o : Ordering) → truthOf (holds NE o) ≡ not3 (truthOf (holds EQ o))
+    go Less = refl
+    go Equal = refl
+    go Greater = refl
 
 sides : (a b a' b' : Truth) → a ≡ a' → b ≡ b' → or3 a b ≡ or3 a' b'
 sides a b a' b' e f = cc

@@ -132,7 +132,7 @@ complement-admits :
     (isOperand b ≡ true) × (isOperand (interval a c) ≡ true) × (columnsNonNull days b ≡ true) × (columnsNonNull days (interval a c) ≡ true)
     × (temporalTruth days TIntersects b (interval a c) ≡ True) × (temporalTruth days TDisjoint b (interval a c) ≡ False)
     × (temporalTruth days TIntersects null a ≡ Unknown) × (temporalTruth days TDisjoint null a ≡ Unknown)
-unfolding temporalTruth condTruth translators.translate translators.tDisjoint translators.tIntersects sql.checkId sql.checkIds trees.isInterval trees.isId trees.startOf trees.stopOf trees.endsOf valueOn endOn look same order grammar.holds literal.date literal.low isOperand isEnd columnsNonNull isValue treeAtom endAtom grammar.value trees.everywhere trees.first trees.second
+unfolding temporalTruth condTruth translators.translate translators.tDisjoint translators.tIntersects sql.checkId sql.checkIds trees.isInterval trees.isId trees.startOf trees.stopOf trees.endsOf valueOn endOn look same order grammar.holds some literal.date literal.low isOperand isEnd columnsNonNull isValue treeAtom endAtom grammar.value trees.everywhere trees.first trees.second
 complement-admits = (refl, refl, refl, refl, refl, refl, refl, refl)
 
 complement-instance : temporalTruth days TDisjoint b (interval a c) ≡ not3 (temporalTruth days TIntersects b (interval a c))
@@ -143,12 +143,12 @@ complement-instance = disjoint-intersects days b (interval a c) refl refl
 null-column :
     (columnsNonNull sheetN (interval b c) ≡ false) × (temporalTruth sheetN TDisjoint a (interval b c) ≡ Unknown)
     × (temporalTruth sheetN TIntersects a (interval b c) ≡ False)
-unfolding temporalTruth condTruth translators.translate translators.tDisjoint translators.tIntersects sql.checkId sql.checkIds trees.isInterval trees.isId trees.startOf trees.stopOf trees.endsOf valueOn endOn look same order grammar.holds literal.date literal.low columnsNonNull isValue treeAtom endAtom grammar.value trees.everywhere trees.first trees.second
+unfolding temporalTruth condTruth translators.translate translators.tDisjoint translators.tIntersects sql.checkId sql.checkIds trees.isInterval trees.isId trees.startOf trees.stopOf trees.endsOf valueOn endOn look same order grammar.holds some literal.date literal.low columnsNonNull isValue treeAtom endAtom grammar.value trees.everywhere trees.first trees.second
 null-column = (refl, refl, refl)
 
 -- A column that the row lacks: both are missing (13).
 lacking : (columnsNonNull [] a ≡ false) × (temporalTruth [] TDisjoint a b ≡ Missing) × (temporalTruth [] TIntersects a b ≡ Missing)
-unfolding temporalTruth condTruth translators.translate translators.tDisjoint translators.tIntersects sql.checkId sql.checkIds trees.isInterval trees.isId trees.startOf trees.stopOf trees.endsOf valueOn endOn look same order grammar.holds literal.date literal.low columnsNonNull isValue treeAtom endAtom grammar.value trees.everywhere trees.first trees.second
+unfolding temporalTruth condTruth translators.translate translators.tDisjoint translators.tIntersects sql.checkId sql.checkIds trees.isInterval trees.isId trees.startOf trees.stopOf trees.endsOf valueOn endOn look same order grammar.holds some literal.date literal.low columnsNonNull isValue treeAtom endAtom grammar.value trees.everywhere trees.first trees.second
 lacking = (refl, refl, refl)
 
 -- ---- Exactly one of thirteen.
@@ -156,7 +156,7 @@ lacking = (refl, refl, refl)
 one-admits :
     (proper days a c ≡ true) × (proper days b d ≡ true) × (temporalTruth days TOverlaps (interval a c) (interval b d) ≡ True)
     × (temporalTruth days TMeets (interval a c) (interval b d) ≡ False)
-unfolding temporalTruth condTruth translators.translate translators.tOverlaps translators.tMeets sql.checkId sql.checkIds trees.isInterval trees.isId trees.startOf trees.stopOf trees.endsOf valueOn endOn look same order grammar.holds literal.date literal.low liesBelow below treeAtom endAtom grammar.value trees.first trees.second
+unfolding temporalTruth condTruth translators.translate translators.tOverlaps translators.tMeets sql.checkId sql.checkIds trees.isInterval trees.isId trees.startOf trees.stopOf trees.endsOf valueOn endOn look same order grammar.holds some literal.date literal.low liesBelow below treeAtom endAtom grammar.value trees.first trees.second
 one-admits = (refl, refl, refl, refl)
 
 one-instance : ExactlyOne True False (λ o. temporalTruth days o (interval a c) (interval b d))
@@ -167,21 +167,21 @@ one-instance = exactly-one days a c b d refl refl
 improper :
     (proper days a a ≡ false) × (temporalTruth days TEquals (interval a a) (interval a a) ≡ True)
     × (temporalTruth days TMeets (interval a a) (interval a a) ≡ True)
-unfolding temporalTruth condTruth translators.translate translators.tEquals translators.tMeets sql.checkId sql.checkIds trees.isInterval trees.isId trees.startOf trees.stopOf trees.endsOf valueOn endOn look same order grammar.holds literal.date literal.low liesBelow below treeAtom endAtom grammar.value trees.first trees.second
+unfolding temporalTruth condTruth translators.translate translators.tEquals translators.tMeets sql.checkId sql.checkIds trees.isInterval trees.isId trees.startOf trees.stopOf trees.endsOf valueOn endOn look same order grammar.holds some literal.date literal.low liesBelow below treeAtom endAtom grammar.value trees.first trees.second
 improper = (refl, refl, refl)
 
 -- `..` as an end lies below its start: [a, ..] is no proper interval either, and both meets [.., a] and is met by it.
 open-end :
     (proper days a unbounded ≡ false) × (temporalTruth days TMeets (interval a unbounded) (interval unbounded a) ≡ True)
     × (temporalTruth days TMetBy (interval a unbounded) (interval unbounded a) ≡ True)
-unfolding temporalTruth condTruth translators.translate translators.tMeets translators.tMetBy sql.checkId sql.checkIds trees.isInterval trees.isId trees.startOf trees.stopOf trees.endsOf valueOn endOn look same order grammar.holds literal.date literal.low liesBelow below literal.openEnd treeAtom endAtom grammar.value trees.first trees.second
+unfolding temporalTruth condTruth translators.translate translators.tMeets translators.tMetBy sql.checkId sql.checkIds trees.isInterval trees.isId trees.startOf trees.stopOf trees.endsOf valueOn endOn look same order grammar.holds some literal.date literal.low liesBelow below literal.openEnd treeAtom endAtom grammar.value trees.first trees.second
 open-end = (refl, refl, refl)
 
 -- A NULL end, written or in a column: whether such an interval equals itself is unknown.
 null-end :
     (proper days a null ≡ false) × (temporalTruth days TEquals (interval a null) (interval a null) ≡ Unknown)
     × (proper sheetN b d ≡ false) × (temporalTruth sheetN TEquals (interval b d) (interval b d) ≡ Unknown)
-unfolding temporalTruth condTruth translators.translate translators.tEquals sql.checkId sql.checkIds trees.isInterval trees.isId trees.startOf trees.stopOf trees.endsOf valueOn endOn look same order grammar.holds literal.date literal.low liesBelow below treeAtom endAtom grammar.value trees.first trees.second
+unfolding temporalTruth condTruth translators.translate translators.tEquals sql.checkId sql.checkIds trees.isInterval trees.isId trees.startOf trees.stopOf trees.endsOf valueOn endOn look same order grammar.holds some literal.date literal.low liesBelow below treeAtom endAtom grammar.value trees.first trees.second
 null-end = (refl, refl, refl, refl)
 
 -- ---- Agreement with OGC 21-065r2.
@@ -221,14 +221,14 @@ ogc-null = (refl, refl, refl, refl)
 -- `..` as an end is written as a start: [a, ..] reads as before b, though an open end lies above every instant.
 ogc-open-end :
     (ogcOperand ten (interval a unbounded) ≡ false) × (temporalTruth days TBefore (interval a unbounded) b ≡ True)
-unfolding temporalTruth condTruth translators.translate translators.tBefore sql.checkId sql.checkIds trees.isInterval trees.isId trees.startOf trees.stopOf trees.endsOf valueOn endOn look same order grammar.holds literal.date literal.low literal.openEnd ogcOperand isStart isPoint treeAtom endAtom grammar.value isEnd trees.first trees.second
+unfolding temporalTruth condTruth translators.translate translators.tBefore sql.checkId sql.checkIds trees.isInterval trees.isId trees.startOf trees.stopOf trees.endsOf valueOn endOn look same order grammar.holds some literal.date literal.low literal.openEnd ogcOperand isStart isPoint treeAtom endAtom grammar.value isEnd trees.first trees.second
 ogc-open-end = (refl, refl)
 
 -- Mixed widths: a date lies below its own midnight, as a shorter prefix comes first.
 ogc-mixed :
     (ogcOperand ten (timestamp 2024 1 1 0 0 0) ≡ false) × (ogcOperand nineteen (date 2024 1 1) ≡ false)
     × (temporalTruth [] TBefore (date 2024 1 1) (timestamp 2024 1 1 0 0 0) ≡ True) × (temporalTruth [] TEquals (date 2024 1 1) (timestamp 2024 1 1 0 0 0) ≡ False)
-unfolding temporalTruth condTruth translators.translate translators.tBefore translators.tEquals sql.checkId sql.checkIds trees.isInterval trees.isId trees.startOf trees.stopOf trees.endsOf valueOn endOn look same order grammar.holds literal.date literal.low literal.timestamp literal.clock ogcOperand treeAtom endAtom grammar.value isEnd trees.first trees.second isStart isPoint
+unfolding temporalTruth condTruth translators.translate translators.tBefore translators.tEquals sql.checkId sql.checkIds trees.isInterval trees.isId trees.startOf trees.stopOf trees.endsOf valueOn endOn look same order grammar.holds some literal.date literal.low literal.timestamp literal.clock ogcOperand treeAtom endAtom grammar.value isEnd trees.first trees.second isStart isPoint
 ogc-mixed = (refl, refl, refl, refl)
 
 -- A row of the other width: two seconds of one day are ordered, their days are not.

@@ -30,6 +30,7 @@ use Rattle.sql.specs.Translators.{translate}
 use Rattle.gpkg.specs.Text as gpkg
 use Rattle.gpkg.specs.Text.{children, bare, monadicText, dyadicText, endText, startText, stopText}
 use Rattle.row.specs.Row.{Column}
+use Rattle.truth.specs.declared.Kind.{Kind}
 use Rattle.truth.specs.declared.Truth.{Truth}
 use Rattle.truth.specs.Grammar.{column, text, Ast, cmp, isNull, const, neg, conj, disj, value, eval, not3, nullity}
 use Rattle.time.specs.Filter.{comparable, isEnd, isOperand, isNeg, isAnd, isOr, compares, timeFilter}
@@ -298,7 +299,7 @@ module _ (g : Settings) where
 
   -- comparisons
   module _ (n : ℕ) (t u : Tree) (p : isLiteralOrId t ≡ true) (q : isLiteralOrId u ≡ true) (A : AtomText (gpkg.text g t) (treeAtom t)) (B : AtomText (gpkg.text g u) (treeAtom u)) where
-    compared-as : {w : List ℕ} {k : ℕ} → SignText w k → Prints (room n) 3 (bare (isLiteralOrId t) (gpkg.text g t) ++ (bytes " " ++ (w ++ (bytes " " ++ bare (isLiteralOrId u) (gpkg.text g u))))) (cmp k (treeAtom t) (treeAtom u))
+    compared-as : {w : List ℕ} {k : Kind} → SignText w k → Prints (room n) 3 (bare (isLiteralOrId t) (gpkg.text g t) ++ (bytes " " ++ (w ++ (bytes " " ++ bare (isLiteralOrId u) (gpkg.text g u))))) (cmp k (treeAtom t) (treeAtom u))
     compared-as S = rw (p, q) (lift {l = 0} {m = 3} (omega arith) (item (compare-item A S B)))
 
     compares-shown : AllOf (λ o. Shown n (dyadic o t u)) (Eq ∷ Neq ∷ Lt ∷ Gt ∷ Lte ∷ Gte ∷ [])

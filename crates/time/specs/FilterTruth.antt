@@ -21,7 +21,8 @@ use Rattle.row.specs.Row.{val, Column, Found, absent, has}
 use Rattle.row.specs.Row as row
 use Rattle.truth.specs.declared.Truth.{Truth}
 use Rattle.truth.specs.declared.Truth.the-variants.{Unknown}
-use Rattle.truth.specs.Lex.{LT, GT, LE, GE, EQ, NE}
+use Rattle.truth.specs.declared.Kind.{Kind}
+use Rattle.truth.specs.declared.Kind.the-variants.{Lt as LT, Gt as GT, Le as LE, Ge as GE, Eq as EQ, Ne as NE}
 use Rattle.truth.specs.Grammar.{Atom, column, text, none, value, not3, and3, or3, truthOf, compared, nullity}
 use Rattle.time.specs.Operators.{entry}
 use Rattle.time.specs.Filter.{isNeg, isAnd, isOr, compares}
@@ -65,7 +66,7 @@ found (has v) = true
 unfoldable pub holds : List Column → Tree → Bool
 holds cs = everywhere (λ n. found (valueOn cs n))
 
-abbrev pub signOf : sql.Sign → ℕ
+abbrev pub signOf : sql.Sign → Kind
 signOf sql.lt = LT
 signOf sql.gt = GT
 signOf sql.eq = EQ
@@ -94,7 +95,7 @@ temporalTruth cs o t u =
     condTruth (endValues cs t u) (translate (opNumber o) (isInterval t) (isInterval u) (columnsOf t u))
 
 -- the sign of an operator of 8 to 13
-unfoldable pub comparison : Op → ℕ
+unfoldable pub comparison : Op → Kind
 comparison = entry ((Eq, EQ) ∷ (Neq, NE) ∷ (Lt, LT) ∷ (Gt, GT) ∷ (Lte, LE) ∷ (Gte, GE) ∷ []) EQ
 
 -- a filter without an operator: Bool is what it says, Null is unknown

@@ -14,6 +14,8 @@ use Rattle.prelude.specs.Choice.{pick, both, between, some}
 use Rattle.prelude.specs.ChoiceLaws.{both-true, between-true}
 use Rattle.charset.specs.Charset.{digit}
 use Rattle.civil.specs.Civil.{leap, daysIn, validDate, validTime}
+use Rattle.order.specs.declared.Ordering.{Ordering}
+use Rattle.order.specs.declared.Ordering.the-variants.{Less, Equal, Greater}
 use Rattle.order.specs.Order.{order}
 use Rattle.literal.specs.Literal as literal
 use Rattle.literal.specs.Literal.{firstEnd}
@@ -22,16 +24,16 @@ use Rattle.time.specs.Ogc.{twoAt, areTwo, yearOf, beginsDate, goesOnTime
 -- Comparing number by number.
 
 -- the order of two lists by their first numbers, and by the rest where these are the same
-abbrev step : ℕ → ℕ → ℕ → ℕ
-step a b r = pick (ltb a b) 0 (pick (ltb b a) 2 r)
+abbrev step : ℕ → ℕ → Ordering → Ordering
+step a b r = pick (ltb a b) Less (pick (ltb b a) Greater r)
 
-step-less : (a b r : ℕ) → a < b → step a b r ≡ 0
+step-less : (a b : ℕ) (r : Ordering) → a < b → step a b r ≡ Less
 step-less a b r h = rw (lt-ltb a b h)
 
-step-more : (a b r : ℕ) → b < a → step a b r ≡ 2
+step-more : (a b : ℕ) (r : Ordering) → b < a → step a b r ≡ Greater
 step-more a b r h = let k : b ≤ a = omega arith in rw (le-ltb a b k, lt-ltb b a h)
 
-step-same : (a b r : ℕ) → a ≡ b → step a b r ≡ r
+step-same : (a b : ℕ) (r : Ordering) → a ≡ b → step a b r ≡ r
 step-same a b r e = let h : b ≤ a = omega arith in let k : a ≤ b = omega arith in rw (le-ltb a b h, le-ltb b a k)
 
 three : (a b : ℕ) → (a < b) ⊎ ((a ≡ b) ⊎ (b < a))
@@ -43,7 +45,7 @@ three a b = go (ltb a b) (ltb b a) refl refl
     go false false e f = let h = ltb-false a b e in let k = ltb-false b a f in inr (inl (omega arith))
 
 -- two numbers in turn are compared as one that orders as they do
-module _ (p q p' q' m m' r : ℕ) (less : p < p' → m < m') (more : p' < p → m' < m) (next-less : p ≡ p' → q < q' → m < m')
+module _ (p q p' q' m m' : ℕ) (r : Ordering) (less : p < p' → m < m') (more : p' < p → m' < m) (next-less : p ≡ p' → q < q' → m < m')
     (next-more : p ≡ p' → q' < q → m' < m) (same : p ≡ p' → q ≡ q' → m ≡ m') where
   as-one : step p p' (step q q' r) ≡ step m m' r
   as-one =
@@ -68,12 +70,12 @@ digit-is : (b : ℕ) → digit b ≡ true → Digit b
 unfolding digit
 digit-is b e = between-true 48 b 57 e
 
-two-digits : (a b a' b' r : ℕ) → Digit a → Digit b → Digit a' → Digit b' → step a a' (step b b' r) ≡ step (number a b) (number a' b') r
+two-digits : (a b a' b' : ℕ) (r : Ordering) → Digit a → Digit b → Digit a' → Digit b' → step a a' (step b b' r) ≡ step (number a b) (number a' b') r
 two-digits a b a' b' r h i j k =
     as-one a b a' b' (number a b) (number a' b') r (λ l. omega arith) (λ l. omega arith) (λ e l. omega arith) (λ e l. omega arith)
     (λ e l. omega arith)
 
-two-numbers : (p q p' q' r : ℕ) → q < 100 → q' < 100 → step p p' (step q q' r) ≡ step (p * 100 + q) (p' * 100 + q') r
+two-numbers : (p q p' q' : ℕ) (r : Ordering) → q < 100 → q' < 100 → step p p' (step q q' r) ≡ step (p * 100 + q) (p' * 100 + q') r
 two-numbers p q p' q' r h k =
     as-one p q p' q' (p * 100 + q) (p' * 100 + q') r (λ l. omega arith) (λ l. omega arith) (λ e l. omega arith) (λ e l. omega arith)
     (λ e l. omega arith)
@@ -83,7 +85,7 @@ number-small a b h k = omega arith
 
 -- Comparing from a place on.
 module _ (x y : List ℕ) where
-  abbrev from : ℕ → ℕ
+  abbrev from : ℕ → Ordering
   from i = order (drop i x) (drop i y)
 
   abbrev Long : ℕ → Type 0
@@ -193,7 +195,7 @@ module _ (x y : List ℕ) where
       ∙ ap (λ r. step (twoAt x 14) (twoAt y 14) r)
       (sign-from x y 16 58 (omega arith) (omega arith) (p .colon') (q .colon') ∙ two-from x y 17 (omega arith) (omega arith) (p .second) (q .second)))
 
-  at-end : (n : ℕ) → length x ≡ n → length y ≡ n → from x y n ≡ 1
+  at-end : (n : ℕ) → length x ≡ n → length y ≡ n → from x y n ≡ Equal
   unfolding order
   at-end n h k =
       let p : length x ≤ n = omega arith in
@@ -235,12 +237,12 @@ begins nineteen x e =
     let l : length x ≡ 19 = eqb-true (length x) 19 (a .0) in
     (omega arith, date-parts x (c .0))
 
-open-first : (x : List ℕ) → 0 < length x → 48 ≤ getD x 0 0 → order (literal.openEnd firstEnd) x ≡ 0
+open-first : (x : List ℕ) → 0 < length x → 48 ≤ getD x 0 0 → order (literal.openEnd firstEnd) x ≡ Less
 unfolding order literal.openEnd
 open-first [] h k = absurd (omega arith)
 open-first (a ∷ x) h k = let l : 45 < a = omega arith in rw (lt-ltb 45 a l)
 
-pub open-below : (w : Width) (x : List ℕ) → isInstant w x ≡ true → order (literal.openEnd firstEnd) x ≡ 0
+pub open-below : (w : Width) (x : List ℕ) → isInstant w x ≡ true → order (literal.openEnd firstEnd) x ≡ Less
 open-below w x e =
     let b = begins w x e in
     open-first x (omega (arith, b .0)) (first x x x 0 (b .1 .century) .0)

@@ -9,7 +9,7 @@ use Rattle.prelude.specs.Bytes.{byte, minus, colon, zeroDigit}
 use Rattle.prelude.specs.Choice.{pick, both, either, negated}
 use Rattle.charset.specs.Charset.{digit}
 use Rattle.civil.specs.Civil.{validDate, validTime}
-use Rattle.order.specs.Order.{order, below}
+use Rattle.order.specs.Order.{order, isEqual, below}
 use Rattle.op.specs.declared.Op.{Op}
 use Rattle.op.specs.declared.Op.the-variants.{TAfter, TBefore, TContains, TDisjoint, TDuring, TEquals, TFinishedBy, TFinishes, TIntersects, TMeets, TMetBy, TOverlappedBy, TOverlaps, TStartedBy, TStarts}
 use Rattle.tree.specs.Kinds.{UNBOUNDED, DATE, TIMESTAMP, ID}
@@ -36,7 +36,7 @@ unfoldable pub sameMoment : Moment → Moment → Bool
 sameMoment openStart openStart = true
 sameMoment openStart (moment y) = false
 sameMoment (moment x) openStart = false
-sameMoment (moment x) (moment y) = eqb (order x y) 1
+sameMoment (moment x) (moment y) = isEqual (order x y)
 
 -- what a predicate says of a's start and end and b's start and end; of an instant both are the instant
 abbrev pub Formula : Type 0

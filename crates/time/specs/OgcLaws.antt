@@ -8,7 +8,9 @@ use lib.Dec.{eqb}
 use Rattle.prelude.specs.Choice.{pick, both, either, negated, some, same}
 use Rattle.prelude.specs.ChoiceLaws.{both-true}
 use Rattle.civil.specs.Civil.{validDate, validTime}
-use Rattle.order.specs.Order.{order, below}
+use Rattle.order.specs.declared.Ordering.{Ordering}
+use Rattle.order.specs.declared.Ordering.the-variants.{Less, Equal, Greater}
+use Rattle.order.specs.Order.{order, isLess, isEqual, below}
 use Rattle.order.specs.OrderLaws.{order-above}
 use Rattle.op.specs.declared.Op.{Op}
 use Rattle.op.specs.declared.Op.the-variants.{TAfter, TBefore, TContains, TDisjoint, TDuring, TEquals, TFinishedBy, TFinishes, TIntersects, TMeets, TMetBy, TOverlappedBy, TOverlaps, TStartedBy, TStarts}
@@ -26,7 +28,7 @@ use Rattle.sql.specs.Translators.{translate, tAfter, tBefore, tContains, tDisjo
 use Rattle.row.specs.Row.{Value, val, Column, Found, has, look}
 use Rattle.row.specs.Row as row
 use Rattle.truth.specs.declared.Truth.{Truth}
-use Rattle.truth.specs.Lex.{LT, GT, EQ, NE}
+use Rattle.truth.specs.declared.Kind.the-variants.{Lt as LT, Gt as GT, Eq as EQ, Ne as NE}
 use Rattle.truth.specs.Grammar.{value, not3, and3, or3, truthOf, compared}
 use Rattle.truth.specs.Grammar as grammar
 use Rattle.time.specs.Filter.{isEnd}
@@ -63,19 +65,31 @@ known-is : {a b : Truth} {p : Bool} → a ≡ b → Known b p → Known a p
 known-is e h = record { is = e ∙ h .is }
 
 -- Comparing values is comparing moments.
+lt-less : (o : Ordering) → grammar.holds LT o ≡ isLess o
+unfolding grammar.holds some
+lt-less Less = refl
+lt-less Equal = refl
+lt-less Greater = refl
+
+eq-equal : (o : Ordering) → grammar.holds EQ o ≡ isEqual o
+unfolding grammar.holds some
+eq-equal Less = refl
+eq-equal Equal = refl
+eq-equal Greater = refl
+
 lt-known : {w : Width} {x y : Found} {m n : Moment} → Stands w x m → Stands w y n → Known (compared LT x y) (earlier m n)
-unfolding grammar.holds order below literal.openEnd earlier
+unfolding grammar.holds order below literal.openEnd earlier some
 lt-known opens opens = record { is = refl }
 lt-known {w = w} opens (at {x = y} k) = record { is = rw (open-below w y k) }
 lt-known {w = w} (at {x = x} h) opens = record { is = rw (order-above (literal.openEnd firstEnd) x (open-below w x h)) }
-lt-known {w = w} (at {x = x} h) (at {x = y} k) = record { is = rw (fields-order w x y h k) }
+lt-known {w = w} (at {x = x} h) (at {x = y} k) = record { is = ap truthOf (lt-less (order x y) ∙ ap isLess (fields-order w x y h k)) }
 
 eq-known : {w : Width} {x y : Found} {m n : Moment} → Stands w x m → Stands w y n → Known (compared EQ x y) (sameMoment m n)
-unfolding grammar.holds order literal.openEnd sameMoment
+unfolding grammar.holds order literal.openEnd sameMoment some
 eq-known opens opens = record { is = refl }
 eq-known {w = w} opens (at {x = y} k) = record { is = rw (open-below w y k) }
 eq-known {w = w} (at {x = x} h) opens = record { is = rw (order-above (literal.openEnd firstEnd) x (open-below w x h)) }
-eq-known {w = w} (at {x = x} h) (at {x = y} k) = record { is = rw (fields-order w x y h k) }
+eq-known {w = w} (at {x = x} h) (at {x = y} k) = record { is = ap truthOf (eq-equal (order x y) ∙ ap isEqual (fields-order w x y h k)) }
 
 gt-known : {w : Width} {x y : Found} {m n : Moment} → Stands w x m → Stands w y n → Known (compared GT x y) (earlier n m)
 gt-known {x = x} {y = y} h k = known-is (gt-lt x y) (lt-known k h)
@@ -86,7 +100,7 @@ unfolding sameMoment earlier below
 same-or openStart openStart = refl
 same-or openStart (moment y) = refl
 same-or (moment x) openStart = refl
-same-or (moment x) (moment y) = orders (λ i j. eqb i 1 ≡ negated (either (eqb i 0) (eqb j 0))) refl refl refl x y
+same-or (moment x) (moment y) = orders (λ i j. isEqual i ≡ negated (either (isLess i) (isLess j))) refl refl refl x y
 
 negated-twice : (p : Bool) → negated (negated p) ≡ p
 negated-twice true = refl

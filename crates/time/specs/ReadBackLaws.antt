@@ -6,13 +6,15 @@ use mathlib.Core.List.{List, [], _∷_, _++_, append-assoc, append-nil}
 use mathlib.Core.Bool.{false}
 use native.Mathlib.Omega.{arith}
 use lib.ListN.{length, length-append}
-use borrow.Author.Tests.{eq-eqb, ne-eqb}
+use borrow.Author.Tests.{ne-eqb}
 use Rattle.prelude.specs.Bytes.{bytes}
-use Rattle.truth.specs.Lex.{AND, OR, NOT, OPEN, CLOSE, LT, NE, Token, tokens, tokensIn, kind, rest, lexeme, run, wordKind, signKind, signMore}
-use Rattle.truth.specs.LexLaws.{tokens-space, tokens-one}
-use Rattle.truth.specs.Grammar.{Ast, neg, conj, disj, got, simple, orE, orMore, andE, andMore, notE, test}
+use Rattle.truth.specs.declared.Kind.{Kind}
+use Rattle.truth.specs.declared.Kind.the-variants.{End as END, Open as OPEN, Close as CLOSE, Not as NOT, And as AND, Or as OR}
+use Rattle.truth.specs.Lex.{Token, tokens, tokensIn, kind, rest, lexeme, run, wordKind, signKind, signMore}
+use Rattle.truth.specs.LexLaws.{is-same, is-other, is-apart, tokens-space, tokens-one}
+use Rattle.truth.specs.Grammar.{Ast, neg, conj, disj, got, isComparison, simple, orE, orMore, andE, andMore, notE, test}
 use Rattle.truth.specs.Reading.{parse, bracketLimit}
-use Rattle.prelude.specs.Choice.{same, between}
+use Rattle.prelude.specs.Choice.{some, same}
 use Rattle.charset.specs.Charset.{letter, digit, nameStart, nameByte, upper}
 
 -- what may stand after a word: nothing, a space or a closing bracket
@@ -24,18 +26,18 @@ pub data Break : List ℕ → Type 0 where
 -- and after a test: no sign of comparison either
 pub record Boundary (k : List ℕ) : Type 0 where
   pub breaks : Break k
-  pub calm : between LT (kind (tokens k)) NE ≡ false
+  pub calm : isComparison (kind (tokens k)) ≡ false
 
-abbrev pub tok : ℕ → List ℕ → Token
+abbrev pub tok : Kind → List ℕ → Token
 tok k b = record { kind = k; body = b }
 
 -- signs and words
 open-token : (k : List ℕ) → tokens (bytes "(" ++ k) ≡ tok OPEN (bytes "(") ∷ tokens k
-unfolding lexeme nameStart letter signKind signMore
+unfolding lexeme nameStart letter signKind signMore some
 open-token k = tokens-one 40 k OPEN 0 refl refl
 
 close-token : (k : List ℕ) → tokens (bytes ")" ++ k) ≡ tok CLOSE (bytes ")") ∷ tokens k
-unfolding lexeme nameStart letter signKind signMore
+unfolding lexeme nameStart letter signKind signMore some
 close-token k = tokens-one 41 k CLOSE 0 refl refl
 
 and-token : (k : List ℕ) → tokens (bytes " AND " ++ k) ≡ tok AND (bytes "AND") ∷ tokens k
@@ -72,19 +74,19 @@ pub data Prints : ℕ → ℕ → List ℕ → Ast → Type 0 where
       → Prints d 3 (s ++ (bytes " OR " ++ t)) (disj x y)
 
 end-boundary : Boundary []
-unfolding kind tokens tokensIn
+unfolding kind tokens tokensIn some
 end-boundary = record { breaks = at-end; calm = refl }
 
 close-boundary : (k : List ℕ) → Boundary (bytes ")" ++ k)
-unfolding kind
+unfolding kind some
 close-boundary k = record { breaks = at-close k; calm = rw (close-token k) refl }
 
 and-boundary : (k : List ℕ) → Boundary (bytes " AND " ++ k)
-unfolding kind
+unfolding kind some
 and-boundary k = record { breaks = at-space (bytes "AND " ++ k); calm = rw (and-token k) refl }
 
 or-boundary : (k : List ℕ) → Boundary (bytes " OR " ++ k)
-unfolding kind
+unfolding kind some
 or-boundary k = record { breaks = at-space (bytes "OR " ++ k); calm = rw (or-token k) refl }
 
 -- Steps of the grammar.
@@ -92,39 +94,39 @@ or-boundary k = record { breaks = at-space (bytes "OR " ++ k); calm = rw (or-tok
 and-stop : (m d : ℕ) (x : Ast) (ts : List Token) → 1 ≤ m → (kind ts ≡ AND → ⊥) → andMore m d x ts ≡ got x ts
 unfolding orE
 and-stop zero d x ts h e = absurd (omega arith)
-and-stop (suc m) d x ts h e = rw (ne-eqb (kind ts) AND e, andMore)
+and-stop (suc m) d x ts h e = rw (is-other (kind ts) AND e, andMore)
 
 or-stop : (m d : ℕ) (x : Ast) (ts : List Token) → 1 ≤ m → (kind ts ≡ OR → ⊥) → orMore m d x ts ≡ got x ts
 unfolding orE
 or-stop zero d x ts h e = absurd (omega arith)
-or-stop (suc m) d x ts h e = rw (ne-eqb (kind ts) OR e, orMore)
+or-stop (suc m) d x ts h e = rw (is-other (kind ts) OR e, orMore)
 
 and-go : (m d : ℕ) (x y : Ast) (t : Token) (ts r : List Token) → t .kind ≡ AND → notE m d ts ≡ got y r → andMore (suc m) d x (t ∷ ts) ≡ andMore m d (conj x y) r
 unfolding orE kind rest
-and-go m d x y t ts r e q = rw (eq-eqb (t .kind) AND e, andMore) (rw q refl)
+and-go m d x y t ts r e q = rw (is-same (t .kind) AND e, andMore) (rw q refl)
 
 or-go : (m d : ℕ) (x y : Ast) (t : Token) (ts r : List Token) → t .kind ≡ OR → andE m d ts ≡ got y r → orMore (suc m) d x (t ∷ ts) ≡ orMore m d (disj x y) r
 unfolding orE kind rest
-or-go m d x y t ts r e q = rw (eq-eqb (t .kind) OR e, orMore) (rw q refl)
+or-go m d x y t ts r e q = rw (is-same (t .kind) OR e, orMore) (rw q refl)
 
 not-go : (n d : ℕ) (x : Ast) (t : Token) (ts r : List Token) → t .kind ≡ NOT → notE n d ts ≡ got x r → notE (suc n) d (t ∷ ts) ≡ got (neg x) r
 unfolding orE kind rest
-not-go n d x t ts r e q = rw (eq-eqb (t .kind) NOT e, notE) (rw q refl)
+not-go n d x t ts r e q = rw (is-same (t .kind) NOT e, notE) (rw q refl)
 
 not-pass : (n d : ℕ) (ts : List Token) → (kind ts ≡ NOT → ⊥) → notE (suc n) d ts ≡ test n d ts
 unfolding orE
-not-pass n d ts e = rw (ne-eqb (kind ts) NOT e, notE)
+not-pass n d ts e = rw (is-other (kind ts) NOT e, notE)
 
 test-pass : (n d : ℕ) (ts : List Token) → (kind ts ≡ OPEN → ⊥) → test (suc n) d ts ≡ simple ts
 unfolding orE
-test-pass n d ts e = rw (ne-eqb (kind ts) OPEN e, test)
+test-pass n d ts e = rw (is-other (kind ts) OPEN e, test)
 
 -- a bracket: what orE reads inside, and the closing bracket after it
 test-open : (n d : ℕ) (x : Ast) (t c : Token) (ts r : List Token) → t .kind ≡ OPEN → c .kind ≡ CLOSE → orE n d ts ≡ got x (c ∷ r) → test (suc n) (suc d) (t ∷ ts) ≡ got x r
 unfolding orE kind rest
 test-open n d x t c ts r e f q =
     let h : suc d - 1 ≡ d = omega arith in
-    rw (eq-eqb (t .kind) OPEN e, test) (rw (ne-eqb (suc d) 0 (λ z. omega arith), h, q, eq-eqb (c .kind) CLOSE f))
+    rw (is-same (t .kind) OPEN e, test) (rw (ne-eqb (suc d) 0 (λ z. omega arith), h, q, is-same (c .kind) CLOSE f))
 
 -- What is shown of a printed text, by the levels that read it.
 pub record Back (d l : ℕ) (s : List ℕ) (x : Ast) : Type 0 where
@@ -195,8 +197,8 @@ inside : (d l : ℕ) (s : List ℕ) (x : Ast) → Back d l s x → l ≤ 3 → (
     → orE n d (tokens (s ++ (bytes ")" ++ k))) ≡ got x (tok CLOSE (bytes ")") ∷ tokens k)
 inside d l s x b h k n q =
     let c = close-kind k in
-    let r = b .ors h (bytes ")" ++ k) (close-boundary k) (λ e. omega arith) n q in
-    r .2 ∙ (or-stop (r .0) d x (tokens (bytes ")" ++ k)) (let w = r .1 in omega arith) (λ e. omega arith) ∙ ap (λ l. got x l) (close-token k))
+    let r = b .ors h (bytes ")" ++ k) (close-boundary k) (λ e. is-apart CLOSE AND refl (sym c ∙ e)) n q in
+    r .2 ∙ (or-stop (r .0) d x (tokens (bytes ")" ++ k)) (let w = r .1 in omega arith) (λ e. is-apart CLOSE OR refl (sym c ∙ e)) ∙ ap (λ l. got x l) (close-token k))
 
 -- the text of a bracket, with what stands after it
 bracket-text : (s k : List ℕ) → (bytes "(" ++ (s ++ bytes ")")) ++ k ≡ bytes "(" ++ (s ++ (bytes ")" ++ k))
@@ -217,7 +219,7 @@ bracket-back d l s x h b = from-nots (suc d) 0 (bytes "(" ++ (s ++ bytes ")")) x
     go k (suc n) q =
         let e : tokens ((bytes "(" ++ (s ++ bytes ")")) ++ k) ≡ tok OPEN (bytes "(") ∷ tokens (s ++ (bytes ")" ++ k)) = ap tokens (bracket-text s k) ∙ open-token (s ++ (bytes ")" ++ k)) in
         let w = ap length (bracket-text s k) in
-        rw e (not-pass n (suc d) (tok OPEN (bytes "(") ∷ tokens (s ++ (bytes ")" ++ k))) (λ z. omega arith) ∙ bracket-test d l s x b h k n (omega arith))
+        rw e (not-pass n (suc d) (tok OPEN (bytes "(") ∷ tokens (s ++ (bytes ")" ++ k))) (is-apart OPEN NOT refl) ∙ bracket-test d l s x b h k n (omega arith))
 
 not-bracket-back : (d l : ℕ) (s : List ℕ) (x : Ast) → l ≤ 3 → Back d l s x → Back (suc d) 1 (bytes "NOT(" ++ (s ++ bytes ")")) (neg x)
 unfolding kind
@@ -233,7 +235,7 @@ not-bracket-back d l s x h b = from-nots (suc d) 1 (bytes "NOT(" ++ (s ++ bytes 
         let w = ap length f in
         rw e
         (not-go (suc n) (suc d) x (tok NOT (bytes "NOT")) (tok OPEN (bytes "(") ∷ tokens (s ++ (bytes ")" ++ k))) (tokens k) refl
-        (not-pass n (suc d) (tok OPEN (bytes "(") ∷ tokens (s ++ (bytes ")" ++ k))) (λ z. omega arith) ∙ bracket-test d l s x b h k n (omega arith)))
+        (not-pass n (suc d) (tok OPEN (bytes "(") ∷ tokens (s ++ (bytes ")" ++ k))) (is-apart OPEN NOT refl) ∙ bracket-test d l s x b h k n (omega arith)))
 
 not-word-back : (d l : ℕ) (s : List ℕ) (x : Ast) → l ≤ 1 → Back d l s x → Back d 1 (bytes "NOT " ++ s) (neg x)
 not-word-back d l s x h b = from-nots d 1 (bytes "NOT " ++ s) (neg x) (λ k c n q. go k c n q)
@@ -279,7 +281,7 @@ or-back d l m s t x y h i a b =
         let f : (s ++ (bytes " OR " ++ t)) ++ k ≡ s ++ (bytes " OR " ++ (t ++ k)) = append-assoc s (bytes " OR " ++ t) k in
         let w = ap length f in
         let z = or-kind (t ++ k) in
-        let r = a .ors h (bytes " OR " ++ (t ++ k)) (or-boundary (t ++ k)) (λ e. omega arith) n (omega arith) in
+        let r = a .ors h (bytes " OR " ++ (t ++ k)) (or-boundary (t ++ k)) (λ e. is-apart OR AND refl (sym z ∙ e)) n (omega arith) in
         next (r .0) (r .1) (ap (λ l. orE n d (tokens l)) f ∙ r .2)
       where
         next : (j : ℕ) → 4 * length (bytes " OR " ++ (t ++ k)) + 1 ≤ j
@@ -313,6 +315,6 @@ pub parses-back : (l : ℕ) (s : List ℕ) (x : Ast) → l ≤ 3 → Prints brac
 unfolding parse kind tokens tokensIn
 parses-back l s x h p =
     let e = append-nil s in
-    let r = reads-back p .ors h [] end-boundary (λ z. omega arith) (4 * length s + 4) (rw e (omega arith)) in
+    let r = reads-back p .ors h [] end-boundary (is-apart END AND refl) (4 * length s + 4) (rw e (omega arith)) in
     let q : orE (4 * length s + 4) bracketLimit (tokens s) ≡ orMore (r .0) bracketLimit x [] = ap (λ l. orE (4 * length s + 4) bracketLimit (tokens l)) (sym e) ∙ r .2 in
-    q ∙ or-stop (r .0) bracketLimit x [] (let w = r .1 in omega arith) (λ z. omega arith)
+    q ∙ or-stop (r .0) bracketLimit x [] (let w = r .1 in omega arith) (is-apart END OR refl)

@@ -35,6 +35,7 @@ use Rattle.truth.specs.declared.Truth.{Truth}
 use Rattle.truth.specs.declared.Truth.the-variants.{True, False, Unknown, Missing}
 use Rattle.truth.specs.Grammar.{value, not3, and3, or3, truthOf, compared, nullity}
 use Rattle.truth.specs.Grammar as grammar
+use Rattle.truth.specs.declared.Kind.{Kind}
 use Rattle.truth.specs.Lex.{kind}
 use Rattle.truth.specs.Reading.{textLimit, rowLimit, answered, decided, readingOf}
 use Rattle.truth.specs.Reading as reading
@@ -139,7 +140,7 @@ known-bool : (b : Bool) → known (truthOf b) ≡ true
 known-bool true = refl
 known-bool false = refl
 
-known-compared : (o : ℕ) (x y : Found) → found x ≡ true → found y ≡ true → known (compared o x y) ≡ true
+known-compared : (o : Kind) (x y : Found) → found x ≡ true → found y ≡ true → known (compared o x y) ≡ true
 known-compared o absent y e f = absurd (false≢true e)
 known-compared o (has x) absent e f = absurd (false≢true f)
 known-compared o (has row.null) (has y) e f = refl

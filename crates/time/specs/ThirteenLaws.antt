@@ -9,6 +9,8 @@ use lib.Dec.{T, eqb}
 use borrow.Author.Tests.{eq-eqb, ne-eqb}
 use Rattle.prelude.specs.Choice.{pick, both, either, negated, some}
 use Rattle.prelude.specs.Table.{both-left, both-right}
+use Rattle.order.specs.declared.Ordering.{Ordering}
+use Rattle.order.specs.declared.Ordering.the-variants.{Less, Equal, Greater}
 use Rattle.order.specs.Order.{order}
 use Rattle.order.specs.OrderLaws.{order-same, order-above, order-below, order-trans, order-cases, below-is}
 use Rattle.op.specs.declared.Op.{Op}
@@ -24,7 +26,8 @@ use Rattle.row.specs.Row.{val, Column, Found, absent, has}
 use Rattle.row.specs.Row as row
 use Rattle.truth.specs.declared.Truth.{Truth}
 use Rattle.truth.specs.declared.Truth.the-variants.{True, False}
-use Rattle.truth.specs.Lex.{LT, GT, EQ}
+use Rattle.truth.specs.declared.Kind.{Kind}
+use Rattle.truth.specs.declared.Kind.the-variants.{Lt as LT, Gt as GT, Eq as EQ}
 use Rattle.truth.specs.Grammar.{and3, truthOf, compared, holds}
 use Rattle.time.specs.FilterTruth.{endOn, signOf, condTruth, endValues, temporalTruth, isValue, liesBelow, proper}
 use Rattle.time.specs.Converse.{thirteen}
@@ -33,7 +36,7 @@ use Rattle.time.specs.OperatorLaws.{AllOf, done, _also_, among}
 use Rattle.time.specs.TruthLaws.{and3-known, guard, guard-passes, check-ids}
 
 -- What a condition comes to where every end has a value, by the order of any two of them.
-unfoldable decides : (ℕ → ℕ → ℕ) → sql.Cond → Bool
+unfoldable decides : (ℕ → ℕ → Ordering) → sql.Cond → Bool
 decides o (sql.test i s j) = holds (signOf s) (o i j)
 decides o (sql.isNotNull i) = true
 decides o (sql.notNull i) = true
@@ -43,11 +46,11 @@ decides o (sql.not c) = negated (decides o c)
 decides o (sql.brackets c) = decides o c
 
 -- the orders of a start or end of the first interval, 0 or 1, and one of the second, 2 or 3
-abbrev table : (ac ad bc bd : ℕ) → ℕ → ℕ → ℕ
+abbrev table : (ac ad bc bd : Ordering) → ℕ → ℕ → Ordering
 table ac ad bc bd i j = pick (eqb i 0) (pick (eqb j 2) ac ad) (pick (eqb j 2) bc bd)
 
 -- an operator's predicate on two intervals, by the four orders
-unfoldable by : (ac ad bc bd : ℕ) → Op → Bool
+unfoldable by : (ac ad bc bd : Ordering) → Op → Bool
 by ac ad bc bd q = decides (table ac ad bc bd) (translate (opNumber q) true true (λ j. false))
 
 module _ (v : ℕ → Found) (c : ℕ → Bool) (x0 x1 x2 x3 : List ℕ)
@@ -65,7 +68,7 @@ module _ (v : ℕ → Found) (c : ℕ → Bool) (x0 x1 x2 x3 : List ℕ)
   Answers q =
       condTruth v (translate (opNumber q) true true c) ≡ truthOf (by (order x0 x2) (order x0 x3) (order x1 x2) (order x1 x3) q)
 
-  compare : (op i j : ℕ) (x y : List ℕ) → v i ≡ has (val x) → v j ≡ has (val y) → compared op (v i) (v j) ≡ truthOf (holds op (order x y))
+  compare : (op : Kind) (i j : ℕ) (x y : List ℕ) → v i ≡ has (val x) → v j ≡ has (val y) → compared op (v i) (v j) ≡ truthOf (holds op (order x y))
   compare op i j x y e f = rw (e, f)
 
   after-answers : Answers TAfter
@@ -146,7 +149,7 @@ computed f g (o ∷ os) t =
     alike-equal (f o) (g o) (both-left (alike (f o) (g o)) (every-op (λ p. alike (f p) (g p)) os) t)
     also computed f g os (both-right (alike (f o) (g o)) (every-op (λ p. alike (f p) (g p)) os) t)
 
-abbrev only : (ac ad bc bd : ℕ) → Op → Bool
+abbrev only : (ac ad bc bd : Ordering) → Op → Bool
 only ac ad bc bd p = every-op (λ q. alike (by ac ad bc bd q) (eqb (opNumber q) (opNumber p))) thirteen
 
 unfoldable Table : (Op → Bool) → Type 0
@@ -156,7 +159,7 @@ module _ (x0 x1 x2 x3 : List ℕ) where
   abbrev Tabled : Type 0
   Tabled = Table (by (order x0 x2) (order x0 x3) (order x1 x2) (order x1 x3))
 
-  tabled : (p : Op) (ac ad bc bd : ℕ) → oneOf p thirteen ≡ true → T (only ac ad bc bd p)
+  tabled : (p : Op) (ac ad bc bd : Ordering) → oneOf p thirteen ≡ true → T (only ac ad bc bd p)
       → order x0 x2 ≡ ac → order x0 x3 ≡ ad → order x1 x2 ≡ bc → order x1 x3 ≡ bd → Tabled
   unfolding Table
   tabled p ac ad bc bd m t e f g h =
@@ -167,58 +170,58 @@ module _ (x0 x1 x2 x3 : List ℕ) where
             (computed (by ac ad bc bd) (λ q. eqb (opNumber q) (opNumber p)) thirteen t),
       )
 
-  three : (x y : List ℕ) → (order x y ≡ 0 → Tabled) → (order x y ≡ 1 → Tabled) → (order x y ≡ 2 → Tabled) → Tabled
+  three : (x y : List ℕ) → (order x y ≡ Less → Tabled) → (order x y ≡ Equal → Tabled) → (order x y ≡ Greater → Tabled) → Tabled
   three x y f g h = ⊎-elim f (⊎-elim g h) (order-cases x y)
 
-  module _ (p : order x0 x1 ≡ 0) (q : order x2 x3 ≡ 0) where
-    before : order x1 x2 ≡ 0 → Tabled
+  module _ (p : order x0 x1 ≡ Less) (q : order x2 x3 ≡ Less) where
+    before : order x1 x2 ≡ Less → Tabled
     unfolding thirteen some by decides translate holds tAfter tBefore tContains tDuring tEquals tFinishedBy tFinishes tMeets tMetBy tOverlappedBy tOverlaps tStartedBy tStarts sql.checkIds
     before e =
         let f = order-trans x0 x1 x2 p e in
-        tabled TBefore 0 0 0 0 refl tt f (order-trans x0 x2 x3 f q) e (order-trans x1 x2 x3 e q)
+        tabled TBefore Less Less Less Less refl tt f (order-trans x0 x2 x3 f q) e (order-trans x1 x2 x3 e q)
 
-    meets : order x1 x2 ≡ 1 → Tabled
+    meets : order x1 x2 ≡ Equal → Tabled
     unfolding thirteen some by decides translate holds tAfter tBefore tContains tDuring tEquals tFinishedBy tFinishes tMeets tMetBy tOverlappedBy tOverlaps tStartedBy tStarts sql.checkIds
     meets e =
         let s : x1 ≡ x2 = order-same x1 x2 e in
-        let f : order x0 x2 ≡ 0 = rw s at p in
-        tabled TMeets 0 0 1 0 refl tt f (order-trans x0 x2 x3 f q) e (rw s q)
+        let f : order x0 x2 ≡ Less = rw s at p in
+        tabled TMeets Less Less Equal Less refl tt f (order-trans x0 x2 x3 f q) e (rw s q)
 
-    after : order x1 x2 ≡ 2 → order x0 x3 ≡ 2 → Tabled
+    after : order x1 x2 ≡ Greater → order x0 x3 ≡ Greater → Tabled
     unfolding thirteen some by decides translate holds tAfter tBefore tContains tDuring tEquals tFinishedBy tFinishes tMeets tMetBy tOverlappedBy tOverlaps tStartedBy tStarts sql.checkIds
     after e f =
         let g = order-below x0 x3 f in
-        tabled TAfter 2 2 2 2 refl tt (order-above x2 x0 (order-trans x2 x3 x0 q g)) f e (order-above x3 x1 (order-trans x3 x0 x1 g p))
+        tabled TAfter Greater Greater Greater Greater refl tt (order-above x2 x0 (order-trans x2 x3 x0 q g)) f e (order-above x3 x1 (order-trans x3 x0 x1 g p))
 
-    met-by : order x1 x2 ≡ 2 → order x0 x3 ≡ 1 → Tabled
+    met-by : order x1 x2 ≡ Greater → order x0 x3 ≡ Equal → Tabled
     unfolding thirteen some by decides translate holds tAfter tBefore tContains tDuring tEquals tFinishedBy tFinishes tMeets tMetBy tOverlappedBy tOverlaps tStartedBy tStarts sql.checkIds
     met-by e f =
         let s : x0 ≡ x3 = order-same x0 x3 f in
-        let g : order x2 x0 ≡ 0 = rw s q in
-        let h : order x3 x1 ≡ 0 = rw s at p in
-        tabled TMetBy 2 1 2 2 refl tt (order-above x2 x0 g) f e (order-above x3 x1 h)
+        let g : order x2 x0 ≡ Less = rw s q in
+        let h : order x3 x1 ≡ Less = rw s at p in
+        tabled TMetBy Greater Equal Greater Greater refl tt (order-above x2 x0 g) f e (order-above x3 x1 h)
 
     -- the two intervals share more than an end
-    within : order x1 x2 ≡ 2 → order x0 x3 ≡ 0 → Tabled
+    within : order x1 x2 ≡ Greater → order x0 x3 ≡ Less → Tabled
     unfolding thirteen some by decides translate holds tAfter tBefore tContains tDuring tEquals tFinishedBy tFinishes tMeets tMetBy tOverlappedBy tOverlaps tStartedBy tStarts sql.checkIds
     within e f =
         three x0 x2
         (λ g.
-        three x1 x3 (λ h. tabled TOverlaps 0 0 2 0 refl tt g f e h) (λ h. tabled TFinishedBy 0 0 2 1 refl tt g f e h)
-        (λ h. tabled TContains 0 0 2 2 refl tt g f e h))
+        three x1 x3 (λ h. tabled TOverlaps Less Less Greater Less refl tt g f e h) (λ h. tabled TFinishedBy Less Less Greater Equal refl tt g f e h)
+        (λ h. tabled TContains Less Less Greater Greater refl tt g f e h))
         (λ g.
-        three x1 x3 (λ h. tabled TStarts 1 0 2 0 refl tt g f e h) (λ h. tabled TEquals 1 0 2 1 refl tt g f e h)
-        (λ h. tabled TStartedBy 1 0 2 2 refl tt g f e h))
+        three x1 x3 (λ h. tabled TStarts Equal Less Greater Less refl tt g f e h) (λ h. tabled TEquals Equal Less Greater Equal refl tt g f e h)
+        (λ h. tabled TStartedBy Equal Less Greater Greater refl tt g f e h))
         (λ g.
-        three x1 x3 (λ h. tabled TDuring 2 0 2 0 refl tt g f e h) (λ h. tabled TFinishes 2 0 2 1 refl tt g f e h)
-        (λ h. tabled TOverlappedBy 2 0 2 2 refl tt g f e h))
+        three x1 x3 (λ h. tabled TDuring Greater Less Greater Less refl tt g f e h) (λ h. tabled TFinishes Greater Less Greater Equal refl tt g f e h)
+        (λ h. tabled TOverlappedBy Greater Less Greater Greater refl tt g f e h))
 
     one-table : Tabled
     one-table = three x1 x2 before meets (λ e. three x0 x3 (within e) (met-by e) (after e))
 
 -- two ends of which the first lies below the second have values
 ends-below : (f g : Found) → liesBelow f g ≡ true
-    → (x : List ℕ) × (y : List ℕ) × (f ≡ has (val x)) × (g ≡ has (val y)) × (order x y ≡ 0)
+    → (x : List ℕ) × (y : List ℕ) × (f ≡ has (val x)) × (g ≡ has (val y)) × (order x y ≡ Less)
 unfolding liesBelow
 ends-below absent g e = absurd (false≢true e)
 ends-below (has row.null) g e = absurd (false≢true e)

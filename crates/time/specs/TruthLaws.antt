@@ -6,7 +6,9 @@ use mathlib.Core.List.{List}
 use mathlib.Core.Bool.{Bool, true, false}
 use mathlib.Core.Logic.{⊎-elim}
 use lib.Dec.{eqb}
-use Rattle.prelude.specs.Choice.{pick, both, either, negated}
+use Rattle.prelude.specs.Choice.{pick, both, either, negated, some}
+use Rattle.order.specs.declared.Ordering.{Ordering}
+use Rattle.order.specs.declared.Ordering.the-variants.{Less, Equal, Greater}
 use Rattle.order.specs.Order.{order}
 use Rattle.order.specs.OrderLaws.{order-refl, order-same, order-above, order-below, order-cases}
 use Rattle.tree.specs.Kinds.{UNBOUNDED}
@@ -16,7 +18,8 @@ use Rattle.row.specs.Row.{val, Column, Found, absent, has}
 use Rattle.row.specs.Row as row
 use Rattle.truth.specs.declared.Truth.{Truth}
 use Rattle.truth.specs.declared.Truth.the-variants.{True, False, Unknown, Missing}
-use Rattle.truth.specs.Lex.{LT, GT, EQ, NE}
+use Rattle.truth.specs.declared.Kind.{Kind}
+use Rattle.truth.specs.declared.Kind.the-variants.{Lt as LT, Gt as GT, Eq as EQ, Ne as NE}
 use Rattle.truth.specs.Grammar.{text, value, not3, and3, or3, truthOf, compared, nullity, holds}
 use Rattle.sql.specs.Condition as sql
 use Rattle.time.specs.FilterTruth.{treeAtom, endAtom, valueOn, endOn, condTruth, isValue}
@@ -107,18 +110,18 @@ not3-known false = refl
 -- Comparing from either side.
 
 -- the orders of two strings, one way and the other
-pub orders : (P : ℕ → ℕ → Type 0) → P 0 2 → P 1 1 → P 2 0 → (x y : List ℕ) → P (order x y) (order y x)
+pub orders : (P : Ordering → Ordering → Type 0) → P Less Greater → P Equal Equal → P Greater Less → (x y : List ℕ) → P (order x y) (order y x)
 orders P below same above x y =
-    ⊎-elim (λ (e : order x y ≡ 0). rw (e, order-above x y e) below)
-    (⊎-elim (λ (e : order x y ≡ 1). let q : x ≡ y = order-same x y e in rw (q, order-refl y) same)
-    (λ (e : order x y ≡ 2). rw (e, order-below x y e) above))
+    ⊎-elim (λ (e : order x y ≡ Less). rw (e, order-above x y e) below)
+    (⊎-elim (λ (e : order x y ≡ Equal). let q : x ≡ y = order-same x y e in rw (q, order-refl y) same)
+    (λ (e : order x y ≡ Greater). rw (e, order-below x y e) above))
     (order-cases x y)
 
 -- a sign and the sign that says the same from the other side
-abbrev pub Facing : ℕ → ℕ → Type 0
-Facing p q = (holds p 0 ≡ holds q 2) × (holds p 1 ≡ holds q 1) × (holds p 2 ≡ holds q 0)
+abbrev pub Facing : Kind → Kind → Type 0
+Facing p q = (holds p Less ≡ holds q Greater) × (holds p Equal ≡ holds q Equal) × (holds p Greater ≡ holds q Less)
 
-pub facing : (p q : ℕ) → Facing p q → (x y : Found) → compared p x y ≡ compared q y x
+pub facing : (p q : Kind) → Facing p q → (x y : Found) → compared p x y ≡ compared q y x
 facing p q h absent absent = refl
 facing p q h absent (has y) = refl
 facing p q h (has x) absent = refl
@@ -129,19 +132,19 @@ facing p q h (has (val x)) (has (val y)) =
     ap truthOf (orders (λ m n. holds p m ≡ holds q n) (h .0) (h .1) (h .2) x y)
 
 pub lt-gt : (x y : Found) → compared LT x y ≡ compared GT y x
-unfolding holds
+unfolding holds some
 lt-gt = facing LT GT (refl, refl, refl)
 
 pub gt-lt : (x y : Found) → compared GT x y ≡ compared LT y x
-unfolding holds
+unfolding holds some
 gt-lt = facing GT LT (refl, refl, refl)
 
 pub eq-eq : (x y : Found) → compared EQ x y ≡ compared EQ y x
-unfolding holds
+unfolding holds some
 eq-eq = facing EQ EQ (refl, refl, refl)
 
 pub ne-ne : (x y : Found) → compared NE x y ≡ compared NE y x
-unfolding holds
+unfolding holds some
 ne-ne = facing NE NE (refl, refl, refl)
 
 -- Guards.

@@ -1,3 +1,4 @@
+pub mod Arms
 pub mod TokenLaws
 pub mod IndexLaws
 pub mod Steps
