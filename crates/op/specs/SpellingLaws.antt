@@ -3,12 +3,11 @@ use Prim.Native.Nat.{ℕ, _-_}
 use mathlib.Core.Path.{_≡_, refl, sym, _∙_, ap}
 use mathlib.Core.List.{List, []}
 use mathlib.Core.Bool.{Bool, true, false}
-use lib.Dec.{T, eqb→eq}
+use lib.Dec.{T}
 use lib.ListN.{take, drop}
 use Rattle.prelude.specs.Choice.{same}
 use Rattle.prelude.specs.ChoiceLaws.{same-true}
 use Rattle.op.specs.declared.Op.{Op}
-use Rattle.op.specs.declared.Spelled.{Spelled}
 use Rattle.op.specs.declared.Spelled.the-variants.{NoSpelling, At}
 use Rattle.op.specs.Op.{opNumber, operators}
 use Rattle.op.specs.OpLaws.{every-op, each}

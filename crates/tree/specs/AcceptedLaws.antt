@@ -1,7 +1,7 @@
 -- Laws of specs/Accepted.antt: what an accepted pair of settings and tree is, taken apart and put together again, and that the settings, too, are
 -- written as they were read.
 use mathlib.Core.Path.{_≡_, refl, ap, sym, _∙_}
-use mathlib.Core.Logic.{_⊎_, ⊎-elim}
+use mathlib.Core.Logic.{⊎-elim}
 use mathlib.Core.List.{List, [], _∷_, _++_, append-nil}
 use mathlib.Core.Bool.{Bool, true}
 use Prim.Native.Nat.{ℕ, _+_, _-_, _≤_}

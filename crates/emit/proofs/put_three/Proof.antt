@@ -1,9 +1,7 @@
 -- Where there is room the three copies are one write of the three texts, else nothing is changed; the end is the sum, or the cap.
 use native.Mathlib.Omega.{arith}
-use mathlib.Core.Path.{sym, _∙_, ap}
-use mathlib.Core.List.{List, _++_}
-use Prim.Native.Nat.{ℕ}
-use lib.Seq.{sets}
+use mathlib.Core.Path.{sym, _∙_}
+use mathlib.Core.List.{_++_}
 use Rattle.emit.specs.EmitLaws.{length-three, placed-fits, placed-over, placed-past, sets-three}
 use borrow.Author.Needs.{needs}
 use Rattle.emit.proofs.put_three.Statement.{statement}
