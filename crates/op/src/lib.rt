@@ -366,8 +366,8 @@ pub fn nullable(op: Op) -> bool
     within(IS_NULL, op_number(op), IS_NOT_NULL)
 }
 
-// The spellings of `Op::to_sql`. First stands, by operator number, where each begins, and it ends where the next one begins: nowhere if it has
-// none. Then come the spellings in order. A place is one byte, so with 256 bytes none lies outside.
+// The spellings of `Op::to_sql`. First stands, by operator number, where each begins; it ends where the next one begins, and one that ends where
+// it begins is none. Then come the spellings in order. A place is one byte, so none lies outside 256 bytes.
 const SPELLINGS: [u8; 256] = *b"\
     \x36\x37\x38\x39\x3a\x3d\x3e\x3f\x42\
     \x43\x45\x46\x47\x49\x4b\x4e\x50\x50\
