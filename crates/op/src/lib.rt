@@ -411,8 +411,7 @@ const SPELLINGS: [u8; 256] = *b"\
     NOT IN\
     IS NULL\
     IS NOT NULL\
-    \x00\x00\x00\x00\x00\x00\x00\x00\x00\x00\x00\x00\x00\x00\x00\
-    \x00\x00\x00\x00\x00\x00\x00\x00\x00\x00\x00\x00\x00\x00";
+    29 bytes that no place names.";
 
 // Where an operator's spelling stands in the table: from the first place to the second.
 pub enum Spelled {
