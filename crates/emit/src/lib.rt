@@ -91,17 +91,17 @@ pub fn put_three(a: &[u8], b: &[u8], c: &[u8], out: &mut [u8], at: usize) -> usi
     if COUNT_LIMIT < third {
         return COUNT_LIMIT;
     }
-    let end = third + c.len();
-    if COUNT_LIMIT < end {
+    let last = third + c.len();
+    if COUNT_LIMIT < last {
         return COUNT_LIMIT;
     }
-    if out.len() < end {
-        return end;
+    if out.len() < last {
+        return last;
     }
     copy(a, out, at);
     copy(b, out, second);
     copy(c, out, third);
-    end
+    last
 }
 
 // One of two texts.

@@ -5,7 +5,9 @@ use mathlib.Core.List.{List, []}
 use mathlib.Core.Bool.{Bool, true, false}
 use lib.ListN.{getD}
 use lib.Dec.{ltb, eqb}
-use Rattle.prelude.specs.Choice.{pick, between}
+use Rattle.prelude.specs.Choice.{pick}
+use Rattle.tree.specs.Kinds.{DYADIC}
+use Rattle.gpkg.specs.ClassWords.{temporalNumber}
 use Rattle.tree.specs.Tree.{Tree, Settings, encode, null, unbounded}
 use Rattle.tree.specs.Tests.{byOperator, isInterval, isId, startOf, stopOf, endsOf}
 use Rattle.literal.specs.Literal.{nullText, unboundedText}
@@ -70,7 +72,7 @@ pub record IsOperand (s : List ℕ) (o : operand.Operand) (x : Tree) : Type 0 wh
 
 -- a temporal node, by the numbers of kind and operator
 unfoldable pub temporalOf : ℕ → ℕ → Bool
-temporalOf kind op = pick (eqb kind 10) (between 26 op 40) false
+temporalOf kind op = pick (eqb kind DYADIC) (temporalNumber op) false
 
 -- the ends of a node of two operands
 unfoldable pub nodeEnds : Tree → List Tree

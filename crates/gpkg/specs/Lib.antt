@@ -2,6 +2,7 @@
 pub mod Text
 pub mod Lowered
 -- Words of private contracts.
+pub mod ClassWords
 pub mod RecordWords
 pub mod LeafWords
 pub mod EndWords

@@ -13,6 +13,9 @@ ghost use Rattle.gpkg.specs.NodeWords.{Node};
 ghost use Rattle.gpkg.specs.RecordWords.{Stands};
 ghost use Rattle.tree.specs.Tree.{Tree, Settings};
 ghost use Rattle.sql.specs.Template.{held, fill};
+ghost use Rattle.tree.specs.Limits.{treeLimit};
+ghost use Rattle.tree.specs.Kinds.{DYADIC};
+ghost use Rattle.gpkg.specs.ClassWords.{temporalNumber};
 use crate::records::OPERAND;
 use crate::records::end_of;
 use crate::records::is_kind;
@@ -73,11 +76,14 @@ fn end_piece(e: End) -> Piece
     }
 }
 
+// Codes below this are the ends.
+pub(crate) const ENDS: u8 = 4;
+
 // What a code of a template stands for.
 pub(crate) fn piece_of(code: u8, end: End) -> Piece
     ensures { λ r. ⌜ r ≡ pieceOf code end ⌝ }
 {
-    if code < 4 {
+    if code < ENDS {
         return end_piece(end);
     }
     Piece::Plain(Flat::Words(code))
@@ -85,7 +91,7 @@ pub(crate) fn piece_of(code: u8, end: End) -> Piece
 
 // The end whose record lies from a to z.
 fn end_at(s: &[u8], a: usize, z: usize) -> End
-    requires { ⌜ (length (now s) ≤ 32768) × (a ≤ length (now s)) × (z ≤ length (now s)) ⌝ }
+    requires { ⌜ (length (now s) ≤ treeLimit) × (a ≤ length (now s)) × (z ≤ length (now s)) ⌝ }
     ensures { λ r. ⌜ ((x : Tree) → Stands (now (s .entry)) a z x → Is (now (s .entry)) r x) ⌝ }
 {
     // No record has fewer bytes.
@@ -103,7 +109,7 @@ fn end_at(s: &[u8], a: usize, z: usize) -> End
 }
 
 fn operand_at(s: &[u8], a: usize, z: usize) -> Operand
-    requires { ⌜ (length (now s) ≤ 32768) × (a ≤ length (now s)) × (z ≤ length (now s)) ⌝ }
+    requires { ⌜ (length (now s) ≤ treeLimit) × (a ≤ length (now s)) × (z ≤ length (now s)) ⌝ }
     ensures { λ r. ⌜ ((x : Tree) → Stands (now (s .entry)) a z x → IsOperand (now (s .entry)) r x) ⌝ }
 {
     if s.len() - a < BODY {
@@ -120,7 +126,7 @@ fn operand_at(s: &[u8], a: usize, z: usize) -> Operand
 
 // The ends of a temporal node whose second operand starts at m.
 pub(crate) fn temporal_ends(s: &[u8], m: usize) -> [End; 4]
-    requires { ⌜ (length (now s) ≤ 32768) × (14 ≤ length (now s)) × (m ≤ length (now s)) ⌝ }
+    requires { ⌜ (length (now s) ≤ treeLimit) × (14 ≤ length (now s)) × (m ≤ length (now s)) ⌝ }
     ensures { λ r. ⌜ ((t u : Tree) → Stands (now (s .entry)) 8 m t → Stands (now (s .entry)) m (length (now (s .entry))) u → Are (now (s .entry)) r (endsOf t u)) ⌝ }
 {
     let a = operand_at(s, OPERAND, m);
@@ -139,7 +145,7 @@ pub(crate) fn is_temporal(kind: usize, op: usize) -> bool
 // The template of a temporal node.
 pub(crate) fn template_of(s: &[u8], op: usize, m: usize, e: [End; 4]) -> Template
     requires { ⌜ (8 ≤ m) × (m ≤ length (now s)) ⌝ }
-    ensures { λ r. ⌜ ((g : Settings) (t : Tree) → Node (now (s .entry)) 10 op m t → between 26 op 40 ≡ true → Are (now (s .entry)) e (nodeEnds t) → text g t ≡ fill (slot g (nodeEnds t)) (held r)) × (r .len ≤ 24) ⌝ }
+    ensures { λ r. ⌜ ((g : Settings) (t : Tree) → Node (now (s .entry)) DYADIC op m t → temporalNumber op ≡ true → Are (now (s .entry)) e (nodeEnds t) → text g t ≡ fill (slot g (nodeEnds t)) (held r)) × (r .len ≤ 24) ⌝ }
 {
     let a = is_kind(&s[OPERAND..m], INTERVAL);
     sql::temporal_sql(op, a, is_kind(&s[m..], INTERVAL), e)

@@ -17,6 +17,9 @@ ghost use Rattle.tree.specs.Accepted.{settingsIn};
 ghost use Rattle.tree.specs.Tree.{Tree, encode};
 ghost use Rattle.op.specs.declared.Op.{Op};
 ghost use Rattle.op.specs.Op.{opNumber};
+ghost use Rattle.tree.specs.Limits.{treeLimit};
+ghost use Rattle.tree.specs.Kinds.{ARRAY};
+ghost use Rattle.gpkg.specs.ClassWords.{reducedNumber, signNumber};
 use crate::leaves::name_of;
 use crate::records::NAME;
 use crate::records::OPERAND;
@@ -40,7 +43,10 @@ use op::S_TOUCHES;
 use op::Spelled;
 use record::BODY;
 use record::KIND;
+use tree::AI;
 use tree::ARRAY;
+use tree::CAI;
+use tree::CI;
 use tree::MONADIC;
 use tree::PRECISION_AT;
 
@@ -90,7 +96,7 @@ pub(crate) fn put_infix(
 
 // The left side is written without brackets.
 pub(crate) fn is_left_bare(op: usize, x: &[u8]) -> bool
-    requires { ⌜ length (now x) ≤ 32768 ⌝ }
+    requires { ⌜ length (now x) ≤ treeLimit ⌝ }
     ensures { λ r. ⌜ ((t : Tree) → now (x .entry) ≡ encode t → r ≡ leftBare op t) ⌝ }
 {
     if within(A_EQUALS, op, A_OVERLAPS) {
@@ -101,7 +107,7 @@ pub(crate) fn is_left_bare(op: usize, x: &[u8]) -> bool
 
 // The right side is written without brackets.
 pub(crate) fn is_right_bare(op: usize, y: &[u8]) -> bool
-    requires { ⌜ length (now y) ≤ 32768 ⌝ }
+    requires { ⌜ length (now y) ≤ treeLimit ⌝ }
     ensures { λ r. ⌜ ((u : Tree) → now (y .entry) ≡ encode u → r ≡ rightBare op u) ⌝ }
 {
     if within(A_EQUALS, op, A_OVERLAPS) {
@@ -136,7 +142,7 @@ pub(crate) fn is_twin(op: usize, kind: usize, inner: usize) -> bool
 }
 
 fn is_neg_or_minus(op: usize) -> bool
-    ensures { λ r. ⌜ r ≡ either (eqb op 7) (eqb op 1) ⌝ }
+    ensures { λ r. ⌜ r ≡ signNumber op ⌝ }
 {
     if op == NEG {
         return true;
@@ -170,12 +176,12 @@ fn collation_flags(op: usize, twin: bool) -> usize
     ensures { λ r. ⌜ r ≡ collationFlags op twin ⌝ }
 {
     if twin {
-        return 3;
+        return CAI;
     }
     if op == CASE_I {
-        return 1;
+        return CI;
     }
-    2
+    AI
 }
 
 // What stands after the operand of a node that has one.
@@ -214,8 +220,8 @@ pub(crate) fn operand_from(twin: bool, n: usize) -> usize
 
 // Where BETWEEN's bounds start: at the first item of the array at m, or at the end if none stands there.
 pub(crate) fn bounds_at(s: &[u8], m: usize) -> usize
-    requires { ⌜ (length (now s) ≤ 32768) × (m ≤ length (now s)) ⌝ }
-    ensures { λ r. ⌜ r ≡ pick (eqb (le16 (now (s .entry)) (m + 4)) 12) (min (m + 6) (length (now (s .entry)))) (length (now (s .entry))) ⌝ }
+    requires { ⌜ (length (now s) ≤ treeLimit) × (m ≤ length (now s)) ⌝ }
+    ensures { λ r. ⌜ r ≡ pick (eqb (le16 (now (s .entry)) (m + 4)) ARRAY) (min (m + 6) (length (now (s .entry)))) (length (now (s .entry))) ⌝ }
 {
     if record::word_at(s, m + KIND) == ARRAY {
         return least(m + BODY, s.len());
@@ -225,7 +231,7 @@ pub(crate) fn bounds_at(s: &[u8], m: usize) -> usize
 
 // `reduce_precision`: exactly one side a column, and only STouches, SWithin, SOverlaps.
 pub(crate) fn reduce_precision(op: usize, column: bool, other: bool) -> bool
-    ensures { λ r. ⌜ r ≡ both (between 21 op 23) (both column (negated other)) ⌝ }
+    ensures { λ r. ⌜ r ≡ both (reducedNumber op) (both column (negated other)) ⌝ }
 {
     if within(S_TOUCHES, op, S_OVERLAPS) {
         if column {
@@ -270,7 +276,7 @@ pub(crate) fn put_comma(p: usize, out: &mut [u8], at: usize) -> usize
 // Where a list's items start: after a Function's name, or at an Array's body.
 pub(crate) fn items_at(s: &[u8], kind: usize) -> usize
     requires { ⌜ 6 ≤ length (now s) ⌝ }
-    ensures { λ r. ⌜ (6 ≤ r) × (r ≤ length (now (s .entry))) × (r ≡ min (pick (eqb kind 12) 6 (7 + getD (now (s .entry)) 6 0)) (length (now (s .entry)))) ⌝ }
+    ensures { λ r. ⌜ (6 ≤ r) × (r ≤ length (now (s .entry))) × (r ≡ min (pick (eqb kind ARRAY) 6 (7 + getD (now (s .entry)) 6 0)) (length (now (s .entry)))) ⌝ }
 {
     if kind == ARRAY {
         return BODY;

@@ -14,11 +14,14 @@ use crate::records::least;
 use crate::records::rest;
 use record::BODY;
 use record::KIND;
+use tree::AI;
 use tree::BOOL;
+use tree::CI;
 use tree::CI_AT;
 use tree::DATE;
 use tree::NULL;
 use tree::NUM;
+use tree::PLAIN;
 use tree::SPATIAL;
 use tree::STR;
 use tree::TIMESTAMP;
@@ -56,10 +59,10 @@ fn name_at(set: &[u8], p: usize) -> &[u8]
 pub(crate) fn name_of(flags: usize, set: &[u8]) -> &[u8]
     ensures { λ r. ⌜ now r ≡ nameOf (settingsIn (now (set .entry))) flags ⌝ }
 {
-    if flags == 1 {
+    if flags == CI {
         return name_at(set, CI_AT);
     }
-    if flags == 2 {
+    if flags == AI {
         return name_at(set, tree::ai_at(set));
     }
     name_at(set, tree::cai_at(set))
@@ -71,7 +74,7 @@ fn qstr_to_sql(s: &[u8], set: &[u8], out: &mut [u8], at: usize) -> usize
 {
     let end = literal::put_quoted(rest(s, STR_TEXT), out, at);
     let flags = record::byte_at(s, BODY);
-    if flags == 0 {
+    if flags == PLAIN {
         return end;
     }
     literal::put_collate(name_of(flags, set), out, end)

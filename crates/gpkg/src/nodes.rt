@@ -14,6 +14,10 @@ ghost use Rattle.gpkg.specs.NodeWords.{Bound, Node};
 ghost use Rattle.gpkg.specs.RecordWords.{sound, sounds};
 ghost use Rattle.tree.specs.Accepted.{settingsIn};
 ghost use Rattle.tree.specs.Tree.{Tree, Trees, encode, encodes};
+ghost use Rattle.tree.specs.Limits.{treeLimit};
+ghost use Rattle.tree.specs.Kinds.{DYADIC, MONADIC};
+ghost use Rattle.gpkg.specs.ClassWords.{temporalNumber, spatialNumber, betweenNumber};
+use crate::ends::ENDS;
 use crate::ends::Piece;
 use crate::ends::is_temporal;
 use crate::ends::piece_of;
@@ -59,7 +63,7 @@ use tree::MONADIC;
 
 // The items of a list, one after the other, with a comma between.
 fn write_items(s: &[u8], set: &[u8], words: &[u8; 256], out: &mut [u8], at: usize) -> usize
-    requires { ⌜ (length (now s) ≤ 32768) × Spells (now words) ⌝ }
+    requires { ⌜ (length (now s) ≤ treeLimit) × Spells (now words) ⌝ }
     ensures { λ r. ⌜ ((ts : Trees) → now (s .entry) ≡ encodes ts → sounds ts ≡ true → Lays countLimit at (joined (texts (settingsIn (now (set .entry))) ts)) (now (out .entry)) (now (out .exit)) r) ⌝ }
 {
     let mut here = emit::ended(at, 0);
@@ -83,8 +87,8 @@ fn write_infix(
     out: &mut [u8],
     at: usize,
 ) -> usize
-    requires { ⌜ (length (now s) ≤ 32768) × (8 ≤ m) × (m ≤ length (now s)) × Spells (now words) ⌝ }
-    ensures { λ r. ⌜ ((t : Tree) → Node (now (s .entry)) 10 op m t → between 26 op 40 ≡ false → between 18 op 25 ≡ false → between 47 op 48 ≡ false → Lays countLimit at (text (settingsIn (now (set .entry))) t) (now (out .entry)) (now (out .exit)) r) ⌝ }
+    requires { ⌜ (length (now s) ≤ treeLimit) × (8 ≤ m) × (m ≤ length (now s)) × Spells (now words) ⌝ }
+    ensures { λ r. ⌜ ((t : Tree) → Node (now (s .entry)) DYADIC op m t → temporalNumber op ≡ false → spatialNumber op ≡ false → betweenNumber op ≡ false → Lays countLimit at (text (settingsIn (now (set .entry))) t) (now (out .entry)) (now (out .exit)) r) ⌝ }
 {
     let a = is_left_bare(op, &s[OPERAND..m]);
     let b = is_right_bare(op, &s[m..]);
@@ -104,8 +108,8 @@ fn write_monadic(
     out: &mut [u8],
     at: usize,
 ) -> usize
-    requires { ⌜ (length (now s) ≤ 32768) × (14 ≤ length (now s)) × Spells (now words) ⌝ }
-    ensures { λ r. ⌜ ((m : ℕ) (t : Tree) → Node (now (s .entry)) 9 op m t → Lays countLimit at (text (settingsIn (now (set .entry))) t) (now (out .entry)) (now (out .exit)) r) ⌝ }
+    requires { ⌜ (length (now s) ≤ treeLimit) × (14 ≤ length (now s)) × Spells (now words) ⌝ }
+    ensures { λ r. ⌜ ((m : ℕ) (t : Tree) → Node (now (s .entry)) MONADIC op m t → Lays countLimit at (text (settingsIn (now (set .entry))) t) (now (out .entry)) (now (out .exit)) r) ⌝ }
 {
     let bare = is_literal_or_id(&s[OPERAND..]);
     let twin = is_twin(
@@ -129,7 +133,7 @@ fn write_bound(
     out: &mut [u8],
     at: usize,
 ) -> usize
-    requires { ⌜ (length (now s) ≤ 32768) × (8 ≤ a) × (a ≤ z) × (z ≤ length (now s)) × Spells (now words) ⌝ }
+    requires { ⌜ (length (now s) ≤ treeLimit) × (8 ≤ a) × (a ≤ z) × (z ≤ length (now s)) × Spells (now words) ⌝ }
     ensures { λ r. ⌜ ((x : Tree) → Bound (now (s .entry)) a z x → Lays countLimit at (text (settingsIn (now (set .entry))) x) (now (out .entry)) (now (out .exit)) r) ⌝ }
 {
     if a == z {
@@ -148,8 +152,8 @@ fn write_between(
     out: &mut [u8],
     at: usize,
 ) -> usize
-    requires { ⌜ (length (now s) ≤ 32768) × (8 ≤ m) × (m ≤ length (now s)) × Spells (now words) ⌝ }
-    ensures { λ r. ⌜ ((t : Tree) → Node (now (s .entry)) 10 op m t → between 47 op 48 ≡ true → Lays countLimit at (text (settingsIn (now (set .entry))) t) (now (out .entry)) (now (out .exit)) r) ⌝ }
+    requires { ⌜ (length (now s) ≤ treeLimit) × (8 ≤ m) × (m ≤ length (now s)) × Spells (now words) ⌝ }
+    ensures { λ r. ⌜ ((t : Tree) → Node (now (s .entry)) DYADIC op m t → betweenNumber op ≡ true → Lays countLimit at (text (settingsIn (now (set .entry))) t) (now (out .entry)) (now (out .exit)) r) ⌝ }
 {
     let p = bounds_at(s, m);
     let q = end_of(s, p);
@@ -171,8 +175,8 @@ fn write_spatial(
     out: &mut [u8],
     at: usize,
 ) -> usize
-    requires { ⌜ (length (now s) ≤ 32768) × (8 ≤ m) × (m ≤ length (now s)) × Spells (now words) ⌝ }
-    ensures { λ r. ⌜ ((t : Tree) → Node (now (s .entry)) 10 op m t → between 18 op 25 ≡ true → Lays countLimit at (text (settingsIn (now (set .entry))) t) (now (out .entry)) (now (out .exit)) r) ⌝ }
+    requires { ⌜ (length (now s) ≤ treeLimit) × (8 ≤ m) × (m ≤ length (now s)) × Spells (now words) ⌝ }
+    ensures { λ r. ⌜ ((t : Tree) → Node (now (s .entry)) DYADIC op m t → spatialNumber op ≡ true → Lays countLimit at (text (settingsIn (now (set .entry))) t) (now (out .entry)) (now (out .exit)) r) ⌝ }
 {
     let x = is_kind(&s[OPERAND..m], ID);
     let y = is_kind(&s[m..], ID);
@@ -199,7 +203,7 @@ fn write_others(
     out: &mut [u8],
     at: usize,
 ) -> usize
-    requires { ⌜ (length (now s) ≤ 32768) × (14 ≤ length (now s)) × (8 ≤ m) × (m ≤ length (now s)) × Spells (now words) ⌝ }
+    requires { ⌜ (length (now s) ≤ treeLimit) × (14 ≤ length (now s)) × (8 ≤ m) × (m ≤ length (now s)) × Spells (now words) ⌝ }
     ensures { λ r. ⌜ ((t : Tree) → Node (now (s .entry)) kind op m t → temporalOf kind op ≡ false → Lays countLimit at (text (settingsIn (now (set .entry))) t) (now (out .entry)) (now (out .exit)) r) ⌝ }
 {
     if kind == MONADIC {
@@ -216,7 +220,7 @@ fn write_others(
 
 // The text of a node with operands: of a temporal one its template filled.
 fn write_operands(s: &[u8], set: &[u8], words: &[u8; 256], out: &mut [u8], at: usize) -> usize
-    requires { ⌜ (length (now s) ≤ 32768) × (14 ≤ length (now s)) × Spells (now words) ⌝ }
+    requires { ⌜ (length (now s) ≤ treeLimit) × (14 ≤ length (now s)) × Spells (now words) ⌝ }
     ensures { λ r. ⌜ ((t : Tree) → now (s .entry) ≡ encode t → sound t ≡ true → 9 ≤ le16 (now (s .entry)) 4 → le16 (now (s .entry)) 4 < 11 → Lays countLimit at (text (settingsIn (now (set .entry))) t) (now (out .entry)) (now (out .exit)) r) ⌝ }
 {
     let kind = record::word_at(s, KIND);
@@ -234,7 +238,7 @@ fn write_operands(s: &[u8], set: &[u8], words: &[u8; 256], out: &mut [u8], at: u
     while k < n {
         let code = codes[k];
         k += 1;
-        let j = (code % 4) as usize;
+        let j = (code % ENDS) as usize;
         let end = e[j];
         let piece = piece_of(code, end);
         match piece {
@@ -266,7 +270,7 @@ pub(crate) fn to_sql_impl(
     out: &mut [u8],
     at: usize,
 ) -> usize
-    requires { ⌜ (length (now s) ≤ 32768) × Spells (now words) ⌝ }
+    requires { ⌜ (length (now s) ≤ treeLimit) × Spells (now words) ⌝ }
     ensures { λ r. ⌜ ((t : Tree) → now (s .entry) ≡ encode t → sound t ≡ true → Lays countLimit at (text (settingsIn (now (set .entry))) t) (now (out .entry)) (now (out .exit)) r) ⌝ }
 {
     // Past the limit nothing is counted or written any more.

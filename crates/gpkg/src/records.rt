@@ -9,6 +9,7 @@ ghost use Rattle.prelude.specs.Choice.{between};
 ghost use Rattle.tree.specs.Tests.{isLiteral, isLiteralOrId};
 ghost use Rattle.gpkg.specs.RecordWords.{EndOf};
 ghost use Rattle.tree.specs.Tree.{Tree, encode};
+ghost use Rattle.tree.specs.Limits.{treeLimit};
 use record::BODY;
 use record::KIND;
 use tree::ARRAY;
@@ -58,20 +59,20 @@ pub(crate) fn within(lo: usize, n: usize, hi: usize) -> bool
     if lo <= n { n <= hi } else { false }
 }
 
-// Where the record at p ends, kept inside s.
+// Where the record at p ends, kept inside s. Its length counts from its kind on.
 pub(crate) fn end_of(s: &[u8], p: usize) -> usize
-    requires { ⌜ (p ≤ length (now s)) × (length (now s) ≤ 32768) ⌝ }
+    requires { ⌜ (p ≤ length (now s)) × (length (now s) ≤ treeLimit) ⌝ }
     ensures { λ r. ⌜ EndOf (now (s .entry)) p r ⌝ }
 {
     let left = s.len() - p;
-    if left < 4 {
+    if left < KIND {
         return s.len();
     }
     let n = record::dword_at(s, p);
-    if left - 4 < n {
+    if left - KIND < n {
         return s.len();
     }
-    p + (4 + n)
+    p + (KIND + n)
 }
 
 pub(crate) fn is_kind(s: &[u8], kind: usize) -> bool
@@ -99,7 +100,7 @@ pub(crate) fn inside(a: usize, z: usize, n: usize) -> bool
 
 // `is_literal` without recursion: the records of nested arrays lie one after the other.
 fn is_literal(s: &[u8]) -> bool
-    requires { ⌜ length (now s) ≤ 32768 ⌝ }
+    requires { ⌜ length (now s) ≤ treeLimit ⌝ }
     ensures { λ r. ⌜ ((t : Tree) → now (s .entry) ≡ encode t → r ≡ isLiteral t) ⌝ }
 {
     let mut p = 0;
@@ -125,7 +126,7 @@ fn is_literal(s: &[u8]) -> bool
 }
 
 pub(crate) fn is_literal_or_id(s: &[u8]) -> bool
-    requires { ⌜ length (now s) ≤ 32768 ⌝ }
+    requires { ⌜ length (now s) ≤ treeLimit ⌝ }
     ensures { λ r. ⌜ ((t : Tree) → now (s .entry) ≡ encode t → r ≡ isLiteralOrId t) ⌝ }
 {
     let kind = record::word_at(s, KIND);

@@ -7,6 +7,16 @@ ghost use Rattle.literal.specs.Literal.{boolText, unboundedText, low, de
 ghost use Rattle.literal.specs.LiteralLaws.{shown};
 ghost use Rattle.emit.specs.Emit.{countLimit, Puts};
 
+// How many bytes a text has besides what it holds: two quotation marks; ` COLLATE `; `ST_GeomFromText('', )`.
+const QUOTES: usize = 2;
+
+const COLLATE: usize = 9;
+
+const GEOMETRY: usize = 21;
+
+// How many bytes a timestamp's text has.
+const TIMESTAMP: usize = 21;
+
 // Writes TRUE or FALSE.
 pub fn put_bool(b: bool, out: &mut [u8], at: usize) -> usize
     ensures { λ r. ⌜ Puts countLimit at (boolText b) (now (out .entry)) (now (out .exit)) r ⌝ }
@@ -21,7 +31,7 @@ pub fn put_bool(b: bool, out: &mut [u8], at: usize) -> usize
 pub fn put_quoted(s: &[u8], out: &mut [u8], at: usize) -> usize
     ensures { λ r. ⌜ Puts countLimit at (quoted (now (s .entry))) (now (out .entry)) (now (out .exit)) r ⌝ }
 {
-    let n = s.len() + 2;
+    let n = s.len() + QUOTES;
     if emit::lacks_room(out.len(), at, n) {
         return emit::ended(at, n);
     }
@@ -34,7 +44,7 @@ pub fn put_quoted(s: &[u8], out: &mut [u8], at: usize) -> usize
 pub fn put_collate(name: &[u8], out: &mut [u8], at: usize) -> usize
     ensures { λ r. ⌜ Puts countLimit at (collate (now (name .entry))) (now (out .entry)) (now (out .exit)) r ⌝ }
 {
-    let n = name.len() + 9;
+    let n = name.len() + COLLATE;
     if emit::lacks_room(out.len(), at, n) {
         return emit::ended(at, n);
     }
@@ -46,7 +56,7 @@ pub fn put_collate(name: &[u8], out: &mut [u8], at: usize) -> usize
 fn digit_of(n: usize) -> u8
     ensures { λ r. ⌜ r ≡ 48 + n % 10 ⌝ }
 {
-    48 + (n % 10) as u8
+    b'0' + (n % 10) as u8
 }
 
 // Fills a part with the last digits of n, the last one first; answers what is before them.
@@ -194,7 +204,7 @@ pub fn put_num(m: i64, scale: u8, out: &mut [u8], at: usize) -> usize
 pub fn put_spatial(srid: usize, w: &[u8], out: &mut [u8], at: usize) -> usize
     ensures { λ r. ⌜ Puts countLimit at (spatialText srid (now (w .entry))) (now (out .entry)) (now (out .exit)) r ⌝ }
 {
-    let n = w.len() + decimal_len(srid) + 21;
+    let n = w.len() + decimal_len(srid) + GEOMETRY;
     if emit::lacks_room(out.len(), at, n) {
         return emit::ended(at, n);
     }
@@ -262,8 +272,8 @@ pub fn put_timestamp(
 ) -> usize
     ensures { λ r. ⌜ Puts countLimit at (timestampText y m d hour minute second) (now (out .entry)) (now (out .exit)) r ⌝ }
 {
-    if emit::lacks_room(out.len(), at, 21) {
-        return emit::ended(at, 21);
+    if emit::lacks_room(out.len(), at, TIMESTAMP) {
+        return emit::ended(at, TIMESTAMP);
     }
     let day = date_of(y, m, d);
     let time = clock_of(hour, minute, second);

@@ -12,7 +12,7 @@ use Rattle.op.specs.declared.Spelled.the-variants.{NoSpelling, At}
 use Rattle.op.specs.Op.{opNumber}
 use Rattle.op.specs.Spelling.{Spelling, noSpelling, spelled, spelling}
 
--- where a number's spelling stands: nowhere above 52, and nowhere if it ends where it begins
+-- where a number's spelling stands: nowhere above 52, and nowhere if it ends no later than it begins
 unfoldable pub placeIn : List ℕ → ℕ → Spelled
 placeIn table n =
     pick (ltb 52 n) NoSpelling
@@ -28,7 +28,7 @@ standing table (At from to) = spelled (take (to - from) (drop from table))
 pub record Spells (table : List ℕ) : Type 0 where
   pub right : (o : Op) → standing table (placeIn table (opNumber o)) ≡ spelling o
 
--- a place is a part of the table that is not empty
+-- a place is a part, not empty, of the table's 256 bytes
 unfoldable pub Lies : Spelled → Type 0
 Lies NoSpelling = Unit {0}
 Lies (At from to) = (from < to) × (to < 256)

@@ -425,14 +425,14 @@ fn wide(x: u8) -> usize
     x as usize
 }
 
-// The table of spellings.
+// The table, for a caller to name once and hand down.
 pub fn spellings() -> [u8; 256]
     ensures { λ r. ⌜ Spells r ⌝ }
 {
     SPELLINGS
 }
 
-// The spelling (`Op::to_sql`) of the operator with a number, as a table has it.
+// Where the spelling (`Op::to_sql`) of the operator with the number n stands in a table.
 pub fn to_sql(table: &[u8; 256], n: usize) -> Spelled
     ensures says { λ r. ⌜ r ≡ placeIn (now (table .entry)) n ⌝ }
     ensures lies { λ r. ⌜ Lies r ⌝ }

@@ -7,7 +7,7 @@ use Rattle.prelude.specs.Choice.{pick}
 use Rattle.order.specs.declared.Ordering.{Ordering}
 use Rattle.order.specs.declared.Ordering.the-variants.{Less, Equal, Greater}
 
--- byte by byte, a shorter prefix first
+-- how one string stands to another
 unfoldable pub order : List ℕ → List ℕ → Ordering
 order [] [] = Equal
 order [] (b ∷ y) = Less

@@ -4,9 +4,22 @@
 use crate::cases::Turn;
 use crate::cases::all_are;
 use crate::lines::say;
+use record::BODY;
+use record::KIND;
 use record::byte_at;
 use record::dword_at;
 use record::word_at;
+use tree::AI;
+use tree::BOOL;
+use tree::CI;
+use tree::DATE;
+use tree::NULL;
+use tree::NUM;
+use tree::PLAIN;
+use tree::SPATIAL;
+use tree::STR;
+use tree::TIMESTAMP;
+use tree::UNBOUNDED;
 
 // What is counted of a case that is right.
 const RIGHT: u8 = 1;
@@ -26,9 +39,9 @@ fn from(s: &[u8], i: usize) -> &[u8] {
 fn write_str(body: &[u8], out: &mut [u8]) -> usize {
     let end = literal::put_quoted(from(body, 1), out, START);
     match byte_at(body, 0) {
-        0 => end,
-        1 => literal::put_collate(b"NC", out, end),
-        2 => literal::put_collate(b"NA", out, end),
+        PLAIN => end,
+        CI => literal::put_collate(b"NC", out, end),
+        AI => literal::put_collate(b"NA", out, end),
         _ => literal::put_collate(b"NCA", out, end),
     }
 }
@@ -58,19 +71,19 @@ fn write_timestamp(body: &[u8], out: &mut [u8]) -> usize {
 
 fn write_leaf(kind: usize, body: &[u8], out: &mut [u8]) -> usize {
     match kind {
-        0 => emit::put(b"NULL", out, START),
-        1 => literal::put_unbounded(out, START),
-        2 => literal::put_bool(byte_at(body, 0) != 0, out, START),
-        3 => literal::put_num(
+        NULL => emit::put(b"NULL", out, START),
+        UNBOUNDED => literal::put_unbounded(out, START),
+        BOOL => literal::put_bool(byte_at(body, 0) != 0, out, START),
+        NUM => literal::put_num(
             tree::mantissa_at(body, 0),
             byte_at(body, 8) as u8,
             out,
             START,
         ),
-        4 => write_str(body, out),
-        5 => write_date(body, out),
-        6 => write_timestamp(body, out),
-        7 => literal::put_spatial(dword_at(body, 0), from(body, 4), out, START),
+        STR => write_str(body, out),
+        DATE => write_date(body, out),
+        TIMESTAMP => write_timestamp(body, out),
+        SPATIAL => literal::put_spatial(dword_at(body, 0), from(body, 4), out, START),
         _ => START,
     }
 }
@@ -97,15 +110,15 @@ fn fits(kind: usize, body: &[u8], text: &[u8], out: &mut [u8]) -> bool {
 
 // Into a part of the buffer that is one byte short: the text is counted, and nothing is written (of a Str with a collation its quoted text may be).
 fn falls_short(kind: usize, body: &[u8], text: &[u8], out: &mut [u8]) -> bool {
-    let short = 2 + text.len();
+    let short = START - 1 + text.len();
     if out.len() < short {
         return false;
     }
     if write_leaf(kind, body, &mut out[0..short]) != START + text.len() {
         return false;
     }
-    if kind == 4 {
-        if byte_at(body, 0) != 0 {
+    if kind == STR {
+        if byte_at(body, 0) != PLAIN {
             return true;
         }
     }
@@ -114,8 +127,8 @@ fn falls_short(kind: usize, body: &[u8], text: &[u8], out: &mut [u8]) -> bool {
 
 // RIGHT for a leaf that is written as it should be, else 0.
 fn score(record: &[u8], text: &[u8]) -> u8 {
-    let kind = word_at(record, 4);
-    let body = from(record, 6);
+    let kind = word_at(record, KIND);
+    let body = from(record, BODY);
     let mut room = [BLANK; 1024];
     let mut short = [BLANK; 1024];
     if fits(kind, body, text, &mut room) {

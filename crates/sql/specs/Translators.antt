@@ -3,6 +3,8 @@ use Prim.Native.Nat.{ℕ}
 use mathlib.Core.List.{[], _∷_}
 use mathlib.Core.Bool.{Bool, true, false}
 use Rattle.prelude.specs.Choice.{entryAt}
+use Rattle.op.specs.declared.Op.the-variants.{TAfter, TBefore, TContains, TDisjoint, TDuring, TEquals, TFinishedBy, TFinishes, TIntersects, TMeets, TMetBy, TOverlappedBy, TOverlaps, TStartedBy}
+use Rattle.op.specs.Op.{opNumber}
 use Rattle.sql.specs.Condition.{Cond, test, and, or, not, brackets, lt, gt, eq, ne, checkId, checkIds}
 
 -- whether the first and the second operand is an interval; which ends are columns
@@ -74,11 +76,12 @@ tStartedBy a b column = and (brackets (test 0 eq 2)) (brackets (test 1 gt 3))
 unfoldable pub tStarts : Translator
 tStarts a b column = and (brackets (test 0 eq 2)) (brackets (test 1 lt 3))
 
--- the translator of a temporal operator, by the operator's number: 26 (TAfter) to 40 (TStarts)
+-- the translator of a temporal operator, by the operator's number
 unfoldable pub translate : ℕ → Translator
 translate =
     entryAt
-    ((26, tAfter) ∷ (27, tBefore) ∷ (28, tContains) ∷ (29, tDisjoint) ∷ (30, tDuring) ∷ (31, tEquals)
-    ∷ (32, tFinishedBy) ∷ (33, tFinishes) ∷ (34, tIntersects) ∷ (35, tMeets) ∷ (36, tMetBy) ∷ (37, tOverlappedBy)
-    ∷ (38, tOverlaps) ∷ (39, tStartedBy) ∷ [])
+    ((opNumber TAfter, tAfter) ∷ (opNumber TBefore, tBefore) ∷ (opNumber TContains, tContains) ∷ (opNumber TDisjoint, tDisjoint)
+    ∷ (opNumber TDuring, tDuring) ∷ (opNumber TEquals, tEquals) ∷ (opNumber TFinishedBy, tFinishedBy) ∷ (opNumber TFinishes, tFinishes)
+    ∷ (opNumber TIntersects, tIntersects) ∷ (opNumber TMeets, tMeets) ∷ (opNumber TMetBy, tMetBy) ∷ (opNumber TOverlappedBy, tOverlappedBy)
+    ∷ (opNumber TOverlaps, tOverlaps) ∷ (opNumber TStartedBy, tStartedBy) ∷ [])
     tStarts

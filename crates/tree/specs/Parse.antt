@@ -55,11 +55,11 @@ unfoldable pub exactly : Body → ℕ → List ℕ → Read Trees
 exactly body zero s = end s
 exactly body (suc n) s = cons body s (frame s) (λ rest. exactly body n rest)
 
--- records to the end; `fuel` is as long as s, or longer
+-- records to the end; the number is at least that of the bytes
 unfoldable pub many : Body → ℕ → List ℕ → Read Trees
 many body zero s = end s
-many body (suc fuel) [] = got none
-many body (suc fuel) (x ∷ s) = cons body (x ∷ s) (frame (x ∷ s)) (λ rest. many body fuel rest)
+many body (suc n) [] = got none
+many body (suc n) (x ∷ s) = cons body (x ∷ s) (frame (x ∷ s)) (λ rest. many body n rest)
 
 -- a body of records alone
 abbrev pub items : Body → List ℕ → Read Trees

@@ -51,6 +51,15 @@ pub const ARRAY: usize = 12;
 
 pub const INTERVAL: usize = 13;
 
+// The flags of a Str, by the collation that they ask for.
+pub const PLAIN: usize = 0;
+
+pub const CI: usize = 1;
+
+pub const AI: usize = 2;
+
+pub const CAI: usize = 3;
+
 // Document 01's limits.
 const TREE_LIMIT: usize = 32768;
 
@@ -60,7 +69,7 @@ const MANTISSA_LIMIT: usize = 999999999999999;
 
 const SCALE_LIMIT: usize = 9;
 
-const FLAGS_LIMIT: usize = 3;
+const FLAGS_LIMIT: usize = CAI;
 
 const TEXT_LIMIT: usize = 4096;
 

@@ -22,8 +22,8 @@ add-third c = search needs
 returns-3 : tie.Need-returns-3
 returns-3 c = let i = c .before .before .before .before .before .before .before .args in let n = length-three (i .a .now) (i .b .now) (i .c .now) in record { laid = sym (placed-over 65536 (i .out .now) (i .at) (i .a .now ++ (i .b .now ++ i .c .now)) (omega arith)); end = omega arith }
 
-add-end : tie.Need-add-end
-add-end c = search needs
+add-last : tie.Need-add-last
+add-last c = search needs
 
 returns-4 : tie.Need-returns-4
 returns-4 c = let i = c .before .before .before .before .before .before .before .before .args in let n = length-three (i .a .now) (i .b .now) (i .c .now) in record { laid = sym (placed-over 65536 (i .out .now) (i .at) (i .a .now ++ (i .b .now ++ i .c .now)) (omega arith)); end = omega arith }
@@ -61,7 +61,7 @@ put-three-spec =
     returns-2
     add-third
     returns-3
-    add-end
+    add-last
     returns-4
     returns-5
     copy-requires
