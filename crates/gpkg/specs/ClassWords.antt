@@ -3,7 +3,7 @@ use Prim.Native.Nat.{ℕ}
 use mathlib.Core.Bool.{Bool}
 use lib.Dec.{eqb}
 use Rattle.prelude.specs.Choice.{either, between}
-use Rattle.op.specs.declared.Op.the-variants.{Minus, Neg, CaseI, AccentI, SIntersects, SContains, STouches, SOverlaps, TAfter, TStarts, AEquals, AOverlaps, IsLike, IsNotLike, IsBetween, IsNotBetween, IsNull, IsNotNull}
+use Rattle.op.specs.declared.Op.the-variants.{Minus, Neg, SIntersects, SContains, STouches, SOverlaps, TAfter, TStarts, AEquals, AOverlaps, IsLike, IsNotLike, IsBetween, IsNotBetween, IsNull, IsNotNull}
 use Rattle.op.specs.Op.{opNumber}
 
 abbrev pub temporalNumber : ℕ → Bool
