@@ -1,11 +1,12 @@
 -- Which bytes may stand in a name, in a Str text and in a Spatial text: document 01, "Records". The settings, trees, rows and SQL texts all keep to these rules.
-use Prim.Native.Nat.{ℕ, _-_}
-use mathlib.Core.List.{List, [], _∷_, _++_, map}
+use Prim.Native.Nat.{ℕ}
+use mathlib.Core.List.{List, [], _∷_, _++_}
 use mathlib.Core.Bool.{Bool}
 use lib.ListN.{length, getD}
 use lib.Dec.{leb, eqb}
-use Rattle.prelude.specs.Choice.{pick, both, either, negated, between, all, some, same}
-use Rattle.prelude.specs.Bytes.{bytes, byte, space, apostrophe, openBracket, closeBracket, comma, point, underscore}
+use Rattle.prelude.specs.Choice.{both, either, negated, between, all}
+use Rattle.prelude.specs.Bytes.{byte, space, apostrophe, openBracket, closeBracket, comma, point, underscore}
+use Rattle.keyword.specs.Reserved.{reserved}
 
 -- A to Z and a to z
 unfoldable pub letter : ℕ → Bool
@@ -21,37 +22,6 @@ nameStart b = either (letter b) (eqb b underscore)
 -- and goes on with letters, digits, underscores
 unfoldable pub nameByte : ℕ → Bool
 nameByte b = either (nameStart b) (digit b)
-
--- a letter as its capital, any other byte as it is
-unfoldable pub upper : ℕ → ℕ
-upper b = pick (between (byte "a") b (byte "z")) (b - 32) b
-
--- a text with its letters as capitals: two texts are equal in any letter case if these are equal
-abbrev pub uppers : List ℕ → List ℕ
-uppers s = map upper s
-
--- the words that are no names: AND BETWEEN COLLATE DIV FALSE IN IS ISNULL LIKE NOT NOTNULL NULL OR TRUE
-unfoldable pub reservedWords : List (List ℕ)
-reservedWords =
-    bytes "AND"
-    ∷ bytes "BETWEEN"
-    ∷ bytes "COLLATE"
-    ∷ bytes "DIV"
-    ∷ bytes "FALSE"
-    ∷ bytes "IN"
-    ∷ bytes "IS"
-    ∷ bytes "ISNULL"
-    ∷ bytes "LIKE"
-    ∷ bytes "NOT"
-    ∷ bytes "NOTNULL"
-    ∷ bytes "NULL"
-    ∷ bytes "OR"
-    ∷ bytes "TRUE"
-    ∷ []
-
--- in any letter case one of them
-unfoldable pub reserved : List ℕ → Bool
-reserved s = some (same (uppers s)) reservedWords
 
 -- the most bytes of a name
 abbrev pub nameLimit : ℕ

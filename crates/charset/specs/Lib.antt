@@ -2,4 +2,3 @@
 pub mod Charset
 -- Words of private contracts.
 pub mod ClassWords
-pub mod KeyWords

@@ -1,16 +1,10 @@
 ghost use mathlib.Core.Path.{_≡_};
-ghost use Prim.Native.Nat.{_≤_, _<_};
-ghost use lib.ListN.{length};
 ghost use Rattle.prelude.specs.Choice.{between, all};
-ghost use Rattle.charset.specs.Charset.{letter, digit, nameStart, nameByte, upper, uppers, reserved, freeWord, name, strByte, strText, spatialByte, spatialText};
+ghost use Rattle.charset.specs.Charset.{letter, digit, nameStart, nameByte, freeWord, name, strByte, strText, spatialByte, spatialText};
 ghost use Rattle.charset.specs.ClassWords.{classByte};
-ghost use Rattle.charset.specs.KeyWords.{keyOf, Bytes, mayBe};
 
 // The most bytes of a name.
 const NAME_LIMIT: usize = 64;
-
-// What lies between a small letter and its capital.
-const CASE_STEP: u8 = 32;
 
 // The classes of bytes that runs of a text are made of.
 pub enum Class {
@@ -64,17 +58,6 @@ fn is_name_byte(b: u8) -> bool
         return b == b'_';
     }
     is_digit(b)
-}
-
-// A letter as its capital, any other byte as it is.
-pub fn upper_of(b: u8) -> u8
-    ensures { λ r. ⌜ r ≡ upper b ⌝ }
-{
-    if within(b'a', b, b'z') {
-        b - CASE_STEP
-    } else {
-        b
-    }
 }
 
 fn is_str_byte(b: u8) -> bool
@@ -154,91 +137,6 @@ pub fn is_spatial_text(s: &[u8]) -> bool
     are_all(Class::Spatial, s)
 }
 
-fn wide(x: u8) -> u64
-    ensures { λ r. ⌜ (r ≡ x) × (r < 256) ⌝ }
-{
-    x as u64
-}
-
-// A word of up to seven bytes, its letters as capitals, as one number, so that it is compared with a reserved word at once.
-fn word_key(s: &[u8]) -> u64
-    requires { ⌜ length (now s) ≤ 7 ⌝ }
-    ensures { λ r. ⌜ (r ≡ keyOf (uppers (now (s .entry)))) × Bytes (uppers (now (s .entry))) ⌝ }
-{
-    let mut key: u64 = 1;
-    let mut i = s.len();
-    while 0 < i {
-        i -= 1;
-        key = key * 256 + wide(upper_of(s[i]));
-    }
-    key
-}
-
-fn is_reserved_key(s: &[u8]) -> bool
-    requires { ⌜ length (now s) ≤ 7 ⌝ }
-    ensures { λ r. ⌜ r ≡ reserved (now (s .entry)) ⌝ }
-{
-    let key = word_key(s);
-    match key {
-        21253697 => true, // AND
-        94088806341559618 => true, // BETWEEN
-        91572006860640067 => true, // COLLATE
-        22432068 => true, // DIV
-        1397261877574 => true, // FALSE
-        85577 => true, // IN
-        86857 => true, // IS
-        365365709132617 => true, // ISNULL
-        5457529164 => true, // LIKE
-        22302542 => true, // NOT
-        93533621538017102 => true, // NOTNULL
-        5575038286 => true, // NULL
-        86607 => true, // OR
-        5458186836 => true, // TRUE
-        _ => false,
-    }
-}
-
-// Whether one of the fourteen words has n bytes and begins with the capital b: most names differ from them in these two, and only the others are compared with the words.
-fn may_be_reserved(n: usize, b: u8) -> bool
-    ensures { λ r. ⌜ r ≡ mayBe n b ⌝ }
-{
-    match b {
-        b'A' => n == 3, // AND
-        b'B' => n == 7, // BETWEEN
-        b'C' => n == 7, // COLLATE
-        b'D' => n == 3, // DIV
-        b'F' => n == 5, // FALSE
-        b'I' => if n == 2 { true } else { n == 6 }, // IN, IS, ISNULL
-        b'L' => n == 4, // LIKE
-        b'N' => if n == 3 {
-            true
-        } else if n == 7 {
-            true
-        } else {
-            n == 4
-        }, // NOT, NOTNULL, NULL
-        b'O' => n == 2, // OR
-        b'T' => n == 4, // TRUE
-        _ => false,
-    }
-}
-
-// A word that no name may be, in any letter case.
-fn is_reserved(s: &[u8]) -> bool
-    ensures { λ r. ⌜ r ≡ reserved (now (s .entry)) ⌝ }
-{
-    if s.len() < 2 {
-        return false;
-    }
-    if 7 < s.len() {
-        return false;
-    }
-    if may_be_reserved(s.len(), upper_of(s[0])) {
-        return is_reserved_key(s);
-    }
-    false
-}
-
 // What is left of the name rule for a word of name bytes that begins as a name does: its length, and that it is not reserved.
 pub fn is_free_word(s: &[u8]) -> bool
     ensures { λ r. ⌜ r ≡ freeWord (now (s .entry)) ⌝ }
@@ -246,7 +144,7 @@ pub fn is_free_word(s: &[u8]) -> bool
     if NAME_LIMIT < s.len() {
         return false;
     }
-    if is_reserved(s) {
+    if keyword::is_reserved(s) {
         return false;
     }
     true
@@ -264,7 +162,7 @@ pub fn is_name(s: &[u8]) -> bool
     }
     if is_name_start(s[0]) {
         if are_name_bytes(&s[1..]) {
-            if is_reserved(s) {
+            if keyword::is_reserved(s) {
                 return false;
             }
             return true;

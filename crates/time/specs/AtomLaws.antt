@@ -12,7 +12,9 @@ use borrow.Author.Tests.{eqb-true}
 use Rattle.prelude.specs.Bytes.{bytes}
 use Rattle.prelude.specs.Choice.{pick, both, negated, between, all, some, same}
 use Rattle.prelude.specs.ChoiceLaws.{both-true}
-use Rattle.charset.specs.Charset.{letter, digit, nameStart, nameByte, upper, uppers, name, reserved, reservedWords, strByte}
+use Rattle.charset.specs.Charset.{letter, digit, nameStart, nameByte, name, strByte}
+use Rattle.keyword.specs.Keywords.{keywords}
+use Rattle.keyword.specs.Reserved.{upper, uppers, reserved, reservedWords}
 use Rattle.truth.specs.declared.Kind.{Kind}
 use Rattle.truth.specs.declared.Kind.the-variants.{Name as NAME, Quoted as QUOTED, Text as TEXT, Open as OPEN, Lt as LT, Gt as GT, Le as LE, Ge as GE, Eq as EQ, Ne as NE, Not as NOT, Null as NULL, True as TRUE, False as FALSE, Is as IS}
 use Rattle.truth.specs.Lex.{Token, tokens, kind, body, rest, lexeme, quoteKind, run, wordKind, signKind, signMore}
@@ -82,7 +84,7 @@ none-of f (w ∷ ws) e = go (f w) refl e (λ q. none-of f ws q)
 name-kind : (w : List ℕ) → reserved w ≡ false → name w ≡ true → wordKind w ≡ NAME
 unfolding wordKind reserved reservedWords
 name-kind w e n =
-    let h = none-of (same (uppers w)) reservedWords e in
+    let h = none-of (same (uppers w)) (reservedWords ++ keywords) e in
     rw (h .1 .1 .1 .1 .1 .1 .1 .1 .1 .0, h .0, h .1 .1 .1 .1 .1 .1 .1 .1 .1 .1 .1 .1 .0, h .1 .1 .1 .1 .1 .1 .1 .1 .1 .1 .1 .0, h .1 .1 .1 .1 .1 .1 .1 .1 .1 .1 .1 .1 .1 .0, h .1 .1 .1 .1 .0, h .1 .1 .1 .1 .1 .1 .0, n)
 
 -- Tokens.

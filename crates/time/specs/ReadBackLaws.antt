@@ -15,7 +15,8 @@ use Rattle.truth.specs.LexLaws.{is-same, is-other, is-apart, tokens-space, toke
 use Rattle.truth.specs.Grammar.{Ast, neg, conj, disj, got, isComparison, simple, orE, orMore, andE, andMore, notE, test}
 use Rattle.truth.specs.Reading.{parse, bracketLimit}
 use Rattle.prelude.specs.Choice.{some, same}
-use Rattle.charset.specs.Charset.{letter, digit, nameStart, nameByte, upper}
+use Rattle.charset.specs.Charset.{letter, digit, nameStart, nameByte}
+use Rattle.keyword.specs.Reserved.{upper}
 
 -- what may stand after a word: nothing, a space or a closing bracket
 pub data Break : List ℕ → Type 0 where

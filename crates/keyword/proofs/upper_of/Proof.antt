@@ -1,11 +1,11 @@
--- `charset::upper_of` meets its contract: each `return` is the case of the definition that its tests name.
-use Rattle.charset.specs.Charset.{upper}
+-- `keyword::upper_of` meets its contract: each `return` is the case of the definition that its tests name.
+use Rattle.keyword.specs.Reserved.{upper}
 use mathlib.Core.Path.{sym, _∙_}
 use native.Mathlib.Omega.{arith}
 use Rattle.prelude.specs.ChoiceLaws.{between-true}
 use borrow.Author.Needs.{needs}
-use Rattle.charset.proofs.upper_of.Statement.{statement}
-use Rattle.charset.proofs.upper_of.Tie as tie
+use Rattle.keyword.proofs.upper_of.Statement.{statement}
+use Rattle.keyword.proofs.upper_of.Tie as tie
 
 within-requires : tie.Need-within-requires
 within-requires c κs = search needs

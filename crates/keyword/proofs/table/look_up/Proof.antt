@@ -1,0 +1,85 @@
+-- `keyword::table::look_up` meets its contract: the words of the length from `at` on, `left` in number, hold the word exactly if it is reserved.
+use mathlib.Core.Path.{_≡_, sym, ap, _∙_}
+use Prim.Native.Nat.{_+_, _*_, _≤_}
+use native.Mathlib.Omega.{arith}
+use borrow.Author.Needs.{needs}
+use lib.ListN.{length, drop}
+use Rattle.prelude.specs.Choice.{some, same}
+use Rattle.keyword.specs.Reserved.{uppers, reserved}
+use Rattle.keyword.specs.ReservedTable.{cut}
+use Rattle.keyword.proofs.TableLaws.{at-first, room, part, found, next, at-last}
+use Rattle.keyword.proofs.table.look_up.Statement.{statement}
+use Rattle.keyword.proofs.table.look_up.Tie as tie
+
+abbrev Inv-loop : tie.InvT-loop
+Inv-loop table s at₀ left₀ at left = (at + left * length s ≤ length table) × (some (same (uppers s)) (cut left (length s) (drop at table)) ≡ reserved s)
+
+abbrev μ-loop : tie.MeasureT-loop
+μ-loop table s at₀ left₀ at left = left
+
+place-requires : tie.Need-place-requires Inv-loop μ-loop
+place-requires c κs = search needs
+
+count-requires : tie.Need-count-requires Inv-loop μ-loop
+count-requires c κs = search needs
+
+loop-holds : tie.Need-loop-holds Inv-loop μ-loop
+loop-holds c =
+    let p = c .before .before .before .before .pre in
+    (rw (c .before .place .ensures, c .count .ensures) (p .0 .inside _ (p .1)), rw (c .before .place .ensures, c .count .ensures) (at-first (c .before .before .before .before .args .table .now) (c .before .before .before .before .args .s .now) (p .0) (p .1)))
+
+add-is-word : tie.Need-add-is-word Inv-loop μ-loop
+add-is-word c = let z = room _ _ _ _ (c .loop-test .taken) (c .before .loop .inv .0) in search needs
+
+sub-is-word : tie.Need-sub-is-word Inv-loop μ-loop
+sub-is-word c = search needs
+
+part-is-word-start : tie.Need-part-is-word-start Inv-loop μ-loop
+part-is-word-start c = search needs
+
+part-is-word-end : tie.Need-part-is-word-end Inv-loop μ-loop
+part-is-word-end c = let z = room _ _ _ _ (c .loop-test .taken) (c .before .loop .inv .0) in search needs
+
+is-word-requires : tie.Need-is-word-requires Inv-loop μ-loop
+is-word-requires c κs = search needs
+
+returns : tie.Need-returns Inv-loop μ-loop
+returns c = sym (sym (c .before .before .before .before .loop .inv .1) ∙ found (uppers (c .before .before .before .before .before .before .before .before .before .args .s .now)) (c .before .before .before .before .before .before .before .before .before .args .table .now) (length (c .before .before .before .before .before .before .before .before .before .args .s .now)) (c .before .before .before .before .loop .at) (c .before .before .before .before .loop .left) (c .before .before .before .loop-test .taken) (sym (c .before .is-word .ensures ∙ ap (same (uppers (c .before .before .before .before .before .before .before .before .before .args .s .now))) (part (c .before .before .before .before .loop .at) (length (c .before .before .before .before .before .before .before .before .before .args .s .now)) (c .before .before .before .before .before .before .before .before .before .args .table .now))) ∙ c .if1 .taken))
+
+add-at : tie.Need-add-at Inv-loop μ-loop
+add-at c = let z = room _ _ _ _ (c .before .before .before .loop-test .taken) (c .before .before .before .before .loop .inv .0) in search needs
+
+sub-left : tie.Need-sub-left Inv-loop μ-loop
+sub-left c = search needs
+
+loop-less : tie.Need-loop-less Inv-loop μ-loop
+loop-less c = search needs
+
+loop-again : tie.Need-loop-again Inv-loop μ-loop
+loop-again c =
+    let z = room _ _ _ _ (c .before .before .before .loop-test .taken) (c .before .before .before .before .loop .inv .0) in
+    (z .1, sym (next (uppers (c .before .before .before .before .before .before .before .before .before .args .s .now)) (c .before .before .before .before .before .before .before .before .before .args .table .now) (length (c .before .before .before .before .before .before .before .before .before .args .s .now)) (c .before .before .before .before .loop .at) (c .before .before .before .before .loop .left) (c .before .before .before .loop-test .taken) (sym (c .before .is-word .ensures ∙ ap (same (uppers (c .before .before .before .before .before .before .before .before .before .args .s .now))) (part (c .before .before .before .before .loop .at) (length (c .before .before .before .before .before .before .before .before .before .args .s .now)) (c .before .before .before .before .before .before .before .before .before .args .table .now))) ∙ c .if1 .left)) ∙ c .before .before .before .before .loop .inv .1)
+
+returns-2 : tie.Need-returns-2 Inv-loop μ-loop
+returns-2 c = sym (sym (c .before .loop .inv .1) ∙ at-last (uppers (c .before .before .before .before .before .before .args .s .now)) (c .before .before .before .before .before .before .args .table .now) (length (c .before .before .before .before .before .before .args .s .now)) (c .before .loop .at) (c .before .loop .left) (c .loop-test .left))
+
+pub look-up-spec : {M : Type 1} → statement M
+look-up-spec =
+    tie.close
+    (tie.spec
+    Inv-loop
+    μ-loop
+    place-requires
+    count-requires
+    loop-holds
+    add-is-word
+    sub-is-word
+    part-is-word-start
+    part-is-word-end
+    is-word-requires
+    returns
+    add-at
+    sub-left
+    loop-less
+    loop-again
+    returns-2)

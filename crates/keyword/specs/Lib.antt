@@ -1,0 +1,7 @@
+-- What is to be believed.
+pub mod Keywords
+pub mod Reserved
+-- Words of private contracts.
+pub mod ReservedTable
+-- Laws.
+pub mod CaseLaws
