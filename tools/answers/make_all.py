@@ -9,7 +9,7 @@ import os
 import sys
 
 sys.path.insert(0, os.path.join(os.path.dirname(os.path.abspath(__file__)), '..'))
-from answers import (make_leaf_answers, make_lowering_answers, make_operator_answers, make_program_answers, make_reading_answers,
+from answers import (make_keyword_answers, make_leaf_answers, make_lowering_answers, make_operator_answers, make_program_answers, make_reading_answers,
                      make_tree_answers, stored)
 
 
@@ -17,7 +17,7 @@ def main(oracle, checking):
     stored.checking = checking
     for maker in (make_operator_answers, make_leaf_answers, make_lowering_answers):
         maker.main(oracle)
-    for maker in (make_tree_answers, make_reading_answers, make_program_answers):
+    for maker in (make_tree_answers, make_keyword_answers, make_reading_answers, make_program_answers):
         maker.main()
     print('all stored answers are as they are made' if checking else 'all stored answers were written')
 

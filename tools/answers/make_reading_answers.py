@@ -12,7 +12,6 @@ import sys
 
 sys.path.insert(0, os.path.join(os.path.dirname(os.path.abspath(__file__)), '..'))
 from answers import compare_readings, counts, stored
-from model.refusals import ABSENT, GRAMMAR, READING_SIZE, ROW
 
 CASES, SAMPLE = 1655, 1300
 SMALL = 700    # bytes of a random text and its row together, if they are stored
@@ -27,9 +26,7 @@ def main():
     counts.stop_if_wrong(0, ('cases', len(cases), CASES))
     stored_cases = [stored.reading_case(*case) for case in cases]
     tally = collections.Counter(answer[0] for *_, answer in stored_cases)
-    line = 'cases %d, right: true %d, false %d, unknown %d, refused %s' % (
-        len(cases), tally[1], tally[0], tally[2], ', '.join('%d %d' % (n, tally[n]) for n in (READING_SIZE, ROW, GRAMMAR, ABSENT)))
-    stored.write_cases('readings', stored_cases, line)
+    stored.write_cases('readings', stored_cases, stored.reading_line(tally))
 
 
 if __name__ == '__main__':

@@ -21,8 +21,7 @@ def main():
     cases = list(dict.fromkeys([*trees.edges(), *trees.mutations(MUTATIONS)]))
     answers = [calls.check(*case) for case in cases]
     tally = collections.Counter(answers)
-    line = '%d cases, %d as expected; accepted %d, refusals 1 to 7: %s' % (
-        len(cases), len(cases), tally[0], ' '.join(str(tally[n]) for n in range(1, 8)))
+    line = stored.tree_line(tally)
     print(line)
     counts.stop_if_wrong(0, ('cases', len(cases), CASES), *(('answers %d' % n, tally[n], 1) for n in range(8)))
     stored.write_cases('trees', [(*case, bytes([answer])) for case, answer in zip(cases, answers)], line)

@@ -4,9 +4,10 @@ import struct
 import sys
 
 from model.c import TRUTH
+from model.refusals import ABSENT, GRAMMAR, READING_SIZE, ROW
 
 CRATES = os.path.join(os.path.dirname(os.path.abspath(__file__)), '..', '..', 'crates')
-REPLAYED = ('operators', 'trees', 'leaves', 'lowerings', 'readings')    # in the order of the program's lines
+REPLAYED = ('operators', 'trees', 'keyword_trees', 'leaves', 'lowerings', 'readings', 'keyword_readings')    # in the order of the program's lines
 checking = False    # set by make_all.py
 
 
@@ -46,3 +47,14 @@ def lowering_case(settings, tree, room, answer):
 def reading_case(text, row, answer):
     """The answer a byte: 0 false, 1 true, 2 unknown, or the refusal's number."""
     return text, row, bytes([TRUTH.get(answer, answer)])
+
+
+def tree_line(tally):
+    """What the program writes of cases whose answers are 0 for accepted or a refusal's number, counted here."""
+    total = sum(tally.values())
+    return '%d cases, %d as expected; accepted %d, refusals 1 to 7: %s' % (total, total, tally[0], ' '.join(str(tally[n]) for n in range(1, 8)))
+
+
+def reading_line(tally):
+    return 'cases %d, right: true %d, false %d, unknown %d, refused %s' % (
+        sum(tally.values()), tally[1], tally[0], tally[2], ', '.join('%d %d' % (n, tally[n]) for n in (READING_SIZE, ROW, GRAMMAR, ABSENT)))

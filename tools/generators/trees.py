@@ -3,7 +3,7 @@ import random
 import struct
 
 from model.limits import MANTISSA, NAME, PLANNER, SPATIAL, STR
-from model.names import RESERVED
+from model.names import WORDS
 from model.operators import BETWEEN, DYADIC, MONADIC, NUMBER, TEMPORAL
 from model.records import (SHEET_SETTINGS, array, boolean, counted, date, dyadic, function, ident, interval, monadic, null, num, record,
                            settings_bytes, settings_record, spatial, string, timestamp, unbounded)
@@ -90,7 +90,7 @@ def name_rules():
         yield from under(SETTINGS, (ident(name), function(name), function(name, A)))
         for three in ((name, b'NA', b'NCA'), (b'NC', name, b'NCA'), (b'NC', b'NA', name)):
             yield settings_bytes(7, *three), NULL
-    for word in sorted(RESERVED):
+    for word in sorted(WORDS):
         mixed = bytes(b | 32 if i % 2 else b for i, b in enumerate(word))
         for w in (word, word.lower(), mixed, mixed.swapcase(), word + b'S', b'_' + word, word[:-1], word + b'0'):
             yield SETTINGS, ident(w)

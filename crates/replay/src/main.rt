@@ -21,9 +21,11 @@ mod trees;
 enum Kind {
     Operators,
     Trees,
+    KeywordTrees,
     Leaves,
     Lowerings,
     Readings,
+    KeywordReadings,
 }
 
 // More cases than any file has.
@@ -43,9 +45,11 @@ fn begin_line(kind: Kind) {
     match kind {
         Kind::Operators => write(b"operators: "),
         Kind::Trees => write(b"trees: "),
+        Kind::KeywordTrees => write(b"keyword_trees: "),
         Kind::Leaves => write(b"leaves: "),
         Kind::Lowerings => write(b"lowerings: "),
         Kind::Readings => write(b"readings: "),
+        Kind::KeywordReadings => write(b"keyword_readings: "),
     }
 }
 
@@ -62,9 +66,11 @@ fn open(kind: Kind) -> i32 {
     match kind {
         Kind::Operators => open_path(b"operators"),
         Kind::Trees => open_path(b"trees"),
+        Kind::KeywordTrees => open_path(b"keyword_trees"),
         Kind::Leaves => open_path(b"leaves"),
         Kind::Lowerings => open_path(b"lowerings"),
         Kind::Readings => open_path(b"readings"),
+        Kind::KeywordReadings => open_path(b"keyword_readings"),
     }
 }
 
@@ -72,10 +78,10 @@ fn open(kind: Kind) -> i32 {
 fn parts_of(kind: Kind) -> usize {
     match kind {
         Kind::Operators => 1,
-        Kind::Trees => 3,
+        Kind::Trees | Kind::KeywordTrees => 3,
         Kind::Leaves => 2,
         Kind::Lowerings => 4,
-        Kind::Readings => 3,
+        Kind::Readings | Kind::KeywordReadings => 3,
     }
 }
 
@@ -83,10 +89,10 @@ fn parts_of(kind: Kind) -> usize {
 fn judged<'a>(kind: Kind, place: u64, a: &'a [u8], b: &'a [u8], c: &'a [u8], d: &'a [u8]) -> Turn {
     match kind {
         Kind::Operators => operators::judged(a, place as usize),
-        Kind::Trees => trees::judged(a, b, c),
+        Kind::Trees | Kind::KeywordTrees => trees::judged(a, b, c),
         Kind::Leaves => leaves::judged(a, b),
         Kind::Lowerings => lowerings::judged(a, b, c, d),
-        Kind::Readings => readings::judged(a, b, c),
+        Kind::Readings | Kind::KeywordReadings => readings::judged(a, b, c),
     }
 }
 
@@ -173,10 +179,10 @@ fn report(kind: Kind, done: u64, counts: [u64; 16]) {
     begin_line(kind);
     match kind {
         Kind::Operators => operators::report(done, counts),
-        Kind::Trees => trees::report(done, counts),
+        Kind::Trees | Kind::KeywordTrees => trees::report(done, counts),
         Kind::Leaves => leaves::report(done, counts),
         Kind::Lowerings => lowerings::report(done, counts),
-        Kind::Readings => readings::report(done, counts),
+        Kind::Readings | Kind::KeywordReadings => readings::report(done, counts),
     }
     write(b"\n");
 }
@@ -199,7 +205,9 @@ fn replay(kind: Kind) {
 fn main() {
     replay(Kind::Operators);
     replay(Kind::Trees);
+    replay(Kind::KeywordTrees);
     replay(Kind::Leaves);
     replay(Kind::Lowerings);
     replay(Kind::Readings);
+    replay(Kind::KeywordReadings);
 }
