@@ -226,113 +226,38 @@ fn has(set: u64, k: usize) -> bool
     (set >> k) % 2 == 1
 }
 
-// What the words that begin with one letter have: their lengths, and their marks.
-struct Family {
-    lengths: u64,
-    marks: u64,
-}
+// What the words that begin with one letter have: the set of their lengths, and that of their marks.
+struct Family(u64, u64);
 
 // Those of the letter of that number, A being 1.
 fn family_of(letter: u8) -> Family
-    ensures { λ r. ⌜ Covers length letter (r .lengths) × Covers markOf letter (r .marks) ⌝ }
+    ensures { λ r. ⌜ Covers length letter (r .0) × Covers markOf letter (r .1) ⌝ }
 {
     match letter {
-        1 => Family {
-            lengths: 0x020ec,
-            marks: 0x80104a2063000880,
-        }, // A
-        2 => Family {
-            lengths: 0x000e4,
-            marks: 0x0040002000080400,
-        }, // B
-        3 => Family {
-            lengths: 0x215f0,
-            marks: 0x10810099000a4800,
-        }, // C
-        4 => Family {
-            lengths: 0x005dc,
-            marks: 0x0012410006114404,
-        }, // D
-        5 => Family {
-            lengths: 0x002d8,
-            marks: 0x8240004000005840,
-        }, // E
-        6 => Family {
-            lengths: 0x002f8,
-            marks: 0x620010c420000000,
-        }, // F
-        7 => Family {
-            lengths: 0x00270,
-            marks: 0x0002000800000001,
-        }, // G
-        8 => Family {
-            lengths: 0x00040,
-            marks: 0x0000000000000040,
-        }, // H
-        9 => Family {
-            lengths: 0x002f4,
-            marks: 0x06302408c0204400,
-        }, // I
-        10 => Family {
-            lengths: 0x00010,
-            marks: 0x0000000040000000,
-        }, // J
-        11 => Family {
-            lengths: 0x00008,
-            marks: 0x0000000000800000,
-        }, // K
-        12 => Family {
-            lengths: 0x00030,
-            marks: 0x0000008000404001,
-        }, // L
-        13 => Family {
-            lengths: 0x01020,
-            marks: 0x8040000000000000,
-        }, // M
-        14 => Family {
-            lengths: 0x000bc,
-            marks: 0x2020084202004000,
-        }, // N
-        15 => Family {
-            lengths: 0x00074,
-            marks: 0x0830040004000410,
-        }, // O
-        16 => Family {
-            lengths: 0x002d0,
-            marks: 0x0000800011200008,
-        }, // P
-        17 => Family {
-            lengths: 0x00020,
-            marks: 0x0000000000000200,
-        }, // Q
-        18 => Family {
-            lengths: 0x007f8,
-            marks: 0x160003a100080400,
-        }, // R
-        19 => Family {
-            lengths: 0x00248,
-            marks: 0x0800010000002000,
-        }, // S
-        20 => Family {
-            lengths: 0x00ab4,
-            marks: 0x0200000810056080,
-        }, // T
-        21 => Family {
-            lengths: 0x00260,
-            marks: 0x0020002310000000,
-        }, // U
-        22 => Family {
-            lengths: 0x000d0,
-            marks: 0x0000021040040000,
-        }, // V
-        23 => Family {
-            lengths: 0x000f0,
-            marks: 0x02400000000100c0,
-        }, // W
-        _ => Family {
-            lengths: 0,
-            marks: 0,
-        },
+        1 => Family(0x020ec, 0x80104a2063000880), // A
+        2 => Family(0x000e4, 0x0040002000080400), // B
+        3 => Family(0x215f0, 0x10810099000a4800), // C
+        4 => Family(0x005dc, 0x0012410006114404), // D
+        5 => Family(0x002d8, 0x8240004000005840), // E
+        6 => Family(0x002f8, 0x620010c420000000), // F
+        7 => Family(0x00270, 0x0002000800000001), // G
+        8 => Family(0x00040, 0x0000000000000040), // H
+        9 => Family(0x002f4, 0x06302408c0204400), // I
+        10 => Family(0x00010, 0x0000000040000000), // J
+        11 => Family(0x00008, 0x0000000000800000), // K
+        12 => Family(0x00030, 0x0000008000404001), // L
+        13 => Family(0x01020, 0x8040000000000000), // M
+        14 => Family(0x000bc, 0x2020084202004000), // N
+        15 => Family(0x00074, 0x0830040004000410), // O
+        16 => Family(0x002d0, 0x0000800011200008), // P
+        17 => Family(0x00020, 0x0000000000000200), // Q
+        18 => Family(0x007f8, 0x160003a100080400), // R
+        19 => Family(0x00248, 0x0800010000002000), // S
+        20 => Family(0x00ab4, 0x0200000810056080), // T
+        21 => Family(0x00260, 0x0020002310000000), // U
+        22 => Family(0x000d0, 0x0000021040040000), // V
+        23 => Family(0x000f0, 0x02400000000100c0), // W
+        _ => Family(0, 0),
     }
 }
 
@@ -350,8 +275,8 @@ pub(crate) fn may_be_reserved(s: &[u8]) -> bool
     ensures { λ r. ⌜ (r ≡ false → reserved (now (s .entry)) ≡ false) ⌝ }
 {
     let family = family_of(s[0] % 32);
-    if has(family.lengths, s.len()) {
-        return has(family.marks, mark(s));
+    if has(family.0, s.len()) {
+        return has(family.1, mark(s));
     }
     false
 }
