@@ -1,6 +1,6 @@
 -- `keyword::table::look_up` meets its contract: the words of the length from `at` on, `left` in number, hold the word exactly if it is reserved.
 use mathlib.Core.Path.{_≡_, sym, ap, _∙_}
-use Prim.Native.Nat.{_+_, _*_, _≤_}
+use Prim.Native.Nat.{_+_, _*_, _≤_, _<_}
 use native.Mathlib.Omega.{arith}
 use borrow.Author.Needs.{needs}
 use lib.ListN.{length, drop}
@@ -29,7 +29,11 @@ loop-holds c =
     (rw (c .before .place .ensures, c .count .ensures) (p .0 .inside _ (p .1)), rw (c .before .place .ensures, c .count .ensures) (at-first (c .before .before .before .before .args .table .now) (c .before .before .before .before .args .s .now) (p .0) (p .1)))
 
 add-is-word : tie.Need-add-is-word Inv-loop μ-loop
-add-is-word c = let z = room _ _ _ _ (c .loop-test .taken) (c .before .loop .inv .0) in search needs
+add-is-word c =
+    let l = c .before .loop in
+    let more : 0 < l .left = omega arith in
+    let z = room _ _ _ _ more (l .inv .0) in
+    search needs
 
 sub-is-word : tie.Need-sub-is-word Inv-loop μ-loop
 sub-is-word c = search needs
@@ -38,16 +42,29 @@ part-is-word-start : tie.Need-part-is-word-start Inv-loop μ-loop
 part-is-word-start c = search needs
 
 part-is-word-end : tie.Need-part-is-word-end Inv-loop μ-loop
-part-is-word-end c = let z = room _ _ _ _ (c .loop-test .taken) (c .before .loop .inv .0) in search needs
+part-is-word-end c =
+    let l = c .before .loop in
+    let more : 0 < l .left = omega arith in
+    let z = room _ _ _ _ more (l .inv .0) in
+    search needs
 
 is-word-requires : tie.Need-is-word-requires Inv-loop μ-loop
 is-word-requires c κs = search needs
 
 returns : tie.Need-returns Inv-loop μ-loop
-returns c = sym (sym (c .before .before .before .before .loop .inv .1) ∙ found (uppers (c .before .before .before .before .before .before .before .before .before .args .s .now)) (c .before .before .before .before .before .before .before .before .before .args .table .now) (length (c .before .before .before .before .before .before .before .before .before .args .s .now)) (c .before .before .before .before .loop .at) (c .before .before .before .before .loop .left) (c .before .before .before .loop-test .taken) (sym (c .before .is-word .ensures ∙ ap (same (uppers (c .before .before .before .before .before .before .before .before .before .args .s .now))) (part (c .before .before .before .before .loop .at) (length (c .before .before .before .before .before .before .before .before .before .args .s .now)) (c .before .before .before .before .before .before .before .before .before .args .table .now))) ∙ c .if1 .taken))
+returns c =
+    let a = c .before .before .before .before .before .before .before .before .before .args in
+    let l = c .before .before .before .before .loop in
+    let more : 0 < l .left = omega arith in
+    let e = c .before .is-word .ensures ∙ ap (same (uppers (a .s .now))) (part (l .at) (length (a .s .now)) (a .table .now)) in
+    sym (sym (l .inv .1) ∙ found (uppers (a .s .now)) (a .table .now) (length (a .s .now)) (l .at) (l .left) more (sym e ∙ c .if1 .taken))
 
 add-at : tie.Need-add-at Inv-loop μ-loop
-add-at c = let z = room _ _ _ _ (c .before .before .before .loop-test .taken) (c .before .before .before .before .loop .inv .0) in search needs
+add-at c =
+    let l = c .before .before .before .before .loop in
+    let more : 0 < l .left = omega arith in
+    let z = room _ _ _ _ more (l .inv .0) in
+    search needs
 
 sub-left : tie.Need-sub-left Inv-loop μ-loop
 sub-left c = search needs
@@ -57,11 +74,17 @@ loop-less c = search needs
 
 loop-again : tie.Need-loop-again Inv-loop μ-loop
 loop-again c =
-    let z = room _ _ _ _ (c .before .before .before .loop-test .taken) (c .before .before .before .before .loop .inv .0) in
-    (z .1, sym (next (uppers (c .before .before .before .before .before .before .before .before .before .args .s .now)) (c .before .before .before .before .before .before .before .before .before .args .table .now) (length (c .before .before .before .before .before .before .before .before .before .args .s .now)) (c .before .before .before .before .loop .at) (c .before .before .before .before .loop .left) (c .before .before .before .loop-test .taken) (sym (c .before .is-word .ensures ∙ ap (same (uppers (c .before .before .before .before .before .before .before .before .before .args .s .now))) (part (c .before .before .before .before .loop .at) (length (c .before .before .before .before .before .before .before .before .before .args .s .now)) (c .before .before .before .before .before .before .before .before .before .args .table .now))) ∙ c .if1 .left)) ∙ c .before .before .before .before .loop .inv .1)
+    let a = c .before .before .before .before .before .before .before .before .before .args in
+    let l = c .before .before .before .before .loop in
+    let more : 0 < l .left = omega arith in
+    let e = c .before .is-word .ensures ∙ ap (same (uppers (a .s .now))) (part (l .at) (length (a .s .now)) (a .table .now)) in
+    (room _ _ _ _ more (l .inv .0) .1, sym (next (uppers (a .s .now)) (a .table .now) (length (a .s .now)) (l .at) (l .left) more (sym e ∙ c .if1 .left)) ∙ l .inv .1)
 
 returns-2 : tie.Need-returns-2 Inv-loop μ-loop
-returns-2 c = sym (sym (c .before .loop .inv .1) ∙ at-last (uppers (c .before .before .before .before .before .before .args .s .now)) (c .before .before .before .before .before .before .args .table .now) (length (c .before .before .before .before .before .before .args .s .now)) (c .before .loop .at) (c .before .loop .left) (c .loop-test .left))
+returns-2 c =
+    let a = c .before .before .before .before .before .before .args in
+    let l = c .before .loop in
+    sym (sym (l .inv .1) ∙ at-last (uppers (a .s .now)) (a .table .now) (length (a .s .now)) (l .at) (l .left) (omega arith))
 
 pub look-up-spec : {M : Type 1} → statement M
 look-up-spec =
