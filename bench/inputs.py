@@ -146,10 +146,12 @@ def worst():
         ('29 TDisjoint inside one another', lowering([doubled])),
         ('an unwritten end of 32 KB', lowering([two('TAfter', name('a'), span(huge, name('b')))])),
         ('5,300 empty arrays, 32 deep', lowering([deep_arrays()])),
+        ('3,276 names, each sought in the keywords', lowering([('array', [name('temr')] * 3276)])),
         ('32 KB, wrong in the last record', ('L', [(SETTINGS, spoilt(encode(huge)), b'', b'')])),
         ('row of 2,970 names, last first', reading(['TRUE'], down, False)),
         ('the same, a text of 11,900 names', reading([asked], down, False)),
         ('442 names alike in 61 of 64 bytes', reading([alike], [(n, None) for n in long], False)),
+        ('14,564 such names in a text', reading([repeated('ov=ov', ' OR ', SQL)], [('ov', None)], False)),
         ('64 brackets, 481 times', reading([repeated(brackets, ' OR ', SQL)], CELLS, False)),
         ('16,382 NOTs', reading(['NOT ' * 16382 + 'TRUE'], CELLS, False)),
         ('one quoted text of 64 KB', reading(["'%s'=mass" % ('x' * (SQL - 7))], CELLS, False))]

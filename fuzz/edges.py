@@ -18,7 +18,7 @@ def edge_text(r, good, sizes):
 
 def edge_name(r):
     if r.random() < .4:
-        word = bytes(c if r.random() < .5 else c | 32 for c in r.choice(sorted(RESERVED)))
+        word = b''.join(bytes([c]).lower() if r.random() < .5 else bytes([c]) for c in r.choice(sorted(RESERVED)))
         return r.choice((word, word, word[:-1], word + b'S', b'_' + word))
     return edge_text(r, r.choice((b'n', b'_', b'Z')), (0, 1, 2, 5, NAME - 1, NAME, NAME, NAME + 1))
 

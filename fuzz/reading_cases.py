@@ -110,7 +110,7 @@ class Readings:
     def names(self):
         """Names near one another, in both writings, at the edges of the name rule."""
         r = self.r
-        known = [(b'n' * 64, b'x'), (b'n' * 63, None), (b'And_', b'y'), (b'nulls', b''), (b'_', b'~' * 64), (b'A', b'2'), (b'aa', b'q'),
+        known = [(b'n' * 64, b'x'), (b'n' * 63, None), (b'And_', b'y'), (b'nullx', b''), (b'_', b'~' * 64), (b'A', b'2'), (b'aa', b'q'),
                  (b'AB', None)]
         cells = r.sample(known, r.randint(1, 8))
 
@@ -119,7 +119,7 @@ class Readings:
                 n = r.choice(cells)[0]
             else:
                 n = r.choice((r.choice(known)[0], r.choice(known)[0].swapcase(),
-                              r.choice((b'n' * 65, b'aNd', b'isnull', b'Like', b'1a', b'a1', b''))))
+                              r.choice((b'n' * 65, b'aNd', b'isnull', b'Like', b'Order', b'group', b'nulls', b'1a', b'a1', b''))))
             return b'"' + n + b'"' if r.random() < .5 else n
 
         return b' OR '.join(b'%s %s %s' % (pick(), r.choice(readings.SIGNS), pick()) for _ in range(r.randint(1, 3))), records.row(cells)

@@ -24,8 +24,9 @@
  *   13 Interval    two records
  *  100 settings    precision, a byte, 0 to 15; three times length byte, name: collations for case, accents, both
  *  200 a column    length byte, name; a byte 0 for NULL, or 1 and 0 to 64 bytes as in Str. A row is a run of these.
- * A name has 1 to 64 letters, digits, underscores, no digit first, and is in any letter case none of AND BETWEEN COLLATE
- * DIV FALSE IN IS ISNULL LIKE NOT NOTNULL NULL OR TRUE. Letters are those of ASCII.
+ * A name has 1 to 64 letters, digits, underscores, no digit first, and is in any letter case no keyword of SQLite, as
+ * ORDER or GROUP (the 147 words of sqlite.org/lang_keywords.html, release 3.40.0), nor DIV, FALSE or TRUE. Letters are
+ * those of ASCII. A column that has such a name needs another one, or a view that gives it one.
  *
  *   number  where        the refusal
  *    1      settings     not exactly one record of kind 100 with a precision of 0 to 15 and three names

@@ -342,6 +342,9 @@ static void test_inner_refusals(void)
     put_id(&tree, "and");
     expect_refusal(100, WENDUULIG_BAD_FIELD, "6: a reserved word as a name");
     tree.n = 0;
+    put_id(&tree, "Order");
+    expect_refusal(100, WENDUULIG_BAD_FIELD, "6: a keyword of SQLite as a name");
+    tree.n = 0;
     size_t interval = begin(&tree, WENDUULIG_INTERVAL);
     put_leaf(&tree, WENDUULIG_UNBOUNDED);
     put_leaf(&tree, WENDUULIG_NULL);
@@ -417,7 +420,11 @@ static void test_reading_refusals(void)
     put_column(&row, "a", "it's");
     expect_read("TRUE", -WENDUULIG_BAD_ROW, "11: an apostrophe in a value");
     row.n = 0;
+    put_column(&row, "group", "x");
+    expect_read("TRUE", -WENDUULIG_BAD_ROW, "11: a keyword of SQLite as a column's name");
+    row.n = 0;
     put_column(&row, "a", "x");
+    expect_read("\"order\" IS NULL", -WENDUULIG_BAD_TEXT, "12: a keyword of SQLite in double quotes");
     expect_read("z = ", -WENDUULIG_BAD_TEXT, "12: no second atom, before 13");
     make_brackets(&text, 64);
     check(read_row(text.at, text.n, &row) == WENDUULIG_TRUE, "64 brackets");

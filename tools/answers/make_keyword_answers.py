@@ -3,9 +3,9 @@
 
 usage: python3 tools/answers/make_keyword_answers.py
 
-The words are those of sqlite3_keyword_name of libsqlite3 3.40.1, which the list tools/model/sqlite_keywords.txt keeps. Each is refused in small,
-capital and mixed letters as Id and Function (6), as collation (1), as a row's name (11), bare and in quotes in a text (12); its neighbours, with a
-letter or an underscore more or a letter less, pass. The answers are these numbers, and not the model's, which must have the same.
+The words are those of sqlite3_keyword_name of libsqlite3 3.40.1, which the list tools/model/sqlite_keywords.txt keeps, and DIV, FALSE and TRUE. Each
+is refused in small, capital and mixed letters as Id and Function (6), as collation (1), as a row's name (11), bare and in quotes in a text (12); its
+neighbours, with a letter or an underscore more or a letter less, pass. The answers are these numbers, and not the model's, which must have the same.
 
 Writes nothing and exits with 1 if the library is another release or has other words than the list, if crates/keyword/specs/Keywords.antt has, or if
 there are not 147."""
@@ -73,6 +73,8 @@ def reading_cases(name, refused):
     held = row([(b'a', b'x')]) if refused else row([(name, b'x')])
     yield b'TRUE', row([(name, b'x')]), ROW if refused else 'true'
     yield name + b' IS NOT NULL', held, GRAMMAR if refused else 'true'
+    if name.upper() != b'NULL':    # which is an atom
+        yield b"'x' = " + name, held, GRAMMAR if refused else 'true'
     yield b'"' + name + b'" IS NULL', held, GRAMMAR if refused else 'false'
 
 
@@ -82,7 +84,7 @@ def main():
     if wrong or len(set(words)) != WORDS:
         sys.exit('the library has %d words; other words are %s' % (len(set(words)), ' and '.join(wrong) or 'nowhere'))
     reserved = {*words, *OTHERS}
-    names = [(w, True) for word in words for w in (word, word.lower(), mixed(word))]
+    names = [(w, True) for word in [*words, *OTHERS] for w in (word, word.lower(), mixed(word))]
     names += dict.fromkeys((n, False) for word in words for n in neighbours(word, reserved)).keys()
     trees = [case for one in names for case in tree_cases(*one)]
     texts = [case for one in names for case in reading_cases(*one)]

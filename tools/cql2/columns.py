@@ -33,8 +33,8 @@ class NoTable:
     """Where there is no GeoPackage at hand: any column may hold anything."""
     open, spatialite = False, False
 
-    def __init__(self, srid, readable):
-        self.srid, self.readable = srid, readable
+    def __init__(self, srid):
+        self.srid = srid
 
     def column(self, name):
         return Column()
@@ -50,11 +50,11 @@ class NoTable:
 
 
 class Table:
-    """A GeoPackage's table; `srid` is that of written geometries, `readable` says whether SQLite can read a name that stands bare."""
+    """A GeoPackage's table; `srid` is that of written geometries."""
     open = True
 
-    def __init__(self, package, name, spatialite, srid, readable):
-        self.package, self.name, self.spatialite, self.srid, self.readable = package, name, spatialite, srid, readable
+    def __init__(self, package, name, spatialite, srid):
+        self.package, self.name, self.spatialite, self.srid = package, name, spatialite, srid
         systems = package.geometries(name)
         self.columns = {column.lower(): Column(declared, nullable, systems.get(column.lower())) for column, declared, nullable in package.declared(name)}
 

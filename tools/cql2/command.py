@@ -8,7 +8,6 @@ from .columns import NoTable, Table
 from .encode import KNOWN, Encoder
 from .errors import BadInput, Parted, guarded, some, told
 from .geopackage import GeoPackage
-from .looking import CLOCKS
 from .reading import is_text_encoding, read_filter
 
 ABOUT = 'Shows the SQL text of a CQL2-JSON filter, lowered by the proved program, and with a GeoPackage the rows that it picks.'
@@ -103,8 +102,6 @@ def check_columns(tree, package, name):
     for node in (node for node, _ in tree.walk() if node.kind == records.ID):
         if node.head.decode().lower() not in known:
             raise BadInput('the table "%s" has no column %s; it has %s' % (name, node.head.decode(), some(columns)), node.place)
-        if node.head.decode().upper() in CLOCKS:
-            raise BadInput('SQLite takes the name %s for the time of today, not for the column' % node.head.decode(), node.place)
 
 
 def show_rows(package, name, sql, most):
@@ -153,7 +150,7 @@ def run(arguments):
     if package:
         check_columns(tree, package, name)
     scratch = prepare.Scratch(tree, collations)
-    where = Table(package, name, options.spatialite, options.srid, scratch.readable) if package else NoTable(options.srid, scratch.readable)
+    where = Table(package, name, options.spatialite, options.srid) if package else NoTable(options.srid)
     found = warnings_of(value, tree, sql, settings, scratch, where)
     # on a GeoPackage what SQLite cannot run ends the command, and is said once
     ending = [one for one in found if one.cannot] if package and scratch.error(sql) and not options.strict else []

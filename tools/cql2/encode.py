@@ -219,8 +219,7 @@ def unknown(name):
 
 
 # Refusal 6 in words, by the kind of the record that breaks its rule.
-NAME_RULE = ('a name has 1 to 64 letters, digits and underscores, no digit first, and is none of AND, BETWEEN, COLLATE, DIV, FALSE, IN, IS, '
-             'ISNULL, LIKE, NOT, NOTNULL, NULL, OR, TRUE')
+NAME_RULE = 'a name has 1 to 64 letters, digits and underscores, no digit first, and is no keyword of SQLite, nor DIV, FALSE or TRUE'
 RULES = {
     NUM: 'a number has at most 15 digits in all, and at most 9 after the point',
     STR: 'a text has at most 4,096 characters, all printable ASCII and none an apostrophe',

@@ -374,21 +374,6 @@ def list_of_others(part, table):
                 return
 
 
-def clock(part, table):
-    name = property_of(part.value)
-    if name and name.upper() in CLOCKS:
-        yield part.place + '.property', {'column': name}
-
-
-CLOCKS = ('CURRENT_DATE', 'CURRENT_TIME', 'CURRENT_TIMESTAMP')
-
-
-def unreadable_name(part, table):
-    name = property_of(part.value)
-    if name and name.upper() not in CLOCKS and not table.readable(name):
-        yield part.place + '.property', {'column': name}
-
-
 # ---- space
 
 

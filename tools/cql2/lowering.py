@@ -51,10 +51,25 @@ def explained(number, settings, tree):
     return BadInput('the proved program refused (%d), and no part of the filter by itself: please report the filter' % number)
 
 
+NAME = re.compile(r'[A-Za-z_][A-Za-z0-9_]{0,63}')
+
+
+def keyword(node):
+    """The words for a name that is refused though its letters are those of names: it is a keyword, and what to do then."""
+    name = (node.head[1:] if node.kind == records.FUNCTION else node.head).decode(errors='replace')
+    if not NAME.fullmatch(name):
+        return None
+    whose = 'SQL' if name.upper() in ('DIV', 'FALSE', 'TRUE') else 'SQLite'
+    if node.kind == records.ID:
+        return 'the property %s is a keyword of %s: give the column another name, or show it under one by a view' % (name, whose)
+    return 'the function %s is a keyword of %s: give it another name where it is registered, or use another function' % (name, whose)
+
+
 def told(number, node):
     """The words and the place for the record that breaks the rule."""
     if number == 6:
-        return node.rule or RULES[node.kind], node.place + ('.op' if node.kind == records.FUNCTION else '')
+        words = node.kind in (records.ID, records.FUNCTION) and keyword(node)
+        return words or node.rule or RULES[node.kind], node.place + ('.op' if node.kind == records.FUNCTION else '')
     stray = [child for child in node.children if child.kind == records.INTERVAL]
     name = records.OPERATORS[int.from_bytes(node.head[:2], 'little')] if node.kind == records.DYADIC else ''
     if name.startswith('T'):

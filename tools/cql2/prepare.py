@@ -34,9 +34,6 @@ class Scratch:
             return str(e)
         return None
 
-    def readable(self, name):
-        return self.error(name) is None
-
 
 def found(scratch, settings, tree, sql):
     """The text as something that SQLite cannot run, at the smallest part of the filter that it cannot take by itself; None if it can."""

@@ -114,13 +114,17 @@ BAD = [    # a filter that is not as CQL2-JSON has it, and what the line says
      '$.args[1].bbox: a bbox has its western edge first, unless it crosses the meridian of 180 degrees'),
 ]
 
-NAME_RULE = 'a name has 1 to 64 letters, digits and underscores, no digit first, and is none of AND'
+NAME_RULE = 'a name has 1 to 64 letters, digits and underscores, no digit first, and is no keyword of SQLite, nor DIV, FALSE or TRUE'
+OTHER_NAME = 'the property %s is a keyword of SQLite: give the column another name, or show it under one by a view'
 REFUSED = [    # a filter that document 01 refuses: the number, the place, the beginning of the words
     (op('=', A, 'x' * 33000), 2, None, 'the filter is longer than 32,768 bytes as records (it has'),
     (nested(32), 4, '$' + '.args[0]' * 32, 'this lies deeper than 32 levels'),
     (op('=', {'property': 'a b'}, 1), 6, '$.args[0].property', NAME_RULE),
     (op('=', {'property': 'eo:cloud_cover'}, 1), 6, '$.args[0].property', NAME_RULE),
-    (op('=', {'property': 'and'}, 1), 6, '$.args[0].property', NAME_RULE),
+    (op('=', {'property': 'and'}, 1), 6, '$.args[0].property', OTHER_NAME % 'and'),
+    (op('=', {'property': 'Order'}, 1), 6, '$.args[0].property', OTHER_NAME % 'Order'),
+    (op('and', op('=', A, 1), op('isNull', {'property': 'GROUP'})), 6, '$.args[1].args[0].property', OTHER_NAME % 'GROUP'),
+    (op('=', {'property': 'true'}, 1), 6, '$.args[0].property', (OTHER_NAME % 'true').replace('SQLite', 'SQL')),
     (op('=', {'property': ''}, 1), 6, '$.args[0].property', NAME_RULE),
     (op('=', A, "it's"), 6, '$.args[1]', 'a text has at most 4,096 characters'),
     (op('in', A, ['x', 'Straße']), 6, '$.args[1][1]', 'a text has at most 4,096 characters'),
@@ -178,10 +182,11 @@ class Errors(unittest.TestCase):
                 self.assertEqual(line[:len('refused (%d)%s: %s' % (number, where, words))], 'refused (%d)%s: %s' % (number, where, words))
 
     def test_function_names(self):
-        for name in ('a b', 'Not', 'x' * 300):
+        keyword = 'the function %s is a keyword of SQLite: give it another name where it is registered, or use another function'
+        for name, words in (('a b', NAME_RULE), ('x' * 300, NAME_RULE), ('Not', keyword % 'Not'), ('replace', keyword % 'replace')):
             data = json.dumps(op('=', op(name), 1))
             line = self.line(run('-', '--function', name, data=data.encode()), 1)
-            self.assertTrue(line.startswith('refused (6) at $.args[0].op: ' + NAME_RULE), line)
+            self.assertTrue(line.startswith('refused (6) at $.args[0].op: ' + words), line)
         self.assertEqual(self.line(run('true', '--function', 'not'), 2), 'argument --function: not is an operator (see ./filter --help)')
 
     def test_too_deep_to_be_read(self):

@@ -164,7 +164,8 @@ fid  label  tray    entry       exit        place
         path = self.other(b'\xff.gpkg'.decode('utf-8', 'surrogateescape'), 'ALTER TABLE stays ADD COLUMN current_date TEXT',
                           'ALTER TABLE stays ADD COLUMN twice TEXT GENERATED ALWAYS AS (label || label)')
         self.assertEqual(run(json.dumps(op('=', {'property': 'twice'}, 'cupcup')), '-g', path).returncode, 0)
-        self.assertIn('SQLite takes the name current_date for the time of today', self.line(json.dumps(op('isNull', {'property': 'current_date'})), '-g', path))
+        self.assertEqual('filter: refused (6) at $.args[0].property: the property current_date is a keyword of SQLite: give the column another name, or show it '
+                         'under one by a view', self.line(json.dumps(op('isNull', {'property': 'current_date'})), '-g', path, status=1))
         self.assertEqual(self.line('true', '-g', ''), 'filter: cannot read : No such file or directory')
         self.assertEqual(self.line('true', '-t', 'stays'), 'filter: --table and --spatialite go with --geopackage (see ./filter --help)')
 

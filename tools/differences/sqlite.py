@@ -3,7 +3,9 @@
 
 usage: python3 tools/differences/sqlite.py
 
-Exits with 1 if an answer is not the one that stands beside the text here, or if fewer than 35 texts were run."""
+Exits with 1 if an answer is not the one that stands beside the text here, if fewer than 35 texts were run, or if other numbers of keywords are
+read bare."""
+import collections
 import os
 import sqlite3
 import sys
@@ -11,17 +13,20 @@ import sys
 sys.path.insert(0, os.path.join(os.path.dirname(os.path.abspath(__file__)), '..'))
 from answers import counts
 from model.lowering import text as text_of
+from model.names import KEYWORDS
 from model.records import SHEET_SETTINGS
 
 TEXTS = 35
 ANDS_TAKEN = 28
+BARE = {'syntax error': 59, 1: 84, 0: 3, None: 1}    # of SQLite's 147 keywords
+CLOCK = ['CURRENT_DATE', 'CURRENT_TIME', 'CURRENT_TIMESTAMP']
 
 
 def fold(a, b):
     return (a.lower() > b.lower()) - (a.lower() < b.lower())
 
 
-def ask(expression, row, kind):
+def ask(expression, row, kind, form='SELECT (%s)%s'):
     base = sqlite3.connect(':memory:')
     base.create_collation('NC', fold)
     source = ''
@@ -30,7 +35,7 @@ def ask(expression, row, kind):
         base.execute('INSERT INTO t VALUES (%s)' % ','.join('?' * len(row)), list(row.values()))
         source = ' FROM t'
     try:
-        return base.execute('SELECT (%s)%s' % (expression, source)).fetchone()[0]
+        return base.execute(form % (expression, source)).fetchone()[0]
     except sqlite3.Error as error:
         return 'error: %s' % error
     finally:
@@ -83,8 +88,29 @@ def ands_over_disjoint(count):
     return text_of(SHEET_SETTINGS, tree)
 
 
+def of_keyword(word):
+    """What SQLite makes of a keyword that stands bare and in quotes where a column has that name. No brackets stand around it, as in a text: after
+    an opening bracket SQLite takes WITH for the beginning of a query."""
+    row = {word: 'x'}
+    bare, inside = (ask("%s = 'x'" % name, row, 'TEXT', 'SELECT %s%s') for name in (word, '"%s"' % word))
+    return 'syntax error' if str(bare).endswith('syntax error') else bare, inside
+
+
+def keywords():
+    """How many are read bare as what; the three that are the clock. Exits with 1 if the counts are others."""
+    words = [word.decode() for word in sorted(KEYWORDS)]
+    found = [of_keyword(word) for word in words]
+    tally = collections.Counter(bare for bare, _ in found)
+    clock = [word for word, (bare, _) in zip(words, found) if bare == 0]
+    print('%d keywords bare: %d a syntax error, %d the column, %d another value (%s), %d unknown; in quotes the column: %d' % (
+        len(words), tally['syntax error'], tally[1], tally[0], ' '.join(clock), tally[None], sum(inside == 1 for _, inside in found)))
+    if (tally, clock) != (BARE, CLOCK) or any(inside != 1 for _, inside in found):
+        sys.exit('these are not the counts of docs/DIFFERENCES.md')
+
+
 def main():
     print('SQLite', sqlite3.sqlite_version)
+    keywords()
     row, differ = {'a': '1', 'b': '2', 'c': '3', 'd': '4'}, 0
     deep = [(ands_over_disjoint(count), row, 'TEXT') for count in (ANDS_TAKEN, ANDS_TAKEN + 1)]
     cases = CASES + [(*deep[0], 1), (*deep[1], 'error: parser stack overflow')]

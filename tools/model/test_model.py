@@ -5,7 +5,7 @@ import ast
 import os
 import unittest
 
-from model import calls, lowering, records
+from model import calls, lowering, names, records
 from model.records import SHEET_SETTINGS, array, dyadic, encode, ident, interval, monadic, null, row, settings_record
 
 SETTINGS = settings_record(SHEET_SETTINGS)
@@ -101,6 +101,16 @@ class Refusals(unittest.TestCase):
         self.refused(8, encode(tree), room=0)
 
 
+class Names(unittest.TestCase):
+    def test_words(self):
+        self.assertEqual((len(names.WORDS), len(names.KEYWORDS), len(names.RESERVED)), (14, 147, 150))
+        self.assertEqual(names.WORDS - names.KEYWORDS, {b'DIV', b'FALSE', b'TRUE'})
+        for name in (b'order', b'Group', b'CURRENT_TIMESTAMP', b'div', b'True', b'', b'1a', b'a b', b'n' * 65):
+            self.assertFalse(names.is_name(name), name)
+        for name in (b'orders', b'_order', b'grou', b'true_', b'a', b'n' * 64):
+            self.assertTrue(names.is_name(name), name)
+
+
 class Reading(unittest.TestCase):
     def test_sheet_n(self):
         held = row([(b'a', b'2024-01-02'), (b'b', None), (b'c', b'2024-01-01')])
@@ -128,7 +138,7 @@ class Independence(unittest.TestCase):
             used = {word for node in ast.walk(tree) for word in
                     ([alias.name for alias in node.names] if isinstance(node, ast.Import) else
                      [node.module] if isinstance(node, ast.ImportFrom) and not node.level else [])}
-            self.assertLessEqual(used, {'calendar', 'functools', 're', 'struct', 'sys', 'typing'}, name)
+            self.assertLessEqual(used, {'calendar', 'functools', 'os', 're', 'struct', 'sys', 'typing'}, name)
 
 
 if __name__ == '__main__':

@@ -5,8 +5,8 @@ use std::fmt;
 /// The rule of names, which three refusals say.
 macro_rules! names {
     () => {
-        "1 to 64 letters, digits and underscores, no digit first, in any letter case none of AND BETWEEN COLLATE DIV \
-         FALSE IN IS ISNULL LIKE NOT NOTNULL NULL OR TRUE"
+        "1 to 64 letters, digits and underscores, no digit first, in any letter case no keyword of SQLite, as ORDER or \
+         GROUP (the 147 of release 3.40.0), nor DIV, FALSE or TRUE"
     };
 }
 

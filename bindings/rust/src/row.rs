@@ -3,7 +3,7 @@ use crate::record::{begin, end, named};
 
 /// The columns of a row, each a name and a value or NULL.
 ///
-/// A name obeys document 01's rule of names and stands once, in any letter case; a value has at most 64 bytes of printable
+/// A name obeys the rule of names and stands once, in any letter case; a value has at most 64 bytes of printable
 /// ASCII without the apostrophe. [`read`](crate::read) refuses any other row (11). Dates are written as `2024-01-02`,
 /// timestamps as `2024-01-02T03:04:05`: values compare as byte strings.
 #[derive(Clone, Debug, Default, PartialEq, Eq, Hash)]

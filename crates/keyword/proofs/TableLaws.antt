@@ -7,16 +7,16 @@ use mathlib.Core.Bool.{Bool, true, false, false≢true}
 use native.Mathlib.Nat.{suc-mul}
 use native.Mathlib.Omega.{arith}
 use native.Mathlib.Numerals.{unary-clauses}
-use lib.Dec.{T, eqb, leb, ltb}
+use lib.Dec.{eqb, leb, ltb}
 use lib.ListN.{length, getD, take, drop}
-use lib.Seq.{drop-drop}
+use lib.Seq.{drop-cons, drop-drop}
 use borrow.Author.Tests.{eq-eqb, ne-eqb, eqb-true, eqb-false, leb-true, ltb-false, lt-ltb}
 use Rattle.prelude.specs.Choice.{pick, both, either, negated, between, some, same}
 use Rattle.prelude.specs.ChoiceLaws.{same-true}
 use Rattle.keyword.specs.Keywords.{keywordTexts, keywords}
 use Rattle.keyword.specs.Reserved.{upper, uppers, reservedWords, reserved}
 use Rattle.keyword.specs.CaseLaws.{upper-at, upper-length}
-use Rattle.keyword.specs.ReservedTable.{reservedList, placeIn, countIn, cut, wordsIn, Lists, hasBit, markOf, lacks, Covers}
+use Rattle.keyword.specs.TableWords.{reservedList, placeIn, countIn, cut, wordsIn, Lists, hasBit, markOf, lacks, Covers}
 
 -- neither of two tests holds
 either-false : (a b : Bool) → either a b ≡ false → (a ≡ false) × (b ≡ false)
@@ -96,6 +96,12 @@ room at n (suc left) end h k =
     let e = suc-mul left n in
     let d : suc left - 1 ≡ left = omega arith in
     (omega arith, rw d (omega arith))
+
+-- a word whose first letter is another
+pub other-first : (s t : List ℕ) (at : ℕ) → 1 ≤ length s → at < length t → (getD t at 0 ≡ upper (getD s 0 0) → ⊥) → same (uppers s) (take (length s) (drop at t)) ≡ false
+unfolding same
+other-first [] t at h k e = absurd (omega arith)
+other-first (x ∷ s) t at h k e = rw (drop-cons t at 0 k, ne-eqb (upper x) (getD t at 0) (λ q. e (sym q))) refl
 
 -- the part of a text from `at` to `at + n`
 pub part : (at n : ℕ) (t : List ℕ) → take (at + n - at) (drop at t) ≡ take n (drop at t)
@@ -180,17 +186,15 @@ no-family f letter set e h = some-none (lacks f letter set) strange other reserv
         go true k = absurd (false≢true (sym q ∙ ap (λ (x : ℕ). negated (between 1 x 23)) (eqb-true (getD w 0 0 % 32) letter k) ∙ ap negated (apart letter 23 h)))
         go false k = rw k refl
 
+-- a letter and its capital differ by 32
+capital : (low high : Bool) (b : ℕ) → (low ≡ true → 97 ≤ b) → pick (pick low high false) (b - 32) b % 32 ≡ b % 32
+capital true true b h = let z = h refl in omega arith
+capital true false b h = refl
+capital false high b h = refl
+
 upper-low : (b : ℕ) → upper b % 32 ≡ b % 32
 unfolding upper
-upper-low b = go (leb 97 b) refl
-  where
-    go : (c : Bool) → leb 97 b ≡ c → pick (pick (leb 97 b) (leb b 122) false) (b - 32) b % 32 ≡ b % 32
-    go true e = last (leb b 122) refl
-      where
-        last : (c : Bool) → leb b 122 ≡ c → pick (pick (leb 97 b) (leb b 122) false) (b - 32) b % 32 ≡ b % 32
-        last true k = rw (e, k) (let z = leb-true 97 b e in omega arith)
-        last false k = rw (e, k) refl
-    go false e = rw e refl
+upper-low b = capital (leb 97 b) _ b (leb-true 97 b)
 
 -- a word that its family lacks is no reserved one
 pub ruled-out : (f : List ℕ → ℕ) (s : List ℕ) (letter set : ℕ) → Covers f letter set → letter ≡ getD s 0 0 % 32 → hasBit set (f (uppers s)) ≡ false → reserved s ≡ false
@@ -199,15 +203,15 @@ ruled-out f s letter set c e h =
     let q : getD (uppers s) 0 0 % 32 ≡ letter = ap (λ (x : ℕ). x % 32) (upper-at s 0) ∙ upper-low (getD s 0 0) ∙ sym e in
     none-same (lacks f letter set) (uppers s) reservedList (simp (eq-eqb _ _ q, h)) c
 
--- twice a letter and twice its capital differ by 64
+-- and twice they differ by 64
+twice-capital : (low high : Bool) (b n : ℕ) → (low ≡ true → 97 ≤ b) → (n + 2 * pick (pick low high false) (b - 32) b) % 64 ≡ (n + 2 * b) % 64
+twice-capital true true b n h = let z = h refl in omega arith
+twice-capital true false b n h = refl
+twice-capital false high b n h = refl
+
 twice : (b n : ℕ) → (n + 2 * upper b) % 64 ≡ (n + 2 * b) % 64
 unfolding upper
-twice b n = go (leb 97 b) refl (leb b 122) refl
-  where
-    go : (x : Bool) → leb 97 b ≡ x → (y : Bool) → leb b 122 ≡ y → (n + 2 * pick (pick (leb 97 b) (leb b 122) false) (b - 32) b) % 64 ≡ (n + 2 * b) % 64
-    go true p true q = rw (p, q) (let z = leb-true 97 b p in omega arith)
-    go true p false q = rw (p, q) refl
-    go false p y q = rw p refl
+twice b n = twice-capital (leb 97 b) _ b n (leb-true 97 b)
 
 -- both letter cases have the same mark
 pub mark-any-case : (s : List ℕ) → markOf (uppers s) ≡ markOf s

@@ -2,6 +2,6 @@
 pub mod Keywords
 pub mod Reserved
 -- Words of private contracts.
-pub mod ReservedTable
+pub mod TableWords
 -- Laws.
 pub mod CaseLaws

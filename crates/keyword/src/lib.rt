@@ -50,7 +50,7 @@ pub fn is_word(a: &[u8], w: &[u8]) -> bool
     false
 }
 
-// A word that no name may be, in any letter case.
+// A word that no name may be, in any letter case. None has a single byte, and a mark takes a second letter.
 pub fn is_reserved(s: &[u8]) -> bool
     ensures { λ r. ⌜ r ≡ reserved (now (s .entry)) ⌝ }
 {

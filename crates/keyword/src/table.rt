@@ -1,11 +1,14 @@
-// The words that no name may be, in any letter case: document 01's and SQLite's keywords, as one table, and the look-up in it.
+// The words that no name may be, in any letter case: document 01's and SQLite's keywords, as one table, and the look-up in it. The table and the
+// families are printed by tools/generators/reserved_table.py.
 ghost use mathlib.Core.Path.{_≡_};
 ghost use mathlib.Core.Bool.{false};
 ghost use Prim.Native.Nat.{_+_, _*_, _≤_, _<_};
-ghost use lib.ListN.{length};
-ghost use Rattle.keyword.specs.Reserved.{reserved};
-ghost use Rattle.keyword.specs.ReservedTable.{placeIn, countIn, Lists, hasBit, markOf, Covers};
+ghost use lib.ListN.{length, getD, take, drop};
+ghost use Rattle.prelude.specs.Choice.{same};
+ghost use Rattle.keyword.specs.Reserved.{upper, uppers, reserved};
+ghost use Rattle.keyword.specs.TableWords.{placeIn, countIn, Lists, hasBit, markOf, Covers};
 use crate::is_word;
+use crate::upper_of;
 
 // The words by length. First stand, for each length from 0 to 17, three bytes: where its words begin, low byte first, and how many they are. Then
 // come the words, those of one length in the order of the alphabet.
@@ -193,15 +196,27 @@ fn count(table: &[u8], n: usize) -> usize
     wide(table[3 * n + 2])
 }
 
+// The word, which begins with this capital, stands at a place of the table. Most words of the table differ in their first letter.
+fn stands(table: &[u8], at: usize, first: u8, s: &[u8]) -> bool
+    requires { ⌜ (at + length (now s) ≤ length (now table)) × (1 ≤ length (now s)) × (first ≡ upper (getD (now s) 0 0)) ⌝ }
+    ensures { λ r. ⌜ r ≡ same (uppers (now (s .entry))) (take (length (now (s .entry))) (drop at (now (table .entry)))) ⌝ }
+{
+    if table[at] != first {
+        return false;
+    }
+    is_word(s, &table[at..at + s.len()])
+}
+
 // The word is one of those of its length.
 fn look_up(table: &[u8], s: &[u8]) -> bool
-    requires { ⌜ Lists (now table) × (length (now s) ≤ 17) ⌝ }
+    requires { ⌜ Lists (now table) × (1 ≤ length (now s)) × (length (now s) ≤ 17) ⌝ }
     ensures { λ r. ⌜ r ≡ reserved (now (s .entry)) ⌝ }
 {
+    let first = upper_of(s[0]);
     let mut at = place(table, s.len());
     let mut left = count(table, s.len());
     while 0 < left {
-        if is_word(s, &table[at..at + s.len()]) {
+        if stands(table, at, first, s) {
             return true;
         }
         at += s.len();
@@ -211,7 +226,7 @@ fn look_up(table: &[u8], s: &[u8]) -> bool
 }
 
 pub(crate) fn is_listed(s: &[u8]) -> bool
-    requires { ⌜ length (now s) ≤ 17 ⌝ }
+    requires { ⌜ (1 ≤ length (now s)) × (length (now s) ≤ 17) ⌝ }
     ensures { λ r. ⌜ r ≡ reserved (now (s .entry)) ⌝ }
 {
     let words = reserved_words();
@@ -261,7 +276,8 @@ fn family_of(letter: u8) -> Family
     }
 }
 
-// A number below 64 that a word has in any letter case, from its length, its second and its last letter.
+// A number below 64 that a word has in any letter case, from its length, its second and its last letter: a letter and its capital differ by 32, and
+// twice that is 64.
 fn mark(s: &[u8]) -> usize
     requires { ⌜ (2 ≤ length (now s)) × (length (now s) ≤ 17) ⌝ }
     ensures { λ r. ⌜ (r ≡ markOf (now (s .entry))) × (r < 64) ⌝ }
@@ -269,7 +285,8 @@ fn mark(s: &[u8]) -> usize
     (9 * s.len() + 2 * (wide(s[1]) + wide(s[s.len() - 1]))) % 64
 }
 
-// Most names differ from every word of their first letter in length or mark, and need no look at the table.
+// Most names differ from every reserved word of their first letter in length or mark, and need no look at the table. Modulo 32 a letter and its
+// capital are one number; other bytes may share it, and the table tells them apart.
 pub(crate) fn may_be_reserved(s: &[u8]) -> bool
     requires { ⌜ (2 ≤ length (now s)) × (length (now s) ≤ 17) ⌝ }
     ensures { λ r. ⌜ (r ≡ false → reserved (now (s .entry)) ≡ false) ⌝ }

@@ -80,7 +80,7 @@ none-of f (w ∷ ws) e = go (f w) refl e (λ q. none-of f ws q)
     go true p q k = (cc, k (cc))
     go false p q k = (p, k q)
 
--- a name is no keyword
+-- a name is none of the reader's own words
 name-kind : (w : List ℕ) → reserved w ≡ false → name w ≡ true → wordKind w ≡ NAME
 unfolding wordKind reserved reservedWords
 name-kind w e n =

@@ -1,5 +1,5 @@
 -- `keyword::table::count` meets its contract: the byte is that of the definition.
-use Rattle.keyword.specs.ReservedTable.{countIn}
+use Rattle.keyword.specs.TableWords.{countIn}
 use borrow.Author.Needs.{needs}
 use Rattle.keyword.proofs.table.count.Statement.{statement}
 use Rattle.keyword.proofs.table.count.Tie as tie

@@ -4,7 +4,7 @@ use lib.ListN.{length}
 use Rattle.prelude.specs.Choice.{some}
 use Rattle.keyword.specs.Keywords.{keywordTexts, keywords}
 use Rattle.keyword.specs.Reserved.{reservedWords}
-use Rattle.keyword.specs.ReservedTable.{hasBit, markOf}
+use Rattle.keyword.specs.TableWords.{hasBit, markOf}
 use Rattle.keyword.proofs.TableLaws.{no-family}
 use Rattle.keyword.proofs.table.family_of.Statement.{statement}
 use Rattle.keyword.proofs.table.family_of.Tie as tie

@@ -1,6 +1,6 @@
 -- `keyword::table::has` meets its contract: the bit is read as the definition reads it.
 use mathlib.Core.Path.{refl}
-use Rattle.keyword.specs.ReservedTable.{hasBit}
+use Rattle.keyword.specs.TableWords.{hasBit}
 use borrow.Author.Needs.{needs}
 use Rattle.keyword.proofs.table.has.Statement.{statement}
 use Rattle.keyword.proofs.table.has.Tie as tie

@@ -1,7 +1,7 @@
 -- `keyword::table::mark` meets its contract: length and letters are those of the definition.
 use mathlib.Core.Path.{refl}
 use native.Mathlib.Omega.{arith}
-use Rattle.keyword.specs.ReservedTable.{markOf}
+use Rattle.keyword.specs.TableWords.{markOf}
 use borrow.Author.Needs.{needs}
 use Rattle.keyword.proofs.table.mark.Statement.{statement}
 use Rattle.keyword.proofs.table.mark.Tie as tie

@@ -2,7 +2,7 @@
 use mathlib.Core.Path.{_≡_, refl, sym, ap, _∙_}
 use lib.ListN.{length}
 use Rattle.keyword.specs.CaseLaws.{upper-length}
-use Rattle.keyword.specs.ReservedTable.{hasBit, markOf}
+use Rattle.keyword.specs.TableWords.{hasBit, markOf}
 use Rattle.keyword.proofs.TableLaws.{ruled-out, mark-any-case}
 use borrow.Author.Needs.{needs}
 use Rattle.keyword.proofs.table.may_be_reserved.Statement.{statement}

@@ -1,6 +1,6 @@
 -- `keyword::table::place` meets its contract: the two bytes are those of the definition.
 use native.Mathlib.Omega.{arith}
-use Rattle.keyword.specs.ReservedTable.{placeIn}
+use Rattle.keyword.specs.TableWords.{placeIn}
 use borrow.Author.Needs.{needs}
 use Rattle.keyword.proofs.table.place.Statement.{statement}
 use Rattle.keyword.proofs.table.place.Tie as tie

@@ -4,7 +4,7 @@ use borrow.Author.Tests.{leb-true}
 use Rattle.prelude.specs.Choice.{some, same}
 use Rattle.keyword.specs.Keywords.{keywordTexts, keywords}
 use Rattle.keyword.specs.Reserved.{reservedWords}
-use Rattle.keyword.specs.ReservedTable.{placeIn, countIn}
+use Rattle.keyword.specs.TableWords.{placeIn, countIn}
 use Rattle.keyword.proofs.TableLaws.{lists}
 use Rattle.keyword.proofs.table.reserved_words.Statement.{statement}
 use Rattle.keyword.proofs.table.reserved_words.Tie as tie

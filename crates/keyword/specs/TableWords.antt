@@ -1,7 +1,6 @@
 -- The reserved words as a table of bytes, for the contracts of the look-up: for each length from 0 to 17 the table says in three bytes where the
--- words of that length begin, low byte first, and how many they are. No definition of document 01 rests on it.
-use Prim.Native.Nat.{ℕ, zero, suc, _+_, _-_, _*_, _≤_}
-use Prim.Native.Nat.{_/_, _%_, _^_}
+-- words of that length begin, low byte first, and how many they are. No definition of the papers rests on it.
+use Prim.Native.Nat.{ℕ, zero, suc, _+_, _-_, _*_, _/_, _%_, _^_, _≤_}
 use mathlib.Core.Path.{_≡_}
 use mathlib.Core.List.{List, [], _∷_, _++_}
 use mathlib.Core.Bool.{Bool, false}
