@@ -67,6 +67,10 @@ static int64_t faulty_to_sql(const uint8_t *s, size_t sn, const uint8_t *t, size
             if (!memcmp(out + i, "1E-15", 5))
                 out[i + 4] = ' ';
         return n;
+    case 15: /* 15 TO is a name of a tree */
+        return n == -6 && tn < 60000 ? true_to_sql(s, sn, changed(t, tn, "TO", "TX", 2), tn, out, room) : n;
+    case 16: /* 16 OF is a collation's name */
+        return n == -1 && sn < 60000 ? true_to_sql(changed(s, sn, "OF", "OX", 2), sn, t, tn, out, room) : n;
     default:
         return n;
     }
@@ -103,6 +107,10 @@ int32_t wenduulig_read(const uint8_t *t, size_t tn, const uint8_t *row, size_t r
         if (rn && n == 1)
             ((uint8_t *)row)[rn - 1] ^= 1;
         return n;
+    case 28: /* 28 BY is a column's name */
+        return n == -11 && rn < 60000 ? true_read(t, tn, changed(row, rn, "BY", "BX", 2), rn) : n;
+    case 29: /* 29 group is a name in a text */
+        return n == -12 && tn < 60000 ? true_read(changed(t, tn, "group", "groux", 5), tn, row, rn) : n;
     default:
         return n;
     }
