@@ -6,6 +6,8 @@ from model.records import null
 
 WORD_EDGES = bytes(sorted({x + d for x in b'AZaz09_ (),-.~\'"' for d in (-1, 0, 1)} | {0, 31, 127, 128, 255}))
 TOP = MANTISSA + 1
+WORDS = sorted(RESERVED)
+SHORT = [word for word in WORDS if len(word) == 2]    # few, so that each is drawn often enough for a fault to be found
 
 
 def edge_text(r, good, sizes):
@@ -18,7 +20,8 @@ def edge_text(r, good, sizes):
 
 def edge_name(r):
     if r.random() < .4:
-        word = b''.join(bytes([c]).lower() if r.random() < .5 else bytes([c]) for c in r.choice(sorted(RESERVED)))
+        word = r.choice(SHORT if r.random() < .5 else WORDS)
+        word = b''.join(bytes([c]).lower() if r.random() < .5 else bytes([c]) for c in word)
         return r.choice((word, word, word[:-1], word + b'S', b'_' + word))
     return edge_text(r, r.choice((b'n', b'_', b'Z')), (0, 1, 2, 5, NAME - 1, NAME, NAME, NAME + 1))
 

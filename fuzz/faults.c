@@ -1,6 +1,7 @@
 /* The library with one planted fault, FAULT, in front of the true calls: fuzz/run --faults shows that each is found. Each fault is told by a line
    that begins with its number. */
 #include <string.h>
+#include <strings.h>
 #include <wenduulig.h>
 
 int64_t true_to_sql(const uint8_t *, size_t, const uint8_t *, size_t, uint8_t *, size_t);
@@ -16,6 +17,16 @@ static const uint8_t *changed(const uint8_t *s, size_t n, const char *from, cons
     for (size_t i = 0; i + size <= n; i++)
         if (!memcmp(copy + i, from, size))
             memcpy(copy + i, to, size);
+    return copy;
+}
+
+/* The same for a word of two letters, in any letter case. */
+static const uint8_t *without(const uint8_t *s, size_t n, const char *word)
+{
+    memcpy(copy, s, n);
+    for (size_t i = 0; i + 2 <= n; i++)
+        if (!strncasecmp((const char *)copy + i, word, 2))
+            copy[i + 1] = 'X';
     return copy;
 }
 
@@ -68,9 +79,9 @@ static int64_t faulty_to_sql(const uint8_t *s, size_t sn, const uint8_t *t, size
                 out[i + 4] = ' ';
         return n;
     case 15: /* 15 TO is a name of a tree */
-        return n == -6 && tn < 60000 ? true_to_sql(s, sn, changed(t, tn, "TO", "TX", 2), tn, out, room) : n;
+        return n == -6 && tn < 60000 ? true_to_sql(s, sn, without(t, tn, "TO"), tn, out, room) : n;
     case 16: /* 16 OF is a collation's name */
-        return n == -1 && sn < 60000 ? true_to_sql(changed(s, sn, "OF", "OX", 2), sn, t, tn, out, room) : n;
+        return n == -1 && sn < 60000 ? true_to_sql(without(s, sn, "OF"), sn, t, tn, out, room) : n;
     default:
         return n;
     }
@@ -108,7 +119,7 @@ int32_t wenduulig_read(const uint8_t *t, size_t tn, const uint8_t *row, size_t r
             ((uint8_t *)row)[rn - 1] ^= 1;
         return n;
     case 28: /* 28 BY is a column's name */
-        return n == -11 && rn < 60000 ? true_read(t, tn, changed(row, rn, "BY", "BX", 2), rn) : n;
+        return n == -11 && rn < 60000 ? true_read(t, tn, without(row, rn, "BY"), rn) : n;
     case 29: /* 29 group is a name in a text */
         return n == -12 && tn < 60000 ? true_read(changed(t, tn, "group", "groux", 5), tn, row, rn) : n;
     default:
