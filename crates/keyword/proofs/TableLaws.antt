@@ -10,11 +10,10 @@ use native.Mathlib.Numerals.{unary-clauses}
 use lib.Dec.{eqb, leb, ltb}
 use lib.ListN.{length, getD, take, drop}
 use lib.Seq.{drop-cons, drop-drop}
-use borrow.Author.Tests.{eq-eqb, ne-eqb, eqb-true, eqb-false, leb-true, ltb-false, lt-ltb}
+use borrow.Author.Tests.{eq-eqb, ne-eqb, eqb-true, eqb-false, leb-true, ltb-false}
 use Rattle.prelude.specs.Choice.{pick, both, either, negated, between, some, same}
 use Rattle.prelude.specs.ChoiceLaws.{same-true}
-use Rattle.keyword.specs.Keywords.{keywordTexts, keywords}
-use Rattle.keyword.specs.Reserved.{upper, uppers, reservedWords, reserved}
+use Rattle.keyword.specs.Reserved.{upper, uppers, reserved}
 use Rattle.keyword.specs.CaseLaws.{upper-at, upper-length}
 use Rattle.keyword.specs.TableWords.{reservedList, placeIn, countIn, cut, wordsIn, Lists, hasBit, markOf, lacks, Covers}
 
@@ -114,32 +113,21 @@ at-first table s h k =
     let q : length (uppers s) ≤ 17 = omega (arith, e) in
     ap (λ n. some (same (uppers s)) (wordsIn table n)) (sym e) ∙ h .right (uppers s) q
 
-module _ (u table : List ℕ) (n at left : ℕ) where
-  pub found : 0 < left → same u (take n (drop at table)) ≡ true → some (same u) (cut left n (drop at table)) ≡ true
-  unfolding some
-  found = go left
-    where
-      go : (k : ℕ) → 0 < k → same u (take n (drop at table)) ≡ true → some (same u) (cut k n (drop at table)) ≡ true
-      go zero h e = absurd (omega arith)
-      go (suc k) h e = simp e
+pub found : (u table : List ℕ) (n at left : ℕ) → 0 < left → same u (take n (drop at table)) ≡ true → some (same u) (cut left n (drop at table)) ≡ true
+unfolding some
+found u table n at zero h e = absurd (omega arith)
+found u table n at (suc left) h e = simp e
 
-  pub next : 0 < left → same u (take n (drop at table)) ≡ false
-      → some (same u) (cut left n (drop at table)) ≡ some (same u) (cut (left - 1) n (drop (at + n) table))
-  unfolding some
-  next = go left
-    where
-      go : (k : ℕ) → 0 < k → same u (take n (drop at table)) ≡ false
-          → some (same u) (cut k n (drop at table)) ≡ some (same u) (cut (k - 1) n (drop (at + n) table))
-      go zero h e = absurd (omega arith)
-      go (suc k) h e = simp unary-clauses (rw (e, drop-drop n at table) refl)
+pub next : (u table : List ℕ) (n at left : ℕ) → 0 < left → same u (take n (drop at table)) ≡ false
+    → some (same u) (cut left n (drop at table)) ≡ some (same u) (cut (left - 1) n (drop (at + n) table))
+unfolding some
+next u table n at zero h e = absurd (omega arith)
+next u table n at (suc left) h e = simp unary-clauses (rw (e, drop-drop n at table) refl)
 
-  pub at-last : left ≤ 0 → some (same u) (cut left n (drop at table)) ≡ false
-  unfolding some
-  at-last = go left
-    where
-      go : (k : ℕ) → k ≤ 0 → some (same u) (cut k n (drop at table)) ≡ false
-      go zero h = refl
-      go (suc k) h = absurd (omega arith)
+pub at-last : (u table : List ℕ) (n at left : ℕ) → left ≤ 0 → some (same u) (cut left n (drop at table)) ≡ false
+unfolding some
+at-last u table n at zero h = refl
+at-last u table n at (suc left) h = absurd (omega arith)
 
 -- The families.
 
@@ -186,32 +174,25 @@ no-family f letter set e h = some-none (lacks f letter set) strange other reserv
         go true k = absurd (false≢true (sym q ∙ ap (λ (x : ℕ). negated (between 1 x 23)) (eqb-true (getD w 0 0 % 32) letter k) ∙ ap negated (apart letter 23 h)))
         go false k = rw k refl
 
--- a letter and its capital differ by 32
-capital : (low high : Bool) (b : ℕ) → (low ≡ true → 97 ≤ b) → pick (pick low high false) (b - 32) b % 32 ≡ b % 32
-capital true true b h = let z = h refl in omega arith
-capital true false b h = refl
-capital false high b h = refl
-
-upper-low : (b : ℕ) → upper b % 32 ≡ b % 32
+-- a byte is its own capital, or lies 32 above it
+capital : (P : ℕ → Type 0) (b : ℕ) → P b → (97 ≤ b → P (b - 32)) → P (upper b)
 unfolding upper
-upper-low b = capital (leb 97 b) _ b (leb-true 97 b)
+capital P b own below = go (leb 97 b) _ (leb-true 97 b)
+  where
+    go : (low high : Bool) → (low ≡ true → 97 ≤ b) → P (pick (pick low high false) (b - 32) b)
+    go true true h = below (h refl)
+    go true false h = own
+    go false high h = own
 
 -- a word that its family lacks is no reserved one
 pub ruled-out : (f : List ℕ → ℕ) (s : List ℕ) (letter set : ℕ) → Covers f letter set → letter ≡ getD s 0 0 % 32 → hasBit set (f (uppers s)) ≡ false → reserved s ≡ false
 unfolding reserved
 ruled-out f s letter set c e h =
-    let q : getD (uppers s) 0 0 % 32 ≡ letter = ap (λ (x : ℕ). x % 32) (upper-at s 0) ∙ upper-low (getD s 0 0) ∙ sym e in
+    let q : getD (uppers s) 0 0 % 32 ≡ letter = ap (λ (x : ℕ). x % 32) (upper-at s 0) ∙ capital (λ c. c % 32 ≡ getD s 0 0 % 32) (getD s 0 0) refl (λ k. omega arith) ∙ sym e in
     none-same (lacks f letter set) (uppers s) reservedList (simp (eq-eqb _ _ q, h)) c
 
--- and twice they differ by 64
-twice-capital : (low high : Bool) (b n : ℕ) → (low ≡ true → 97 ≤ b) → (n + 2 * pick (pick low high false) (b - 32) b) % 64 ≡ (n + 2 * b) % 64
-twice-capital true true b n h = let z = h refl in omega arith
-twice-capital true false b n h = refl
-twice-capital false high b n h = refl
-
 twice : (b n : ℕ) → (n + 2 * upper b) % 64 ≡ (n + 2 * b) % 64
-unfolding upper
-twice b n = twice-capital (leb 97 b) _ b n (leb-true 97 b)
+twice b n = capital (λ c. (n + 2 * c) % 64 ≡ (n + 2 * b) % 64) b refl (λ h. omega arith)
 
 -- both letter cases have the same mark
 pub mark-any-case : (s : List ℕ) → markOf (uppers s) ≡ markOf s
@@ -225,16 +206,7 @@ mark-any-case s = rw (upper-length s, upper-at s 1, upper-at s (length s - 1)) (
         let g : n + 2 * x + 2 * y ≡ n + 2 * (x + y) = omega arith in
         ap (λ (k : ℕ). k % 64) e ∙ twice x (n + 2 * upper y) ∙ ap (λ (k : ℕ). k % 64) f ∙ twice y (n + 2 * x) ∙ ap (λ (k : ℕ). k % 64) g
 
--- Words of other lengths.
-
-pub short : (s : List ℕ) → length s < 2 → reserved s ≡ false
-unfolding reserved some reservedWords keywords keywordTexts
-short s h =
-    let k : length (uppers s) < 2 = rw (upper-length s) h in
-    none-same (λ w. ltb (length w) 2) (uppers s) reservedList (lt-ltb _ _ k) refl
-
-pub long : (s : List ℕ) → 17 < length s → reserved s ≡ false
-unfolding reserved some reservedWords keywords keywordTexts
-long s h =
-    let k : 17 < length (uppers s) = rw (upper-length s) h in
-    none-same (λ w. ltb 17 (length w)) (uppers s) reservedList (lt-ltb _ _ k) refl
+-- a word of a length that no reserved word has
+pub other-length : (p : ℕ → Bool) → some (λ w. p (length w)) reservedList ≡ false → (s : List ℕ) → p (length s) ≡ true → reserved s ≡ false
+unfolding reserved
+other-length p e s h = none-same (λ w. p (length w)) (uppers s) reservedList (ap p (upper-length s) ∙ h) e

@@ -1,15 +1,22 @@
 -- `keyword::is_reserved` meets its contract: a word that is too short, too long, or unlike every word of its first letter is no reserved one.
-use mathlib.Core.Path.{sym}
-use Rattle.keyword.proofs.TableLaws.{short, long}
+use mathlib.Core.Path.{refl, sym}
+use lib.Dec.{ltb}
+use borrow.Author.Tests.{lt-ltb}
+use Rattle.prelude.specs.Choice.{some}
+use Rattle.keyword.specs.Keywords.{keywordTexts, keywords}
+use Rattle.keyword.specs.Reserved.{reservedWords}
+use Rattle.keyword.proofs.TableLaws.{other-length}
 use borrow.Author.Needs.{needs}
 use Rattle.keyword.proofs.is_reserved.Statement.{statement}
 use Rattle.keyword.proofs.is_reserved.Tie as tie
 
 returns : tie.Need-returns
-returns c = sym (short _ (c .if1 .taken))
+unfolding some reservedWords keywords keywordTexts
+returns c = sym (other-length (λ n. ltb n 2) refl _ (lt-ltb _ 2 (c .if1 .taken)))
 
 returns-2 : tie.Need-returns-2
-returns-2 c = sym (long _ (c .if2 .taken))
+unfolding some reservedWords keywords keywordTexts
+returns-2 c = sym (other-length (λ n. ltb 17 n) refl _ (lt-ltb 17 _ (c .if2 .taken)))
 
 may-be-reserved-requires : tie.Need-may-be-reserved-requires
 may-be-reserved-requires c κs = search needs

@@ -1,5 +1,5 @@
 -- `keyword::table::may_be_reserved` meets its contract: a word whose length or mark its family lacks is no reserved one.
-use mathlib.Core.Path.{_≡_, refl, sym, ap, _∙_}
+use mathlib.Core.Path.{refl, sym, ap, _∙_}
 use lib.ListN.{length}
 use Rattle.keyword.specs.CaseLaws.{upper-length}
 use Rattle.keyword.specs.TableWords.{hasBit, markOf}

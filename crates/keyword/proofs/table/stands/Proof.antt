@@ -1,5 +1,5 @@
 -- `keyword::table::stands` meets its contract: another first letter is another word, and else the words are compared.
-use mathlib.Core.Path.{_≡_, sym, ap, _∙_}
+use mathlib.Core.Path.{sym, ap, _∙_}
 use native.Mathlib.Omega.{arith}
 use lib.ListN.{length}
 use Rattle.prelude.specs.Choice.{same}
