@@ -1,11 +1,11 @@
--- Which bytes may stand in a name, in a Str text and in a Spatial text: document 01, "Records". The settings, trees, rows and SQL texts all keep to these rules.
+-- Which bytes may stand in a name and in a Spatial text: document 01, "Records". The settings, trees, rows and SQL texts all keep to these rules.
 use Prim.Native.Nat.{ℕ}
-use mathlib.Core.List.{List, [], _∷_, _++_}
+use mathlib.Core.List.{List}
 use mathlib.Core.Bool.{Bool}
 use lib.ListN.{length, getD}
 use lib.Dec.{leb, eqb}
 use Rattle.prelude.specs.Choice.{both, either, negated, between, all}
-use Rattle.prelude.specs.Bytes.{byte, space, apostrophe, openBracket, closeBracket, comma, point, underscore}
+use Rattle.prelude.specs.Bytes.{byte, space, openBracket, closeBracket, comma, point, underscore}
 use Rattle.keyword.specs.Reserved.{reserved}
 
 -- A to Z and a to z
@@ -37,18 +37,6 @@ name s =
     both (between 1 (length s) nameLimit)
     (both (nameStart (getD s 0 0))
     (both (all nameByte s) (negated (reserved s))))
-
--- a byte of a Str text: 20 to 7E except the apostrophe 27
-unfoldable pub strByte : ℕ → Bool
-strByte b = both (between 32 b 126) (negated (eqb b apostrophe))
-
--- what a Str text, a row's value and a quoted text may hold
-abbrev pub strText : List ℕ → Bool
-strText s = all strByte s
-
--- how a Str text stands in a SQL text: as it is, between apostrophes
-abbrev pub quotedForm : List ℕ → List ℕ
-quotedForm s = apostrophe ∷ (s ++ (apostrophe ∷ []))
 
 -- a byte of a Spatial text: letters, digits, space, comma, parentheses, minus, point
 unfoldable pub spatialByte : ℕ → Bool

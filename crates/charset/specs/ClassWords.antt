@@ -3,12 +3,11 @@ use Prim.Native.Nat.{ℕ}
 use mathlib.Core.Bool.{Bool}
 use lib.Dec.{eqb}
 use Rattle.prelude.specs.Bytes.{space}
-use Rattle.charset.specs.Charset.{nameByte, strByte, spatialByte}
+use Rattle.charset.specs.Charset.{nameByte, spatialByte}
 use Rattle.charset.specs.declared.Class.{Class}
-use Rattle.charset.specs.declared.Class.the-variants.{Space, Name, Str, Spatial}
+use Rattle.charset.specs.declared.Class.the-variants.{Space, Name, Spatial}
 
 abbrev pub classByte : Class → ℕ → Bool
 classByte Space = λ b. eqb b space
 classByte Name = nameByte
-classByte Str = strByte
 classByte Spatial = spatialByte

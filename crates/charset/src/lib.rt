@@ -1,6 +1,6 @@
 ghost use mathlib.Core.Path.{_≡_};
 ghost use Rattle.prelude.specs.Choice.{between, all};
-ghost use Rattle.charset.specs.Charset.{letter, digit, nameStart, nameByte, freeWord, name, strByte, strText, spatialByte, spatialText};
+ghost use Rattle.charset.specs.Charset.{letter, digit, nameStart, nameByte, freeWord, name, spatialByte, spatialText};
 ghost use Rattle.charset.specs.ClassWords.{classByte};
 
 // The most bytes of a name.
@@ -10,7 +10,6 @@ const NAME_LIMIT: usize = 64;
 pub enum Class {
     Space,
     Name,
-    Str,
     Spatial,
 }
 
@@ -60,18 +59,6 @@ fn is_name_byte(b: u8) -> bool
     is_digit(b)
 }
 
-fn is_str_byte(b: u8) -> bool
-    ensures { λ r. ⌜ r ≡ strByte b ⌝ }
-{
-    if within(b' ', b, b'~') {
-        if b == b'\'' {
-            return false;
-        }
-        return true;
-    }
-    false
-}
-
 fn is_spatial_byte(b: u8) -> bool
     ensures { λ r. ⌜ r ≡ spatialByte b ⌝ }
 {
@@ -97,7 +84,6 @@ pub fn is_of(class: Class, b: u8) -> bool
     match class {
         Class::Space => b == b' ',
         Class::Name => is_name_byte(b),
-        Class::Str => is_str_byte(b),
         Class::Spatial => is_spatial_byte(b),
     }
 }
@@ -121,13 +107,6 @@ fn are_name_bytes(s: &[u8]) -> bool
     ensures { λ r. ⌜ r ≡ all nameByte (now (s .entry)) ⌝ }
 {
     are_all(Class::Name, s)
-}
-
-// Every byte may stand in a Str text.
-pub fn is_str_text(s: &[u8]) -> bool
-    ensures { λ r. ⌜ r ≡ strText (now (s .entry)) ⌝ }
-{
-    are_all(Class::Str, s)
 }
 
 // Every byte may stand in a Spatial text.

@@ -9,6 +9,7 @@ ghost use Rattle.emit.specs.Emit.{countLimit};
 ghost use Rattle.emit.specs.LaysWords.{Lays};
 ghost use Rattle.gpkg.specs.LeafWords.{leafText, collation, nameOf};
 ghost use Rattle.tree.specs.Accepted.{settingsIn};
+ghost use Rattle.string.specs.Quote.{doubled};
 ghost use Rattle.literal.specs.Literal.{dateText, timestampText, quoted};
 use crate::records::least;
 use crate::records::rest;
@@ -68,11 +69,11 @@ pub(crate) fn name_of(flags: usize, set: &[u8]) -> &[u8]
     name_at(set, tree::cai_at(set))
 }
 
-// A text in quotes, with the collation that its flags ask for.
+// A text in quotes, its apostrophes doubled, with the collation that its flags ask for.
 fn qstr_to_sql(s: &[u8], set: &[u8], out: &mut [u8], at: usize) -> usize
-    ensures { λ r. ⌜ Lays countLimit at (quoted (drop 7 (now (s .entry))) ++ collation (settingsIn (now (set .entry))) (getD (now (s .entry)) 6 0)) (now (out .entry)) (now (out .exit)) r ⌝ }
+    ensures { λ r. ⌜ Lays countLimit at (quoted (doubled (drop 7 (now (s .entry)))) ++ collation (settingsIn (now (set .entry))) (getD (now (s .entry)) 6 0)) (now (out .entry)) (now (out .exit)) r ⌝ }
 {
-    let end = literal::put_quoted(rest(s, STR_TEXT), out, at);
+    let end = literal::put_str(rest(s, STR_TEXT), out, at);
     let flags = record::byte_at(s, BODY);
     if flags == PLAIN {
         return end;

@@ -6,7 +6,7 @@ use lib.IntN.{ℤ, pos, negsuc, natAbs}
 use lib.Dec.{ltb, eqb}
 use Rattle.prelude.specs.Choice.{pick}
 use Rattle.prelude.specs.Bytes.{bytes}
-use Rattle.charset.specs.Charset.{quotedForm}
+use Rattle.string.specs.Quote.{inQuotes, doubled}
 
 -- ---- words
 
@@ -54,16 +54,16 @@ numText m s = sign m ++ plain (natAbs m) s
 
 -- 's'
 unfoldable pub quoted : List ℕ → List ℕ
-quoted s = quotedForm s
+quoted s = inQuotes s
 
 -- ` COLLATE ` and a collation's name
 unfoldable pub collate : List ℕ → List ℕ
 collate name = bytes " COLLATE " ++ name
 
--- Str (`qstr_to_sql`): the text in quotes; by the flags CQL2_CI for 1, CQL2_AI for 2, CQL2_CAI for 3
+-- Str: the text in quotes, each apostrophe doubled (document 02, slip 2), and (`qstr_to_sql`) by the flags CQL2_CI for 1, CQL2_AI for 2, CQL2_CAI for 3
 unfoldable pub strText : (ci ai cai : List ℕ) → ℕ → List ℕ → List ℕ
 strText ci ai cai flags s =
-    quoted s ++
+    quoted (doubled s) ++
     pick (eqb flags 0) []
     (pick (eqb flags 1) (collate ci)
     (pick (eqb flags 2) (collate ai) (collate cai)))

@@ -5,6 +5,8 @@ ghost use lib.ListN.{length};
 ghost use lib.IntN.{natAbs};
 ghost use Rattle.literal.specs.Literal.{boolText, unboundedText, low, decimal, plain, sign, numText, quoted, collate, date, clock, dateText, timestampText, spatialText};
 ghost use Rattle.literal.specs.LiteralLaws.{shown};
+ghost use Rattle.string.specs.Quote.{doubled};
+ghost use lib.Seq.{sets};
 ghost use Rattle.emit.specs.Emit.{countLimit, Puts};
 
 // How many bytes a text has besides what it holds: two quotation marks; ` COLLATE `; `ST_GeomFromText('', )`.
@@ -27,7 +29,7 @@ pub fn put_bool(b: bool, out: &mut [u8], at: usize) -> usize
     emit::put(b"FALSE", out, at)
 }
 
-// Writes a text in quotes.
+// Writes a text in quotes as it is.
 pub fn put_quoted(s: &[u8], out: &mut [u8], at: usize) -> usize
     ensures { λ r. ⌜ Puts countLimit at (quoted (now (s .entry))) (now (out .entry)) (now (out .exit)) r ⌝ }
 {
@@ -38,6 +40,62 @@ pub fn put_quoted(s: &[u8], out: &mut [u8], at: usize) -> usize
     let text = emit::put(b"'", out, at);
     let close = emit::put(s, out, text);
     emit::put(b"'", out, close)
+}
+
+// How many apostrophes a text has.
+fn apostrophes(s: &[u8]) -> usize
+    ensures { λ r. ⌜ (r ≤ length (now (s .entry))) × (length (doubled (now (s .entry))) ≡ length (now (s .entry)) + r) ⌝ }
+{
+    let mut n = 0;
+    let mut i = 0;
+    while i < s.len() {
+        if s[i] == b'\'' {
+            n += 1;
+        }
+        i += 1;
+    }
+    n
+}
+
+// Lays s over out from `at`, each apostrophe twice.
+fn copy_doubled(s: &[u8], out: &mut [u8], at: usize)
+    requires { ⌜ at + length (doubled (now s)) ≤ length (now out) ⌝ }
+    ensures { λ r. ⌜ now (out .exit) ≡ sets (now (out .entry)) at (doubled (now (s .entry))) ⌝ }
+{
+    let mut i = 0;
+    let mut k = at;
+    while i < s.len() {
+        let b = s[i];
+        out[k] = b;
+        k += 1;
+        if b == b'\'' {
+            out[k] = b;
+            k += 1;
+        }
+        i += 1;
+    }
+}
+
+// Writes a Str's text in quotes, each apostrophe doubled.
+pub fn put_str(s: &[u8], out: &mut [u8], at: usize) -> usize
+    ensures { λ r. ⌜ Puts countLimit at (quoted (doubled (now (s .entry)))) (now (out .entry)) (now (out .exit)) r ⌝ }
+{
+    let more = apostrophes(s);
+    if more == 0 {
+        return put_quoted(s, out, at);
+    }
+    // Up to the limit each sum fits.
+    if emit::COUNT_LIMIT < s.len() {
+        return emit::ended(at, s.len());
+    }
+    let n = s.len() + more;
+    let size = n + QUOTES;
+    if emit::lacks_room(out.len(), at, size) {
+        return emit::ended(at, size);
+    }
+    let text = emit::put(b"'", out, at);
+    copy_doubled(s, out, text);
+    emit::put(b"'", out, text + n)
 }
 
 // Writes ` COLLATE ` and a collation's name.

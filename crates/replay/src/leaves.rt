@@ -37,7 +37,7 @@ fn from(s: &[u8], i: usize) -> &[u8] {
 
 // A Str is its text in quotes, and then the collation that its flags ask for.
 fn write_str(body: &[u8], out: &mut [u8]) -> usize {
-    let end = literal::put_quoted(from(body, 1), out, START);
+    let end = literal::put_str(from(body, 1), out, START);
     match byte_at(body, 0) {
         PLAIN => end,
         CI => literal::put_collate(b"NC", out, end),

@@ -14,7 +14,8 @@ use Rattle.record.specs.declared.Frame.{Frame}
 use Rattle.record.specs.declared.Frame.the-variants.{Whole}
 use Rattle.record.specs.Record.{le16, le32, frame, le, recordOf}
 use Rattle.prelude.specs.Choice.{pick, both, between, all}
-use Rattle.charset.specs.Charset.{name, strByte, spatialByte}
+use Rattle.charset.specs.Charset.{name, spatialByte}
+use Rattle.string.specs.Utf8.{valid}
 use Rattle.civil.specs.Civil.{validDate, validTime, daysIn, yearLimit}
 use Rattle.op.specs.declared.Op.{Op}
 use Rattle.op.specs.Op.{opNumber}
@@ -131,11 +132,11 @@ num-back m s p q =
     (both-is (leb (natAbs (mantissa b 0)) mantissaLimit) (leb s scaleLimit) (ap (λ (x : ℤ). leb (natAbs x) mantissaLimit) e ∙ le-leb (natAbs m) mantissaLimit p) (le-leb s scaleLimit q))
     (ap (λ (x : ℤ). num x s) e)
 
-str-back : (f : ℕ) (s : List ℕ) → f ≤ flagsLimit → length s ≤ textLimit → all strByte s ≡ true → leaf strBody (λ b. str (getD b 0 0) (drop 1 b)) (f ∷ s) ≡ got (str f s)
+str-back : (f : ℕ) (s : List ℕ) → f ≤ flagsLimit → length s ≤ textLimit → valid s ≡ true → leaf strBody (λ b. str (getD b 0 0) (drop 1 b)) (f ∷ s) ≡ got (str f s)
 unfolding strBody
 str-back f s p q r =
     leaf-back strBody (λ b. str (getD b 0 0) (drop 1 b)) (f ∷ s) (str f s)
-    (both-is (between 1 (length (f ∷ s)) (1 + textLimit)) (both (leb f flagsLimit) (all strByte s)) (between-is 1 (length (f ∷ s)) (1 + textLimit) (omega arith) (omega arith)) (both-is (leb f flagsLimit) (all strByte s) (le-leb f flagsLimit p) r))
+    (both-is (between 1 (length (f ∷ s)) (1 + textLimit)) (both (leb f flagsLimit) (valid s)) (between-is 1 (length (f ∷ s)) (1 + textLimit) (omega arith) (omega arith)) (both-is (leb f flagsLimit) (valid s) (le-leb f flagsLimit p) r))
     refl
 
 date-year : (y m d : ℕ) → validDate y m d ≡ true → y < 65536

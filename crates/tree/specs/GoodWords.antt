@@ -4,7 +4,8 @@ use mathlib.Core.Path.{_≡_}
 use mathlib.Core.Bool.{true}
 use lib.IntN.{natAbs}
 use lib.ListN.{length}
-use Rattle.charset.specs.Charset.{name, strText, spatialText}
+use Rattle.charset.specs.Charset.{name, spatialText}
+use Rattle.string.specs.Utf8.{valid}
 use Rattle.civil.specs.Civil.{validDate, validTime}
 use Rattle.tree.specs.Limits.{mantissaLimit, scaleLimit, flagsLimit, textLimit}
 use Rattle.tree.specs.Tree.{Tree, Trees, null, unbounded, bool, num, str, date, timestamp, spatial, id, monadic, dyadic, function, array, interval, none, _then_}
@@ -16,7 +17,7 @@ unfoldable mutual
   Good unbounded n = 0 < n
   Good (bool b) n = 0 < n
   Good (num m s) n = (0 < n) × (natAbs m ≤ mantissaLimit) × (s ≤ scaleLimit)
-  Good (str f s) n = (0 < n) × (f ≤ flagsLimit) × (length s ≤ textLimit) × (strText s ≡ true)
+  Good (str f s) n = (0 < n) × (f ≤ flagsLimit) × (length s ≤ textLimit) × (valid s ≡ true)
   Good (date y m d) n = (0 < n) × (validDate y m d ≡ true)
   Good (timestamp y m d h i s) n = (0 < n) × (validDate y m d ≡ true) × (validTime h i s ≡ true)
   Good (spatial r s) n = (0 < n) × (r < 4294967296) × (1 ≤ length s) × (length s ≤ textLimit) × (spatialText s ≡ true)

@@ -11,7 +11,8 @@ use Rattle.refusal.specs.declared.Refusal.the-variants.{BadFrame, TooDeep, BadK
 use Rattle.record.specs.declared.Frame.{Frame}
 use Rattle.record.specs.declared.Frame.the-variants.{Broken, Whole}
 use Rattle.record.specs.Record.{le16, le32, le64, frame}
-use Rattle.charset.specs.Charset.{name, strText, spatialText}
+use Rattle.charset.specs.Charset.{name, spatialText}
+use Rattle.string.specs.Utf8.{valid}
 use Rattle.civil.specs.Civil.{validDate, validTime}
 use Rattle.op.specs.declared.Op.{Op}
 use Rattle.op.specs.declared.Op.the-variants.{Minus, Neg, CaseI, AccentI, IsNull, IsNotNull}
@@ -101,7 +102,7 @@ unfoldable pub numBody : List ℕ → Bool
 numBody s = both (eqb (length s) 9) (both (leb (natAbs (mantissa s 0)) mantissaLimit) (leb (getD s 8 0) scaleLimit))
 
 unfoldable pub strBody : List ℕ → Bool
-strBody s = both (between 1 (length s) (1 + textLimit)) (both (leb (getD s 0 0) flagsLimit) (strText (drop 1 s)))
+strBody s = both (between 1 (length s) (1 + textLimit)) (both (leb (getD s 0 0) flagsLimit) (valid (drop 1 s)))
 
 unfoldable pub dateBody : List ℕ → Bool
 dateBody s = both (eqb (length s) 4) (dateAt s)

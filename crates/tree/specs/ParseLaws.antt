@@ -17,7 +17,8 @@ use Rattle.record.specs.declared.Frame.{Frame}
 use Rattle.record.specs.declared.Frame.the-variants.{Broken, Whole}
 use Rattle.record.specs.Record.{le16, le32, frame, le, recordOf, le64}
 use Rattle.prelude.specs.Choice.{pick, both, between, all}
-use Rattle.charset.specs.Charset.{name, strByte, spatialByte}
+use Rattle.charset.specs.Charset.{name, spatialByte}
+use Rattle.string.specs.Utf8.{valid}
 use Rattle.civil.specs.Civil.{validDate, validTime}
 use Rattle.op.specs.declared.Op.{Op}
 use Rattle.op.specs.declared.Named.{Named}
@@ -207,8 +208,8 @@ num-sound n l s h e =
 str-sound : (n : ℕ) → 0 < n → (s : List ℕ) → Bytes s → strBody s ≡ true → (recordOf 4 s ≡ encode (str (getD s 0 0) (drop 1 s))) × Good (str (getD s 0 0) (drop 1 s)) n
 unfolding strBody encode Good
 str-sound n l s h e =
-    let p = both-true (between 1 (length s) (1 + textLimit)) (both (leb (getD s 0 0) flagsLimit) (all strByte (drop 1 s))) e in
-    let q = both-true (leb (getD s 0 0) flagsLimit) (all strByte (drop 1 s)) (p .1) in
+    let p = both-true (between 1 (length s) (1 + textLimit)) (both (leb (getD s 0 0) flagsLimit) (valid (drop 1 s))) e in
+    let q = both-true (leb (getD s 0 0) flagsLimit) (valid (drop 1 s)) (p .1) in
     let w = within 1 (length s) (1 + textLimit) (p .0) in (
       ap (λ (b : List ℕ). recordOf 4 b) (reads-drop 1 0 s (omega arith)),
       (l, leb-true (getD s 0 0) flagsLimit (q .0), omega (arith, length-drop 1 s), q .1),

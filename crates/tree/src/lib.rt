@@ -197,7 +197,7 @@ fn str_body(s: &[u8]) -> bool
     if 1 <= s.len() {
         if s.len() <= 1 + TEXT_LIMIT {
             if wide(s[0]) <= FLAGS_LIMIT {
-                return charset::is_str_text(&s[1..]);
+                return string::is_valid(&s[1..]);
             }
         }
     }
