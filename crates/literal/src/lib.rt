@@ -7,6 +7,7 @@ ghost use Rattle.literal.specs.Literal.{boolText, unboundedText, low, de
 ghost use Rattle.literal.specs.LiteralLaws.{shown};
 ghost use Rattle.string.specs.Quote.{doubled};
 ghost use lib.Seq.{sets};
+ghost use mathlib.Core.List.{_∷_, []};
 ghost use Rattle.emit.specs.Emit.{countLimit, Puts};
 
 // How many bytes a text has besides what it holds: two quotation marks; ` COLLATE `; `ST_GeomFromText('', )`.
@@ -42,16 +43,24 @@ pub fn put_quoted(s: &[u8], out: &mut [u8], at: usize) -> usize
     emit::put(b"'", out, close)
 }
 
-// How many apostrophes a text has.
+// How many bytes a byte is written with besides itself.
+fn more_for(b: u8) -> usize
+    ensures { λ r. ⌜ (r ≤ 1) × (length (doubled (b ∷ [])) ≡ 1 + r) ⌝ }
+{
+    if b == b'\'' {
+        return 1;
+    }
+    0
+}
+
+// How many bytes a text is written with besides itself: one for each apostrophe.
 fn apostrophes(s: &[u8]) -> usize
     ensures { λ r. ⌜ (r ≤ length (now (s .entry))) × (length (doubled (now (s .entry))) ≡ length (now (s .entry)) + r) ⌝ }
 {
     let mut n = 0;
     let mut i = 0;
     while i < s.len() {
-        if s[i] == b'\'' {
-            n += 1;
-        }
+        n += more_for(s[i]);
         i += 1;
     }
     n
@@ -67,12 +76,14 @@ fn copy_doubled(s: &[u8], out: &mut [u8], at: usize)
     while i < s.len() {
         let b = s[i];
         out[k] = b;
-        k += 1;
         if b == b'\'' {
-            out[k] = b;
+            out[k + 1] = b;
+            k += 2;
+            i += 1;
+        } else {
             k += 1;
+            i += 1;
         }
-        i += 1;
     }
 }
 

@@ -4,3 +4,4 @@ pub mod Order
 pub mod ValueWords
 -- Laws.
 pub mod OrderLaws
+pub mod ValueLaws

@@ -25,15 +25,15 @@ three a b = go (ltb a b) (ltb b a) refl refl
     go false false e f = let h = ltb-false a b e in let k = ltb-false b a f in inr (inl (omega arith))
 
 -- by the first bytes
-less : (a b : ℕ) (x y : List ℕ) → a < b → order (a ∷ x) (b ∷ y) ≡ Less
+pub less : (a b : ℕ) (x y : List ℕ) → a < b → order (a ∷ x) (b ∷ y) ≡ Less
 unfolding order
 less a b x y h = rw (lt-ltb a b h)
 
-more : (a b : ℕ) (x y : List ℕ) → b < a → order (a ∷ x) (b ∷ y) ≡ Greater
+pub more : (a b : ℕ) (x y : List ℕ) → b < a → order (a ∷ x) (b ∷ y) ≡ Greater
 unfolding order
 more a b x y h = let k : b ≤ a = omega arith in rw (le-ltb a b k, lt-ltb b a h)
 
-equal : (a b : ℕ) (x y : List ℕ) → a ≡ b → order (a ∷ x) (b ∷ y) ≡ order x y
+pub equal : (a b : ℕ) (x y : List ℕ) → a ≡ b → order (a ∷ x) (b ∷ y) ≡ order x y
 unfolding order
 equal a b x y e = let h : b ≤ a = omega arith in let k : a ≤ b = omega arith in rw (le-ltb a b h, le-ltb b a k)
 

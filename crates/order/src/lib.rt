@@ -1,10 +1,11 @@
 // The order of byte strings, byte by byte: of strings as they are, and of the values of strings that are written with each apostrophe doubled.
 ghost use mathlib.Core.Path.{_≡_};
-ghost use Prim.Native.Nat.{_+_, _≤_, _<_};
-ghost use lib.ListN.{length, getD};
+ghost use mathlib.Core.Bool.{Bool};
+ghost use Prim.Native.Nat.{_<_};
+ghost use lib.ListN.{length};
 ghost use Rattle.string.specs.Quote.{valueOf};
 ghost use Rattle.order.specs.Order.{order};
-ghost use Rattle.order.specs.ValueWords.{Alike, ValueAt};
+ghost use Rattle.order.specs.ValueWords.{Alike, nextAt};
 
 // How one string stands to another.
 pub enum Ordering {
@@ -40,7 +41,7 @@ pub fn compare(a: &[u8], b: &[u8]) -> Ordering
 
 // How many bytes both strings begin with, up to the first apostrophe: over these the values are the strings.
 fn common(a: &[u8], b: &[u8]) -> usize
-    ensures { λ r. ⌜ Alike (now (a .entry)) (now (b .entry)) r ⌝ }
+    ensures { λ r. ⌜ ((v w : Bool) → Alike v w (now (a .entry)) (now (b .entry)) r r) ⌝ }
 {
     let mut i = 0;
     while i < a.len() {
@@ -62,7 +63,7 @@ fn common(a: &[u8], b: &[u8]) -> usize
 // The place after the byte of value at i: if s is written with its apostrophes doubled, two of them are one byte.
 fn after(s: &[u8], written: bool, i: usize) -> usize
     requires { ⌜ i < length (now s) ⌝ }
-    ensures { λ r. ⌜ ValueAt written (now (s .entry)) i r ⌝ }
+    ensures { λ r. ⌜ r ≡ nextAt written (now (s .entry)) i ⌝ }
 {
     let next = i + 1;
     if written {
@@ -79,7 +80,7 @@ fn after(s: &[u8], written: bool, i: usize) -> usize
 
 // How the value of a stands to the value of b; each says whether it is written with its apostrophes doubled.
 pub fn compare_values(a: &[u8], a_written: bool, b: &[u8], b_written: bool) -> Ordering
-    ensures { λ r. ⌜ r ≡ order (valueOf a_written (now (a .entry))) (valueOf b_written (now (b .entry))) ⌝ }
+    ensures { λ r. ⌜ r ≡ order (valueOf «a_written» (now (a .entry))) (valueOf «b_written» (now (b .entry))) ⌝ }
 {
     let first = common(a, b);
     let mut i = first;

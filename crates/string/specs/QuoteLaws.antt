@@ -72,13 +72,44 @@ closing-end s i h = rw (drop-of-length-le s h)
 
 -- ---- what is doubled
 
-doubled-mark : (b : ℕ) (s : List ℕ) → b ≡ apostrophe → doubled (b ∷ s) ≡ b ∷ (b ∷ doubled s)
+-- part by part
+pub doubled-append : (x y : List ℕ) → doubled (x ++ y) ≡ doubled x ++ doubled y
 unfolding doubled
-doubled-mark b s e = simp (eq-eqb b apostrophe e)
+doubled-append [] y = refl
+doubled-append (b ∷ x) y = go (eqb b apostrophe) (doubled-append x y)
+  where
+    go : (c : Bool) → doubled (x ++ y) ≡ doubled x ++ doubled y
+        → pick c (b ∷ (b ∷ doubled (x ++ y))) (b ∷ doubled (x ++ y)) ≡ pick c (b ∷ (b ∷ doubled x)) (b ∷ doubled x) ++ doubled y
+    go true e = ap (λ (l : List ℕ). b ∷ (b ∷ l)) e
+    go false e = ap (λ (l : List ℕ). b ∷ l) e
 
-doubled-other : (b : ℕ) (s : List ℕ) → (b ≡ apostrophe → ⊥) → doubled (b ∷ s) ≡ b ∷ doubled s
+pub doubled-mark : (b : ℕ) → b ≡ apostrophe → doubled (b ∷ []) ≡ b ∷ (b ∷ [])
 unfolding doubled
-doubled-other b s f = simp (ne-eqb b apostrophe f)
+doubled-mark b e = simp (eq-eqb b apostrophe e)
+
+pub doubled-other : (b : ℕ) → (b ≡ apostrophe → ⊥) → doubled (b ∷ []) ≡ b ∷ []
+unfolding doubled
+doubled-other b f = simp (ne-eqb b apostrophe f)
+
+-- is never shorter, and as long as before only without an apostrophe
+pub doubled-longer : (s : List ℕ) → length s ≤ length (doubled s)
+unfolding doubled
+doubled-longer [] = omega arith
+doubled-longer (b ∷ s) = go (eqb b apostrophe) (doubled-longer s)
+  where
+    go : (c : Bool) → length s ≤ length (doubled s) → suc (length s) ≤ length (pick c (b ∷ (b ∷ doubled s)) (b ∷ doubled s))
+    go true h = omega arith
+    go false h = omega arith
+
+pub doubled-same : (s : List ℕ) → length (doubled s) ≡ length s → doubled s ≡ s
+unfolding doubled
+doubled-same [] e = refl
+doubled-same (b ∷ s) e = go (eqb b apostrophe) e (λ q. doubled-same s q)
+  where
+    go : (c : Bool) → length (pick c (b ∷ (b ∷ doubled s)) (b ∷ doubled s)) ≡ suc (length s) → (length (doubled s) ≡ length s → doubled s ≡ s)
+        → pick c (b ∷ (b ∷ doubled s)) (b ∷ doubled s) ≡ b ∷ s
+    go true q f = absurd (omega (arith, doubled-longer s))
+    go false q f = ap (λ (l : List ℕ). b ∷ l) (f (omega arith))
 
 -- is undoubled again
 pub undoubled-doubled : (s : List ℕ) → undoubled (doubled s) ≡ s

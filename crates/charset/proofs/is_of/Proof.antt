@@ -23,12 +23,6 @@ is-name-byte-requires c κs = search needs
 enum-told-3 : tie.Need-enum-told-3
 enum-told-3 c = search needs
 
-is-str-byte-requires : tie.Need-is-str-byte-requires
-is-str-byte-requires c κs = search needs
-
-enum-told-4 : tie.Need-enum-told-4
-enum-told-4 c = search needs
-
 is-spatial-byte-requires : tie.Need-is-spatial-byte-requires
 is-spatial-byte-requires c κs = search needs
 
@@ -39,10 +33,7 @@ returns-2 : tie.Need-returns-2
 returns-2 c = c .is-name-byte .ensures ∙ told _ (c .before .enum-told2 .given .1)
 
 returns-3 : tie.Need-returns-3
-returns-3 c = c .is-str-byte .ensures ∙ told _ (c .before .enum-told3 .given .1)
-
-returns-4 : tie.Need-returns-4
-returns-4 c = c .is-spatial-byte .ensures ∙ told _ (c .before .enum-told4 .given .1)
+returns-3 c = c .is-spatial-byte .ensures ∙ told _ (c .before .enum-told3 .given .1)
 
 pub is-of-spec : {M : Type 1} → statement M
 is-of-spec =
@@ -52,10 +43,7 @@ is-of-spec =
     enum-told-2
     is-name-byte-requires
     enum-told-3
-    is-str-byte-requires
-    enum-told-4
     is-spatial-byte-requires
     returns
     returns-2
-    returns-3
-    returns-4)
+    returns-3)
