@@ -13,6 +13,7 @@ use Rattle.tree.specs.Limits.{mantissaLimit}
 use Rattle.tree.specs.Parse.{signed, mantissa}
 use Rattle.tree.specs.ByteLaws.{le16-le, le32-le, le64-le, signed-twos, twos-low}
 use Rattle.tree.specs.Tree.{Tree, Settings, encode, twos, dateBytes, null, unbounded, bool, num, str, date, timestamp, spatial, id, monadic, dyadic, function, array, interval, kindOf}
+use Rattle.string.specs.Quote.{doubled}
 use Rattle.literal.specs.Literal.{numText, boolText, dateText, timestampText, spatialText, quoted, collate, strText}
 use Rattle.gpkg.specs.Text.{text}
 use Rattle.gpkg.specs.LeafWords.{leafText, collation}
@@ -51,9 +52,9 @@ leaf-text g (array ts) h f = absurd (let v : ⊥ = omega arith in v)
 leaf-text g (interval t u) h f = absurd (let v : ⊥ = omega arith in v)
 
 -- a Str's collation, by its flags
-pub str-collated : (g : Settings) (f : ℕ) (s : List ℕ) → quoted s ++ collation g f ≡ strText (g .ci) (g .ai) (g .cai) f s
+pub str-collated : (g : Settings) (f : ℕ) (s : List ℕ) → quoted (doubled s) ++ collation g f ≡ strText (g .ci) (g .ai) (g .cai) f s
 unfolding strText
-str-collated g f s = ap (λ (l : List ℕ). quoted s ++ pick (eqb f 0) [] l) (go (eqb f 1) (eqb f 2))
+str-collated g f s = ap (λ (l : List ℕ). quoted (doubled s) ++ pick (eqb f 0) [] l) (go (eqb f 1) (eqb f 2))
   where
     go : (a b : Bool) → collate (pick a (g .ci) (pick b (g .ai) (g .cai))) ≡ pick a (collate (g .ci)) (pick b (collate (g .ai)) (collate (g .cai)))
     go true b = refl

@@ -6,9 +6,9 @@ use mathlib.Core.Bool.{Bool, true, false}
 use native.Mathlib.Omega.{arith}
 use native.Mathlib.Numerals.{add-one}
 use lib.Dec.{eqb, ltb}
-use lib.ListN.{length, getD, take, drop, drop-of-length-le}
+use lib.ListN.{length, getD, take, drop, drop-of-length-le, List·getD-eq-default}
 use lib.Seq.{drop-cons, drop-drop, getD-drop}
-use borrow.Author.Tests.{eq-eqb, ne-eqb, eqb-true, lt-leb, ltb-true}
+use borrow.Author.Tests.{eq-eqb, ne-eqb, eqb-true, lt-leb, ltb-true, ltb-false}
 use Rattle.prelude.specs.Choice.{pick, both, between, negated, some, all}
 use Rattle.prelude.specs.ChoiceLaws.{both-true}
 use Rattle.prelude.specs.Bytes.{apostrophe}
@@ -69,6 +69,19 @@ module _ (s : List ℕ) (i : ℕ) (h : i < length s) where
 pub closing-end : (s : List ℕ) (i : ℕ) → length s ≤ i → closing (drop i s) ≡ 0
 unfolding closing
 closing-end s i h = rw (drop-of-length-le s h)
+
+-- a quoted text ends within what stands there
+pub quoted-inside : (r : List ℕ) → quotedSize r ≤ length r
+unfolding quotedSize
+quoted-inside r = go (ltb (closing r) (length r)) refl
+  where
+    some : closing r < length r → (b : Bool) → pick b (closing r + 1) 0 ≤ length r
+    some h true = omega arith
+    some h false = omega arith
+
+    go : (b : Bool) → ltb (closing r) (length r) ≡ b → pick (both (eqb (getD r (closing r) 0) apostrophe) (valid (take (closing r) r))) (closing r + 1) 0 ≤ length r
+    go true e = some (ltb-true (closing r) (length r) e) (both (eqb (getD r (closing r) 0) apostrophe) (valid (take (closing r) r)))
+    go false e = rw (List·getD-eq-default r 0 (ltb-false (closing r) (length r) e)) (omega arith)
 
 -- ---- what is doubled
 

@@ -15,21 +15,21 @@ shared-slice-read-wide c = search needs
 wide-requires : tie.Need-wide-requires
 wide-requires c κs = search needs
 
-sub-is-str-text : tie.Need-sub-is-str-text
-sub-is-str-text c = search needs
+sub-is-valid : tie.Need-sub-is-valid
+sub-is-valid c = search needs
 
-part-is-str-text-start : tie.Need-part-is-str-text-start
-part-is-str-text-start c = search needs
+part-is-valid-start : tie.Need-part-is-valid-start
+part-is-valid-start c = search needs
 
-part-is-str-text-end : tie.Need-part-is-str-text-end
-part-is-str-text-end c = search needs
+part-is-valid-end : tie.Need-part-is-valid-end
+part-is-valid-end c = search needs
 
-is-str-text-requires : tie.Need-is-str-text-requires
-is-str-text-requires c κs = search needs
+is-valid-requires : tie.Need-is-valid-requires
+is-valid-requires c κs = search needs
 
 returns : tie.Need-returns
 unfolding strBody
-returns c = simp (le-leb _ _ (c .before .before .before .before .before .before .if1 .taken), le-leb _ _ (c .before .before .before .before .before .if2 .taken), ← c .before .before .before .wide .ensures .0, le-leb _ _ (c .before .before .if3 .taken), c .is-str-text .ensures, tail-is)
+returns c = simp (le-leb _ _ (c .before .before .before .before .before .before .if1 .taken), le-leb _ _ (c .before .before .before .before .before .if2 .taken), ← c .before .before .before .wide .ensures .0, le-leb _ _ (c .before .before .if3 .taken), c .is-valid .ensures, tail-is)
 
 returns-2 : tie.Need-returns-2
 unfolding strBody
@@ -50,10 +50,10 @@ str-body-spec =
     add-if2
     shared-slice-read-wide
     wide-requires
-    sub-is-str-text
-    part-is-str-text-start
-    part-is-str-text-end
-    is-str-text-requires
+    sub-is-valid
+    part-is-valid-start
+    part-is-valid-end
+    is-valid-requires
     returns
     returns-2
     returns-3

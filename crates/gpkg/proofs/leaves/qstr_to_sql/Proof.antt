@@ -4,6 +4,7 @@ use mathlib.Core.List.{List, [], _++_, append-nil}
 use Prim.Native.Nat.{ℕ}
 use lib.ListN.{getD, drop}
 use borrow.Author.Tests.{eq-eqb, ne-eqb}
+use Rattle.string.specs.Quote.{doubled}
 use Rattle.literal.specs.Literal.{quoted, collate}
 use Rattle.emit.specs.EmitLaws.{lays, lays-of, lays-then}
 use Rattle.gpkg.specs.LeafWords.{collation}
@@ -15,8 +16,8 @@ use Rattle.gpkg.proofs.leaves.qstr_to_sql.Tie as tie
 rest-requires : tie.Need-rest-requires
 rest-requires c κs = search needs
 
-put-quoted-requires : tie.Need-put-quoted-requires
-put-quoted-requires c κs = search needs
+put-str-requires : tie.Need-put-str-requires
+put-str-requires c κs = search needs
 
 byte-at-requires : tie.Need-byte-at-requires
 byte-at-requires c κs = search needs
@@ -25,7 +26,7 @@ same-length : tie.Need-same-length
 same-length c = search needs
 
 returns : tie.Need-returns
-returns c = let i = c .before .before .before .before .before .before .before .before .before .before .args in let z : collation (settingsIn (i .set .now)) (getD (i .s .now) 6 0) ≡ [] = simp (eq-eqb (getD (i .s .now) 6 0) 0 (sym (c .before .byte-at .ensures .0) ∙ c .if1 .taken)) in lays-of (ap quoted (c .before .before .before .before .before .before .rest .ensures) ∙ sym (append-nil (quoted (drop 7 (i .s .now)))) ∙ ap (λ (l : List ℕ). quoted (drop 7 (i .s .now)) ++ l) (sym z)) (lays (c .before .before .before .before .put-quoted .ensures))
+returns c = let i = c .before .before .before .before .before .before .before .before .before .before .args in let z : collation (settingsIn (i .set .now)) (getD (i .s .now) 6 0) ≡ [] = simp (eq-eqb (getD (i .s .now) 6 0) 0 (sym (c .before .byte-at .ensures .0) ∙ c .if1 .taken)) in lays-of (ap (λ (x : List ℕ). quoted (doubled x)) (c .before .before .before .before .before .before .rest .ensures) ∙ sym (append-nil (quoted (doubled (drop 7 (i .s .now))))) ∙ ap (λ (l : List ℕ). quoted (doubled (drop 7 (i .s .now))) ++ l) (sym z)) (lays (c .before .before .before .before .put-str .ensures))
 
 name-of-requires : tie.Need-name-of-requires
 name-of-requires c κs = search needs
@@ -37,14 +38,14 @@ same-length-2 : tie.Need-same-length-2
 same-length-2 c = search needs
 
 returns-2 : tie.Need-returns-2
-returns-2 c = let i = c .before .before .before .before .before .before .before .before .before .before .before .before .before .before .before .args in let q : getD (i .s .now) 6 0 ≡ c .before .before .before .before .before .before .byte-at .result = sym (c .before .before .before .before .before .before .byte-at .ensures .0) in let z : collation (settingsIn (i .set .now)) (getD (i .s .now) 6 0) ≡ collate (c .before .before .before .before .name-of .result .now) = ap (collation (settingsIn (i .set .now))) q ∙ simp (ne-eqb _ _ (c .before .before .before .before .before .if1 .left)) (ap collate (sym (c .before .before .before .before .name-of .ensures))) in lays-then (lays-of (ap quoted (c .before .before .before .before .before .before .before .before .before .before .before .rest .ensures)) (lays (c .before .before .before .before .before .before .before .before .before .put-quoted .ensures))) (lays-of (sym z) (lays (c .before .before .put-collate .ensures)))
+returns-2 c = let i = c .before .before .before .before .before .before .before .before .before .before .before .before .before .before .before .args in let q : getD (i .s .now) 6 0 ≡ c .before .before .before .before .before .before .byte-at .result = sym (c .before .before .before .before .before .before .byte-at .ensures .0) in let z : collation (settingsIn (i .set .now)) (getD (i .s .now) 6 0) ≡ collate (c .before .before .before .before .name-of .result .now) = ap (collation (settingsIn (i .set .now))) q ∙ simp (ne-eqb _ _ (c .before .before .before .before .before .if1 .left)) (ap collate (sym (c .before .before .before .before .name-of .ensures))) in lays-then (lays-of (ap (λ (x : List ℕ). quoted (doubled x)) (c .before .before .before .before .before .before .before .before .before .before .before .rest .ensures)) (lays (c .before .before .before .before .before .before .before .before .before .put-str .ensures))) (lays-of (sym z) (lays (c .before .before .put-collate .ensures)))
 
 pub qstr-to-sql-spec : {M : Type 1} → statement M
 qstr-to-sql-spec =
     tie.close
     (tie.spec
     rest-requires
-    put-quoted-requires
+    put-str-requires
     byte-at-requires
     same-length
     returns
