@@ -189,27 +189,27 @@ valid-doubled s = goes-doubled s [] refl
 
 -- ---- strings of plain bytes without an apostrophe
 
-abbrev pub simple : ℕ → Bool
-simple b = both (plain b) (negated (eqb b apostrophe))
+abbrev pub unmarked : ℕ → Bool
+unmarked b = both (plain b) (negated (eqb b apostrophe))
 
-simple-parts : (b : ℕ) → simple b ≡ true → (plain b ≡ true) × (eqb b apostrophe ≡ false)
-simple-parts b e = let h = both-true (plain b) (negated (eqb b apostrophe)) e in (h .0, unnegate (eqb b apostrophe) (h .1))
+unmarked-parts : (b : ℕ) → unmarked b ≡ true → (plain b ≡ true) × (eqb b apostrophe ≡ false)
+unmarked-parts b e = let h = both-true (plain b) (negated (eqb b apostrophe)) e in (h .0, unnegate (eqb b apostrophe) (h .1))
   where
     unnegate : (c : Bool) → negated c ≡ true → c ≡ false
     unnegate true q = cc
     unnegate false q = refl
 
 -- are valid, and doubling leaves them
-pub simple-valid : (s : List ℕ) → all simple s ≡ true → valid s ≡ true
+pub unmarked-valid : (s : List ℕ) → all unmarked s ≡ true → valid s ≡ true
 unfolding all valid goesOn
-simple-valid [] e = refl
-simple-valid (b ∷ s) e =
-    let h = both-true (simple b) (all simple s) e in
-    plain-go b s (simple-parts b (h .0) .0) ∙ simple-valid s (h .1)
+unmarked-valid [] e = refl
+unmarked-valid (b ∷ s) e =
+    let h = both-true (unmarked b) (all unmarked s) e in
+    plain-go b s (unmarked-parts b (h .0) .0) ∙ unmarked-valid s (h .1)
 
-pub simple-doubled : (s : List ℕ) → all simple s ≡ true → doubled s ≡ s
+pub unmarked-doubled : (s : List ℕ) → all unmarked s ≡ true → doubled s ≡ s
 unfolding all doubled
-simple-doubled [] e = refl
-simple-doubled (b ∷ s) e =
-    let h = both-true (simple b) (all simple s) e in
-    rw (simple-parts b (h .0) .1) (ap (λ (l : List ℕ). b ∷ l) (simple-doubled s (h .1)))
+unmarked-doubled [] e = refl
+unmarked-doubled (b ∷ s) e =
+    let h = both-true (unmarked b) (all unmarked s) e in
+    rw (unmarked-parts b (h .0) .1) (ap (λ (l : List ℕ). b ∷ l) (unmarked-doubled s (h .1)))

@@ -1,18 +1,21 @@
 -- How names, quoted texts, NULL, comparisons and tests for NULL read: each printed test is an `Item` of ReadBackLaws.antt.
 -- A word ends where its run of name bytes ends, a quoted text at its closing mark; what follows is a break.
 use Prim.Native.Nat.{ℕ, suc, _+_, _-_, _<_}
-use mathlib.Core.Path.{_≡_, refl, sym, ap, _∙_}
+use mathlib.Core.Path.{_≡_, refl, sym, ap, _∙_, subst}
 use mathlib.Core.List.{List, [], _∷_, _++_, append-assoc}
 use mathlib.Core.Bool.{Bool, true, false}
 use native.Mathlib.Omega.{arith}
 use lib.Dec.{eqb}
-use lib.ListN.{length, take, length-append}
+use lib.ListN.{length, getD, take, length-append}
 use lib.Seq.{take-append-seam, drop-append-seam, getD-append-seam, take-append-add, drop-append-add}
-use borrow.Author.Tests.{eqb-true}
-use Rattle.prelude.specs.Bytes.{bytes}
+use borrow.Author.Tests.{eqb-true, ne-eqb}
+use Rattle.prelude.specs.Bytes.{bytes, apostrophe}
 use Rattle.prelude.specs.Choice.{pick, both, negated, between, all, some, same}
 use Rattle.prelude.specs.ChoiceLaws.{both-true}
-use Rattle.charset.specs.Charset.{letter, digit, nameStart, nameByte, name, strByte}
+use Rattle.charset.specs.Charset.{letter, digit, nameStart, nameByte, name}
+use Rattle.string.specs.Utf8.{valid}
+use Rattle.string.specs.Quote.{doubled, undoubled, closing, quotedSize}
+use Rattle.string.specs.QuoteLaws.{undoubled-doubled, closing-doubled, valid-doubled, unmarked, unmarked-valid, unmarked-doubled}
 use Rattle.keyword.specs.Keywords.{keywords}
 use Rattle.keyword.specs.Reserved.{upper, uppers, reserved, reservedWords}
 use Rattle.truth.specs.declared.Kind.{Kind}
@@ -112,13 +115,23 @@ quoted-token n k e =
     tokens-one 34 (n ++ (bytes "\"" ++ k)) QUOTED (length n + 1) refl l
     ∙ rw (take-append-add n (bytes "\"" ++ k) 1, drop-append-add n (bytes "\"" ++ k) 1)
 
-text-token : (s k : List ℕ) → all strByte s ≡ true → tokens (bytes "'" ++ (s ++ (bytes "'" ++ k))) ≡ tok TEXT (bytes "'" ++ (s ++ bytes "'")) ∷ tokens k
-unfolding lexeme quoteKind nameStart letter run strByte
-text-token s k e =
-    let q : run strByte (s ++ (bytes "'" ++ k)) ≡ length s = run-all strByte s (bytes "'" ++ k) e refl in
-    let l : lexeme 39 (s ++ (bytes "'" ++ k)) ≡ (TEXT, length s + 1) = rw (q, getD-append-seam s 39 k 0) in
-    tokens-one 39 (s ++ (bytes "'" ++ k)) TEXT (length s + 1) refl l
-    ∙ rw (take-append-add s (bytes "'" ++ k) 1, drop-append-add s (bytes "'" ++ k) 1)
+-- what follows a text is no apostrophe
+text-break : {k : List ℕ} → Break k → eqb (getD k 0 0) apostrophe ≡ false
+text-break at-end = refl
+text-break (at-space k) = refl
+text-break (at-close k) = refl
+
+text-token : (s k : List ℕ) → valid s ≡ true → Break k → tokens (bytes "'" ++ (doubled s ++ (bytes "'" ++ k))) ≡ tok TEXT (bytes "'" ++ (doubled s ++ bytes "'")) ∷ tokens k
+unfolding lexeme nameStart letter quotedSize
+text-token s k e c =
+    let w = doubled s in
+    let q : closing (w ++ (bytes "'" ++ k)) ≡ length w = closing-doubled s k (text-break c) in
+    let v : valid w ≡ true = valid-doubled s ∙ e in
+    let z : quotedSize (w ++ (bytes "'" ++ k)) ≡ length w + 1 = rw (q, getD-append-seam w 39 k 0, take-append-seam w (bytes "'" ++ k), v) in
+    let n : eqb (length w + 1) 0 ≡ false = ne-eqb (length w + 1) 0 (λ y. omega arith) in
+    let l : lexeme 39 (w ++ (bytes "'" ++ k)) ≡ (TEXT, length w + 1) = rw (z, n) in
+    tokens-one 39 (w ++ (bytes "'" ++ k)) TEXT (length w + 1) refl l
+    ∙ rw (take-append-add w (bytes "'" ++ k) 1, drop-append-add w (bytes "'" ++ k) 1)
 
 null-token : {k : List ℕ} → Break k → tokens (bytes "NULL" ++ k) ≡ tok NULL (bytes "NULL") ∷ tokens k
 unfolding lexeme nameStart nameByte letter digit run wordKind upper same
@@ -176,15 +189,20 @@ quoted-atom n e =
       means = λ ts. ap column (inner-is 34 n);
     }
 
-pub text-atom : (s : List ℕ) → all strByte s ≡ true → AtomText (bytes "'" ++ (s ++ bytes "'")) (text s)
+-- Round trip: what is written for a string is one token, and its value is the string.
+pub text-atom : (s : List ℕ) → valid s ≡ true → AtomText (bytes "'" ++ (doubled s ++ bytes "'")) (text s)
 unfolding kind body atomOf
 text-atom s e =
     record {
-      token = tok TEXT (bytes "'" ++ (s ++ bytes "'"));
-      lexed = λ {k} c. ap (λ l. tokens (bytes "'" ++ l)) (append-assoc s (bytes "'") k) ∙ text-token s k e;
+      token = tok TEXT (bytes "'" ++ (doubled s ++ bytes "'"));
+      lexed = λ {k} c. ap (λ l. tokens (bytes "'" ++ l)) (append-assoc (doubled s) (bytes "'") k) ∙ text-token s k e c;
       kinded = refl;
-      means = λ ts. ap text (inner-is 39 s);
+      means = λ ts. ap (λ (l : List ℕ). text (undoubled l)) (inner-is 39 (doubled s)) ∙ ap text (undoubled-doubled s);
     }
+
+-- and so it is for one of plain bytes without an apostrophe, as it stands
+pub unmarked-atom : (s : List ℕ) → all unmarked s ≡ true → AtomText (bytes "'" ++ (s ++ bytes "'")) (text s)
+unmarked-atom s e = subst (λ (w : List ℕ). AtomText (bytes "'" ++ (w ++ bytes "'")) (text s)) (unmarked-doubled s e) (text-atom s (unmarked-valid s e))
 
 pub null-atom : AtomText (bytes "NULL") none
 unfolding kind body atomOf

@@ -11,7 +11,9 @@ use borrow.Author.Tests.{le-leb, ne-eqb}
 use Rattle.prelude.specs.Choice.{pick, both, either, negated, all, some}
 use Rattle.prelude.specs.Bytes.{bytes}
 use Rattle.prelude.specs.ChoiceLaws.{both-true}
-use Rattle.charset.specs.Charset.{name, strByte}
+use Rattle.charset.specs.Charset.{name}
+use Rattle.string.specs.Quote.{doubled}
+use Rattle.string.specs.QuoteLaws.{unmarked}
 use Rattle.op.specs.declared.Op.{Op}
 use Rattle.op.specs.declared.Op.the-variants.{Neg, And, Or, IsNull, IsNotNull, Eq, Neq, Lt, Gt, Lte, Gte}
 use Rattle.op.specs.Op.{opNumber, operators, oneOf, isTemporal, isNullable, isSpatial, isArray}
@@ -38,7 +40,7 @@ use Rattle.time.specs.FilterLaws.{EndIs, null-end, open-end, date-end, t
 use Rattle.time.specs.FilterTruth.{treeAtom, endAtom, valueOn, endOn, slotAt, endValues, temporalTruth, comparison, constant, monadicTruth, dyadicTruth, truthOn}
 use Rattle.time.specs.OperatorLaws.{AllOf, done, _also_, among, fifteen, of-temporal}
 use Rattle.time.specs.ReadBackLaws.{Prints, item, lift, bracket, not-bracket, not-word, and-join, or-join}
-use Rattle.time.specs.AtomLaws.{AtomText, bare-atom, text-atom, null-atom, SignText, sign-lt, sign-gt, sign-le, sign-ge, sign-eq, sign-ne, compare-item, null-item, true-item, false-item, bare-name, is-null-item, is-not-null-item}
+use Rattle.time.specs.AtomLaws.{AtomText, bare-atom, text-atom, unmarked-atom, null-atom, SignText, sign-lt, sign-gt, sign-le, sign-ge, sign-eq, sign-ne, compare-item, null-item, true-item, false-item, bare-name, is-null-item, is-not-null-item}
 use Rattle.time.specs.CondLaws.{condAst, cond-eval, Ends, translated}
 
 -- Atoms.
@@ -51,38 +53,37 @@ pub end-value : (cs : List Column) (slot : Slot) (t : Tree) → value cs (endAto
 unfolding endOn
 end-value cs slot t = refl
 
--- written instants are made of Str bytes
+-- written instants are made of plain bytes, and none is an apostrophe
 all-append : (p : ℕ → Bool) (x y : List ℕ) → all p x ≡ true → all p y ≡ true → all p (x ++ y) ≡ true
 unfolding all
 all-append p [] y a b = b
 all-append p (c ∷ x) y a b = let h = both-true (p c) (all p x) a in rw (h .0) (all-append p x y (h .1) b)
 
-digit-str : (n : ℕ) → n < 10 → strByte (48 + n) ≡ true
-unfolding strByte
+digit-str : (n : ℕ) → n < 10 → unmarked (48 + n) ≡ true
 digit-str n h = rw (le-leb 32 (48 + n) (omega arith), le-leb (48 + n) 126 (omega arith), ne-eqb (48 + n) 39 (λ e. omega arith))
 
-open-str : (slot : Slot) → all strByte (literal.openEnd slot) ≡ true
-unfolding all strByte literal.openEnd
+open-str : (slot : Slot) → all unmarked (literal.openEnd slot) ≡ true
+unfolding all literal.openEnd
 open-str slot = refl
 
-low-str : (w n : ℕ) → all strByte (low w n) ≡ true
+low-str : (w n : ℕ) → all unmarked (low w n) ≡ true
 unfolding low all
 low-str zero n = refl
 low-str (suc w) n =
-    all-append strByte (low w (n / 10)) ((48 + n % 10) ∷ []) (low-str w (n / 10)) (rw (digit-str (n % 10) (omega arith)) refl)
+    all-append unmarked (low w (n / 10)) ((48 + n % 10) ∷ []) (low-str w (n / 10)) (rw (digit-str (n % 10) (omega arith)) refl)
 
-date-str : (y m d : ℕ) → all strByte (literal.date y m d) ≡ true
-unfolding literal.date all strByte
+date-str : (y m d : ℕ) → all unmarked (literal.date y m d) ≡ true
+unfolding literal.date all
 date-str y m d =
-    all-append strByte (low 4 y) (bytes "-" ++ (low 2 m ++ (bytes "-" ++ low 2 d))) (low-str 4 y)
-    (all-append strByte (low 2 m) (bytes "-" ++ low 2 d) (low-str 2 m) (low-str 2 d))
+    all-append unmarked (low 4 y) (bytes "-" ++ (low 2 m ++ (bytes "-" ++ low 2 d))) (low-str 4 y)
+    (all-append unmarked (low 2 m) (bytes "-" ++ low 2 d) (low-str 2 m) (low-str 2 d))
 
-timestamp-str : (y m d h i s : ℕ) → all strByte (literal.timestamp y m d h i s) ≡ true
-unfolding literal.timestamp literal.clock all strByte
+timestamp-str : (y m d h i s : ℕ) → all unmarked (literal.timestamp y m d h i s) ≡ true
+unfolding literal.timestamp literal.clock all
 timestamp-str y m d h i s =
-    all-append strByte (literal.date y m d) (bytes "T" ++ (low 2 h ++ (bytes ":" ++ (low 2 i ++ (bytes ":" ++ low 2 s))))) (date-str y m d)
-    (all-append strByte (low 2 h) (bytes ":" ++ (low 2 i ++ (bytes ":" ++ low 2 s))) (low-str 2 h)
-    (all-append strByte (low 2 i) (bytes ":" ++ low 2 s) (low-str 2 i) (low-str 2 s)))
+    all-append unmarked (literal.date y m d) (bytes "T" ++ (low 2 h ++ (bytes ":" ++ (low 2 i ++ (bytes ":" ++ low 2 s))))) (date-str y m d)
+    (all-append unmarked (low 2 h) (bytes ":" ++ (low 2 i ++ (bytes ":" ++ low 2 s))) (low-str 2 h)
+    (all-append unmarked (low 2 i) (bytes ":" ++ low 2 s) (low-str 2 i) (low-str 2 s)))
 
 -- the text of an end in its slot is that of its atom
 pub end-text : (g : Settings) (slot : Slot) (t : Tree) (n : ℕ) → isEnd t ≡ true → Good t n → AtomText (endText slot t (gpkg.text g t)) (endAtom slot t)
@@ -91,9 +92,9 @@ end-text g slot t n e x = go t (end-is t e) x
   where
     go : (t : Tree) → EndIs t → Good t n → AtomText (endText slot t (gpkg.text g t)) (endAtom slot t)
     go t null-end x = null-atom
-    go t open-end x = text-atom (literal.openEnd slot) (open-str slot)
-    go t (date-end y m d) x = text-atom (literal.date y m d) (date-str y m d)
-    go t (timestamp-end y m d h i s) x = text-atom (literal.timestamp y m d h i s) (timestamp-str y m d h i s)
+    go t open-end x = unmarked-atom (literal.openEnd slot) (open-str slot)
+    go t (date-end y m d) x = unmarked-atom (literal.date y m d) (date-str y m d)
+    go t (timestamp-end y m d h i s) x = unmarked-atom (literal.timestamp y m d h i s) (timestamp-str y m d h i s)
     go t (column-end s) x = bare-atom s (x .1)
 
 -- and so is the text of what is compared
@@ -103,10 +104,10 @@ comparable-text g t n e x = go t (comparable-is t e) x
   where
     go : (t : Tree) → ComparableIs t → Good t n → AtomText (gpkg.text g t) (treeAtom t)
     go t (comparable-str f s e) x =
-        let q : literal.strText (g .ci) (g .ai) (g .cai) f s ≡ bytes "'" ++ (s ++ bytes "'") = rw e (append-nil (bytes "'" ++ (s ++ bytes "'"))) in
+        let q : literal.strText (g .ci) (g .ai) (g .cai) f s ≡ bytes "'" ++ (doubled s ++ bytes "'") = rw e (append-nil (bytes "'" ++ (doubled s ++ bytes "'"))) in
         subst (λ (l : List ℕ). AtomText l (text s)) (sym q) (text-atom s (x .3))
-    go t (comparable-date y m d) x = text-atom (literal.date y m d) (date-str y m d)
-    go t (comparable-timestamp y m d h i s) x = text-atom (literal.timestamp y m d h i s) (timestamp-str y m d h i s)
+    go t (comparable-date y m d) x = unmarked-atom (literal.date y m d) (date-str y m d)
+    go t (comparable-timestamp y m d h i s) x = unmarked-atom (literal.timestamp y m d h i s) (timestamp-str y m d h i s)
     go t (comparable-id s) x = bare-atom s (x .1)
 
 -- Operands: their ends, and the ends' texts.
