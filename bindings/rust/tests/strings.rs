@@ -4,8 +4,24 @@ use std::str::from_utf8;
 use wenduulig::{read, read_bytes, to_sql, to_sql_bytes, Op, Refusal, Row, Settings, E};
 
 const LABELS: [&str; 18] = [
-    "", "'", "''", "'''", "O'Ring 5 mm", "O Ring", "O(Ring", "Flügel", "Flu\u{308}gel", "d'été", "a'", "a''", "a", "é",
-    "車", "\u{ffff}", "🔩", "🔩'",
+    "",
+    "'",
+    "''",
+    "'''",
+    "O'Ring 5 mm",
+    "O Ring",
+    "O(Ring",
+    "Flügel",
+    "Flu\u{308}gel",
+    "d'été",
+    "a'",
+    "a''",
+    "a",
+    "é",
+    "車",
+    "\u{ffff}",
+    "🔩",
+    "🔩'",
 ];
 
 fn lower(e: &E) -> Result<String, Refusal> {
@@ -40,9 +56,18 @@ fn texts() {
 fn comparisons() {
     for (a, b) in LABELS.into_iter().flat_map(|a| LABELS.map(|b| (a, b))) {
         let row = Row::new().with("a", a).with("b", b);
-        let signs = [(Op::Lt, a < b), (Op::Gt, a > b), (Op::Lte, a <= b), (Op::Gte, a >= b), (Op::Eq, a == b), (Op::Neq, a != b)];
+        let signs = [
+            (Op::Lt, a < b),
+            (Op::Gt, a > b),
+            (Op::Lte, a <= b),
+            (Op::Gte, a >= b),
+            (Op::Eq, a == b),
+            (Op::Neq, a != b),
+        ];
         for (op, says) in signs {
-            for (x, y) in [(E::id("a"), E::str(b)), (E::str(a), E::id("b")), (E::str(a), E::str(b)), (E::id("a"), E::id("b"))] {
+            for (x, y) in
+                [(E::id("a"), E::str(b)), (E::str(a), E::id("b")), (E::str(a), E::str(b)), (E::id("a"), E::id("b"))]
+            {
                 let sql = lower(&E::dyadic(op, x, y)).expect("a text");
                 assert_eq!(read(&sql, &row), Ok(Some(says)), "{sql}");
             }
@@ -86,7 +111,9 @@ fn bytes_that_are_taken() {
     let edges = [0x20, 0x7F, 0x80, 0x8F, 0x90, 0x9F, 0xA0, 0xBF, 0xC0, 0xFF];
     let mut sequences: Vec<Vec<u8>> = (0..=255).map(|a| vec![a]).collect();
     sequences.extend((0..=255).flat_map(|a| (0..=255).map(move |b| vec![a, b])));
-    for (lead, (a, b)) in (0xE0..=0xFF).flat_map(|lead| edges.into_iter().flat_map(move |a| edges.map(|b| (lead, (a, b))))) {
+    for (lead, (a, b)) in
+        (0xE0..=0xFF).flat_map(|lead| edges.into_iter().flat_map(move |a| edges.map(|b| (lead, (a, b)))))
+    {
         sequences.push(vec![lead, a, b]);
         sequences.extend(edges.map(|c| vec![lead, a, b, c]));
     }
