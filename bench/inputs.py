@@ -4,7 +4,7 @@ import os, random, sys
 sys.path.insert(0, os.path.join(os.path.dirname(os.path.abspath(__file__)), '..', 'tools'))
 from generators.reading_edges import three_letter_names
 from model import records
-from model.limits import BRACKETS, PLANNER, SQL
+from model.limits import BRACKETS, PLANNER, SQL, STR, VALUE
 from model.lowering import text
 from model.records import SHEET_SETTINGS, encode, settings_record
 from model.strings import quoted
@@ -147,14 +147,48 @@ def worst():
         ('an unwritten end of 32 KB', lowering([two('TAfter', name('a'), span(huge, name('b')))])),
         ('5,300 empty arrays, 32 deep', lowering([deep_arrays()])),
         ('3,276 names, each sought in the keywords', lowering([('array', [name('temr')] * 3276)])),
-        ('32 KB, wrong in the last record', ('L', [(SETTINGS, spoilt(encode(huge)), b'', b'')])),
+        ('32 KB, wrong in the last record', lowering_of(spoilt(encode(huge)))),
         ('row of 2,970 names, last first', reading(['TRUE'], down, False)),
         ('the same, a text of 11,900 names', reading([asked], down, False)),
         ('442 names alike in 61 of 64 bytes', reading([alike], [(n, None) for n in long], False)),
         ('14,564 such names in a text', reading([repeated('ov=ov', ' OR ', SQL)], [('ov', None)], False)),
         ('64 brackets, 481 times', reading([repeated(brackets, ' OR ', SQL)], CELLS, False)),
         ('16,382 NOTs', reading(['NOT ' * 16382 + 'TRUE'], CELLS, False)),
-        ('one quoted text of 64 KB', reading(["'%s'=mass" % ('x' * (SQL - 7))], CELLS, False))]
+        ('one quoted text of 64 KB', reading(["'%s'=mass" % ('x' * (SQL - 7))], CELLS, False)),
+        ('a Str of 4,096 apostrophes', lowering([MARKS])),
+        ('7 of them: a text of 57,372 bytes', lowering([('array', [MARKS] * 7)])),
+        ('a Str of 1,024 four-byte characters', lowering([word('🔩' * (STR // 4))])),
+        ('32 KB of two-byte characters, the last cut', lowering_of(records.array(*[records.string('é'.encode() * (STR // 2))] * 7, records.string(b'\xc3')))),
+        ('a quoted text of 32,764 apostrophes', reading(['%s=mass' % quoted("'" * 32764)], CELLS, False)),
+        ('the same against a value of 64', reading(['%s=mark' % quoted("'" * 32764)], MARKED, False)),
+        ('1,110 tests of 24 apostrophes', reading([repeated('mark>' + quoted("'" * 24), ' OR ', SQL)], MARKED, False)),
+        ('one quoted text of 64 KB, four-byte characters', reading(["'%s'=mass" % ('🔩' * ((SQL - 7) // 4))], CELLS, False)),
+        ('row of 420 values of 64 bytes, four-byte characters', reading(['TRUE'], [(n, '🔩' * (VALUE // 4)) for n, _ in names(420, 'mixed')], False))]
+
+
+MARKS = word("'" * STR)
+MARKED = CELLS + [('mark', "'" * VALUE)]
+STRINGS = [('ASCII', 'O-Ring 5 mm, left flange no. 3'), ('accents', 'Öse 5 mm, Flügel außen, n° 3'), ('four-byte characters', '🔩🔩🔩🔩🔩 5 mm'),
+           ('apostrophes', "O'Ring 5 mm, 3' left o' flange")]
+
+
+def strings():
+    """Label, input, and whether the other sides take part: filters on a label of each sort. The Rust does not double an apostrophe."""
+    made = []
+    for told, label in STRINGS:
+        trees = [two('Eq', LABEL, word(label)), two('IsInList', LABEL, ('array', [word('%s/%d' % (label, k)) for k in range(8)])),
+                 two('And', two('Eq', LABEL, word(label, 1)), two('Gte', ENTERED, word('2024-01-01')))]
+        made.append(('lowering, ' + told, lowering(trees), told != 'apostrophes'))
+    for told, label in STRINGS:
+        texts = [text(SHEET_SETTINGS, t) for t in (two('Eq', LABEL, word(label)), two('Lt', LABEL, word(label + ' x')),
+                                                   two('Or', two('Eq', LABEL, word(label[1:])), two('Neq', word(label), LABEL)))]
+        made.append(('reading, ' + told, reading(texts, [(n, label if n == 'label' else v) for n, v in CELLS]), True))
+    return made
+
+
+def lowering_of(tree):
+    """A tree as bytes, right or not."""
+    return 'L', [(SETTINGS, tree, b'', b'')]
 
 
 def deep_arrays():

@@ -9,6 +9,7 @@ from reading_cases import Readings
 
 LOWERING = [
     ('accepted trees', 'accepted', 1200), ('larger trees', 'larger', 300), ('leaves at their limits', 'leaves', 700), ('stored trees', 'stored', 300),
+    ('strings of any characters', 'texts', 700), ('strings of apostrophes', 'apostrophes', 80),
     ('stored trees, damaged', 'stored_damaged', 300), ('settings damaged', 'settings_damaged', 250),
     ('settings at their limits', 'settings_edges', 250),
     ('random bytes as a tree', 'random_bytes', 250), ('random records', 'random_records', 700), ('30 to 34 levels', 'deep', 200),
@@ -18,6 +19,7 @@ READING = [
     ('texts in the grammar', 'grammar', 1000), ('texts of time filters', 'lowered', 600), ('texts, a token bent', 'tokens_bent', 500),
     ('rows bent', 'row_bent', 300), ('texts, bytes damaged', 'text_damaged', 400), ('rows, bytes damaged', 'row_damaged', 300),
     ('rows at their limits', 'row_edges', 300), ('random tokens', 'token_soup', 300), ('random bytes as text and row', 'random_bytes', 100),
+    ('values of any characters', 'texts', 900), ('apostrophes about', 'marks', 300),
     ('names at their limits', 'names', 400), ('stored texts', 'stored', 200), ('62 to 66 brackets', 'brackets', 150),
     ('rows of many columns', 'wide_row', 100),
     ('text of 65,535, row of 32,768 bytes', 'limits', 20), ('stored large texts and rows', 'large', 6), ('text or row too long', 'too_long', 60),

@@ -1,4 +1,5 @@
 """Fields at the edges of their rules."""
+from generators import filters, texts
 from model import records
 from model.limits import MANTISSA, NAME, SPATIAL, STR
 from model.names import RESERVED
@@ -26,6 +27,25 @@ def edge_name(r):
     return edge_text(r, r.choice((b'n', b'_', b'Z')), (0, 1, 2, 5, NAME - 1, NAME, NAME, NAME + 1))
 
 
+def any_text(r):
+    """A right text of a Str or a row: plain, or with apostrophes and characters of every length."""
+    return texts.random_text(r) if r.random() < .6 else filters.plain_text(r)
+
+
+def edge_value(r, most):
+    """Bytes of a Str or a row at the edges of their rule: any characters, ill-formed ones, and up to so many bytes and one more."""
+    k = r.random()
+    if k < .3:
+        return texts.broken_text(r)
+    if k < .4:
+        return r.choice(texts.VALUES)
+    if k < .8:
+        return edge_text(r, b'v', (0, 1, 3, 3, 3, 40))
+    last = r.choice(("'", "'", 'é', '車', '🔩', 'z')).encode()
+    size, body = most + r.choice((-1, 0, 0, 1)), r.choice((b'z', b"'", last))
+    return (body * most)[:size - len(last) - (size - len(last)) % len(body)] + last
+
+
 def edge_day(r):
     year = r.choice((0, 1, 4, 100, 400, 1900, 1900, 2000, 2000, 2023, 2024, 2100, 9999, 10000, 65535))
     return year, r.choice((0, 1, 2, 2, 2, 2, 4, 6, 9, 11, 12, 13, 255)), r.choice((0, 1, 28, 29, 29, 30, 31, 32))
@@ -37,8 +57,7 @@ def edge_leaf(r):
         m = r.choice((0, TOP, -TOP, 2 ** 63, -2 ** 63, 10 ** r.randrange(16))) + r.randint(-2, 2)
         return records.num(max(-2 ** 63, min(2 ** 63 - 1, m)), r.choice((0, 1, 8, 9, 9, 10, 255)))
     if kind == 1:
-        text = edge_text(r, b'z', (0, 1, 3, 3, 3, 40)) if r.random() < .97 else b'z' * r.randint(STR - 1, STR + 1)
-        return records.string(text, r.choice((0, 1, 2, 3, 3, 4, 255)))
+        return records.string(edge_value(r, STR if r.random() < .15 else 40), r.choice((0, 1, 2, 3, 3, 3, 4, 255)))
     if kind == 2:
         return records.date(*edge_day(r))
     if kind == 3:

@@ -7,7 +7,7 @@
 int64_t true_to_sql(const uint8_t *, size_t, const uint8_t *, size_t, uint8_t *, size_t);
 int32_t true_read(const uint8_t *, size_t, const uint8_t *, size_t);
 
-static uint8_t copy[70000];
+static uint8_t copy[140000];
 static volatile uint8_t sink;
 
 /* The true answer on a copy of the bytes in which each `from` stands for `to`. */
@@ -30,9 +30,64 @@ static const uint8_t *without(const uint8_t *s, size_t n, const char *word)
     return copy;
 }
 
+/* Bytes at i that are no UTF-8, but for one rule: a lead byte `lead` before a byte of `low` to `high`. Such pairs stand for a right one. */
+static const uint8_t *with_pairs(const uint8_t *s, size_t n, uint8_t lead, uint8_t low, uint8_t high, const char *pair)
+{
+    memcpy(copy, s, n);
+    for (size_t i = 0; i + 2 <= n; i++)
+        if (copy[i] == lead && low <= copy[i + 1] && copy[i + 1] <= high)
+            memcpy(copy + i, pair, 2);
+    return copy;
+}
+
+/* The text with `times` apostrophes for each pair of them inside a quoted text; its length in *m. */
+static const uint8_t *rewritten(const uint8_t *s, size_t n, size_t times, size_t *m)
+{
+    int inside = 0;
+    *m = 0;
+    for (size_t i = 0; i < n; i++) {
+        if (inside && s[i] == '\'' && i + 1 < n && s[i + 1] == '\'') {
+            memset(copy + *m, '\'', times);
+            *m += times;
+            i++;
+            continue;
+        }
+        inside ^= s[i] == '\'';
+        copy[(*m)++] = s[i];
+    }
+    return copy;
+}
+
+/* The longest run of a byte. */
+static size_t run_of(const uint8_t *s, size_t n, uint8_t byte)
+{
+    size_t most = 0, now = 0;
+    for (size_t i = 0; i < n; i++) {
+        now = s[i] == byte ? now + 1 : 0;
+        most = now > most ? now : most;
+    }
+    return most;
+}
+
+/* As lent, but the text is longer than the buffer only if it is with its apostrophes once. */
+static int64_t counted_once(const uint8_t *s, size_t sn, const uint8_t *t, size_t tn, uint8_t *out, size_t room)
+{
+    static uint8_t whole[65536];
+    int64_t n = true_to_sql(s, sn, t, tn, whole, sizeof whole);
+    size_t m = 0;
+    if (n < 0)
+        return n;
+    rewritten(whole, (size_t)n, 1, &m);
+    if (m > room)
+        return -9;
+    memcpy(out, whole, room);
+    return n;
+}
+
 static int64_t faulty_to_sql(const uint8_t *s, size_t sn, const uint8_t *t, size_t tn, uint8_t *out, size_t room, int64_t n)
 {
-    (void)s, (void)sn, (void)t, (void)tn, (void)room;
+    size_t m = 0;
+    (void)s, (void)sn, (void)t, (void)tn, (void)room, (void)m;
     switch (FAULT) {
     case 1: /* 1 a buffer of the text's exact length is refused */
         return n == (int64_t)room && n > 0 ? -9 : n;
@@ -82,6 +137,24 @@ static int64_t faulty_to_sql(const uint8_t *s, size_t sn, const uint8_t *t, size
         return n == -6 && tn < 60000 ? true_to_sql(s, sn, without(t, tn, "TO"), tn, out, room) : n;
     case 16: /* 16 OF is a collation's name */
         return n == -1 && sn < 60000 ? true_to_sql(without(s, sn, "OF"), sn, t, tn, out, room) : n;
+    case 30: /* 30 an apostrophe is written once */
+        if (n < 0)
+            return n;
+        rewritten(out, (size_t)n, 1, &m);
+        memcpy(out, copy, m);
+        return (int64_t)m;
+    case 31: /* 31 the length is counted undoubled */
+        return n == -9 ? counted_once(s, sn, t, tn, out, room) : n;
+    case 32: /* 32 the limit of a Str counts apostrophes doubled */
+        return n >= 0 && run_of(t, tn, '\'') > 2048 ? -6 : n;
+    case 33: /* 33 an overlong form of two bytes is taken in a tree */
+        return n == -6 && tn < 60000 ? true_to_sql(s, sn, with_pairs(t, tn, 0xc0, 0x80, 0xbf, "\xc3\xa9"), tn, out, room) : n;
+    case 34: /* 34 an overlong form of four bytes is taken in a tree */
+        return n == -6 && tn < 60000 ? true_to_sql(s, sn, with_pairs(t, tn, 0xf0, 0x80, 0x8f, "\xf0\x90"), tn, out, room) : n;
+    case 35: /* 35 a surrogate is taken in a tree */
+        return n == -6 && tn < 60000 ? true_to_sql(s, sn, with_pairs(t, tn, 0xed, 0xa0, 0xbf, "\xed\x9f"), tn, out, room) : n;
+    case 36: /* 36 the byte 7F is taken in a tree */
+        return n == -6 && tn < 60000 ? true_to_sql(s, sn, changed(t, tn, "\x7f", "x", 1), tn, out, room) : n;
     default:
         return n;
     }
@@ -95,7 +168,8 @@ int64_t wenduulig_to_sql(const uint8_t *s, size_t sn, const uint8_t *t, size_t t
 int32_t wenduulig_read(const uint8_t *t, size_t tn, const uint8_t *row, size_t rn)
 {
     int32_t n = true_read(t, tn, row, rn);
-    size_t deep = 0;
+    size_t deep = 0, m = 0;
+    (void)deep, (void)m;
     switch (FAULT) {
     case 20: /* 20 != with a NULL is false */
         return n == 2 && memmem(t, tn, "!=", 2) ? 0 : n;
@@ -122,6 +196,23 @@ int32_t wenduulig_read(const uint8_t *t, size_t tn, const uint8_t *row, size_t r
         return n == -11 && rn < 60000 ? true_read(t, tn, without(row, rn, "BY"), rn) : n;
     case 29: /* 29 group is a name in a text */
         return n == -12 && tn < 60000 ? true_read(changed(t, tn, "group", "groux", 5), tn, row, rn) : n;
+    case 40: /* 40 a doubled apostrophe is read as two bytes */
+        rewritten(t, tn < 60000 ? tn : 0, 4, &m);
+        return n >= 0 && tn < 60000 && m <= 65535 ? true_read(copy, m, row, rn) : n;
+    case 41: /* 41 an unclosed text ends with the SQL text */
+        if (n != -12 || tn >= 60000)
+            return n;
+        memcpy(copy, t, tn);
+        copy[tn] = '\'';
+        return true_read(copy, tn + 1, row, rn);
+    case 42: /* 42 a surrogate is taken in a row */
+        return n == -11 && rn < 60000 ? true_read(t, tn, with_pairs(row, rn, 0xed, 0xa0, 0xbf, "\xed\x9f"), rn) : n;
+    case 43: /* 43 an overlong form of three bytes is taken in a text */
+        return n == -12 && tn < 60000 ? true_read(with_pairs(t, tn, 0xe0, 0x80, 0x9f, "\xe0\xa0"), tn, row, rn) : n;
+    case 44: /* 44 a character above U+10FFFF is taken in a row */
+        return n == -11 && rn < 60000 ? true_read(t, tn, with_pairs(row, rn, 0xf4, 0x90, 0xbf, "\xf4\x80"), rn) : n;
+    case 45: /* 45 the limit of a row's value counts apostrophes doubled */
+        return n >= 0 && run_of(row, rn, '\'') > 32 ? -11 : n;
     default:
         return n;
     }

@@ -2,10 +2,10 @@
 import struct
 
 from damage import DAMAGE, INTERVAL, LARGE_TREES, LEAVES, NULL, SMALL_TREES, SPECIAL, bytes_changed, cut_or_lengthened, flipped
-from edges import edge_leaf, edge_name
+from edges import any_text, edge_leaf, edge_name, edge_value
 from generators import filters, trees
 from model import lowering, records
-from model.limits import PLANNER
+from model.limits import FLAGS, PLANNER, STR
 from model.operators import DYADIC, INSTANT_OR_INTERVAL, MONADIC, NAMES, NUMBER, TEMPORAL
 from model.records import SHEET_SETTINGS, encode, settings_record
 
@@ -23,7 +23,7 @@ class Lowerings:
     """Settings and trees. Each method makes one kind; the answer is (settings, tree)."""
 
     def __init__(self, r):
-        self.r, self.m = r, filters.Maker(r)
+        self.r, self.m = r, filters.Maker(r, any_text)
 
     def settings(self):
         return settings_record(self.m.settings())
@@ -70,6 +70,22 @@ class Lowerings:
                              records.dyadic(r.choice(numbers(('Eq', 'TAfter', 'IsLike', 'IsInList'))), trees.A, leaf),
                              records.array(leaf, NULL), records.function(b'f', leaf)))
         return self.settings(), leaf
+
+    def texts(self):
+        """Strings of any characters, right or ill-formed, one or several in a tree."""
+        r = self.r
+        some = lambda: records.string(any_text(r).encode() if r.random() < .7 else edge_value(r, 40), r.randrange(FLAGS + 1))
+        one = some()
+        return self.settings(), r.choice((one, records.dyadic(r.choice(numbers(('Eq', 'Lt', 'IsLike', 'TAfter'))), trees.A, one),
+                                          records.array(one, some(), some()), records.function(b'f', some(), one)))
+
+    def apostrophes(self):
+        """As many as a Str holds, and texts of about 65,535 bytes of them."""
+        r, flags = self.r, self.r.randrange(FLAGS + 1)
+        if r.random() < .5:
+            return self.settings(), records.string(b"'" * r.choice((1, 2, 3, 64, 2048, 2049, STR - 1, STR, STR, STR + 1)), flags)
+        last = "'" * (4032 - r.randrange(4)) + 'x' * r.randrange(3)
+        return settings_record(SHEET_SETTINGS), encode(('array', [('str', 3, "'" * STR)] * 7 + [('str', 3, last)]))
 
     def settings_damaged(self):
         how = self.r.choice((flipped, bytes_changed, cut_or_lengthened))

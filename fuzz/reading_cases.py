@@ -1,9 +1,9 @@
 """Texts and rows: in the grammar, at the limits, and damaged."""
 from damage import bytes_changed, cut_or_lengthened, flipped
-from edges import edge_name, edge_text
-from generators import reading_edges, readings
+from edges import any_text, edge_name, edge_text, edge_value
+from generators import reading_edges, readings, texts
 from model import lowering, records
-from model.limits import ROW, SQL
+from model.limits import ROW, SQL, VALUE
 from model.operators import INSTANT_OR_INTERVAL, RELATIONS, TEMPORAL
 from model.records import SHEET_SETTINGS
 
@@ -15,6 +15,7 @@ SMALL_READINGS, LARGE_READINGS = ([c for c in EDGES if (len(c[0]) + len(c[1]) < 
 
 class Readings:
     """Texts and rows."""
+    near = [value.encode() for value in ('', "'", "''", "'''", "a'", "a''", "a'b", "a''b", 'a(b', 'a&b', 'é', "é'", 'e', 'z', '🔩', '\uffff')]    # one another
 
     def __init__(self, r):
         self.r = r
@@ -49,13 +50,29 @@ class Readings:
 
         def value():
             if r.random() < .4:
-                return edge_text(r, b'v', (0, 1, 1, 3, 3))
+                return edge_value(r, VALUE)
             return b'v' * r.choice((1, 63, 64, 64, 65) if r.random() < .2 else (1, 2, 64))
 
         cells = [(edge_name(r) if r.random() < .3 else b'c%d' % k, r.choice((None, value()))) for k in range(r.randint(1, 4))]
         n, v = r.choice(cells)
         other = edge_text(r, b'v', (0, 1, 64))
-        return r.choice((b"%s='%s'" % (n, v or b''), b'"%s"<\'%s\'' % (n, other), b'TRUE', n + b' NOT NULL')), records.row(cells)
+        return r.choice((b'%s=%s' % (n, texts.literal(v or b'')), b'"%s"<\'%s\'' % (n, other), b'TRUE', n + b' NOT NULL')), records.row(cells)
+
+    def texts(self):
+        """Values of any characters, in a row and written; some ill-formed, here or there."""
+        r = self.r
+        value = lambda: r.choice((any_text(r).encode(), r.choice(self.near)))
+        cells = [(b'a', value()), (b'b', r.choice((None, value()))), (b'c', edge_value(r, VALUE) if r.random() < .12 else value())]
+        written = lambda: texts.literal(edge_value(r, VALUE) if r.random() < .06 else r.choice((value(), r.choice(cells)[1] or b'')))
+        atom = lambda: r.choice((b'a', b'"b"', b'c', written(), written()))
+        tests = [r.choice((b'', b'NOT ')) + atom() + r.choice(readings.SIGNS) + atom() for _ in range(r.randint(1, 3))]
+        return r.choice((b' AND ', b' OR ')).join(tests), records.row(cells)
+
+    def marks(self):
+        """Apostrophes in any number about a few other bytes: texts that close and such that do not."""
+        r = self.r
+        run = b''.join(r.choice((b"'", b"'", b"'", b'a', b' ', 'é'.encode(), b'=', b'"')) for _ in range(r.randint(1, 9)))
+        return r.choice((b'a=' + run, run + b'=a', b"'" + run + b"'=a", b"a<'" + run + b"'")), records.row([(b'a', r.choice(self.near))])
 
     def token_soup(self):
         r = self.r
@@ -79,7 +96,7 @@ class Readings:
         if k == 0:
             return ('monadic', r.choice(('IsNull', 'IsNotNull')), column())
         if k == 1:
-            return ('dyadic', r.choice(RELATIONS), column(), ('str', 0, '2024-01-0%d' % r.randint(1, 5)))
+            return ('dyadic', r.choice(RELATIONS), column(), ('str', 0, r.choice(('2024-01-0%d' % r.randint(1, 5), any_text(r)))))
         if k < 5:
             op = r.choice(TEMPORAL)
             side = lambda: leaf() if op in INSTANT_OR_INTERVAL and r.random() < .5 else ('interval', leaf(), leaf())
@@ -94,7 +111,8 @@ class Readings:
         text = lowering.text(SHEET_SETTINGS, self.time_filter(r.choice((0, 1, 2)))).encode()
         names = list('abcd') if r.random() < .9 else list('abc')
         r.shuffle(names)
-        return text, records.row([(n.encode(), None if r.random() < .2 else b'2024-01-0%d' % r.randint(1, 5)) for n in names])
+        value = lambda: b'2024-01-0%d' % r.randint(1, 5) if r.random() < .9 else any_text(r).encode()
+        return text, records.row([(n.encode(), None if r.random() < .2 else value()) for n in names])
 
     def brackets(self):
         """62 to 66 brackets, with NOTs and tests between."""

@@ -12,7 +12,7 @@
  *    0 Null, 1 Unbounded (..)   empty
  *    2 Bool        a byte, 0 or 1
  *    3 Num         mantissa m, 8 bytes, two's complement, |m| < 10^15; scale s, a byte, 0 to 9: m / 10^s
- *    4 Str         flags, a byte: 0 plain, 1 ignoring case, 2 accents, 3 both; 0 to 4,096 bytes 0x20 to 0x7E but no '
+ *    4 Str         flags, a byte: 0 plain, 1 ignoring case, 2 accents, 3 both; 0 to 4,096 bytes of a text
  *    5 Date        year, 2 bytes, 1 to 9999; month, a byte; day, a byte: a day that the Gregorian calendar has
  *    6 Timestamp   a date; hour, 0 to 23, minute and second, 0 to 59, a byte each
  *    7 Spatial     SRID, 4 bytes, unsigned; 1 to 4,096 letters, digits, space , ( ) - .
@@ -23,7 +23,11 @@
  *   12 Array       records to the end
  *   13 Interval    two records
  *  100 settings    precision, a byte, 0 to 15; three times length byte, name: collations for case, accents, both
- *  200 a column    length byte, name; a byte 0 for NULL, or 1 and 0 to 64 bytes as in Str. A row is a run of these.
+ *  200 a column    length byte, name; a byte 0 for NULL, or 1 and 0 to 64 bytes of a text. A row is a run of these.
+ * A text is well-formed UTF-8 (the Unicode standard's Table 3-7: no overlong form, no surrogate, nothing above U+10FFFF)
+ * without the bytes 0x00 to 0x1F and 0x7F. An apostrophe stands in it as one byte, as any other; the SQL text has it
+ * doubled, 'O''Ring', and reading takes a doubled one in quotes as one. The limits of 4,096 and 64 count the record's
+ * bytes, those of an SQL text and of `out` the bytes as written.
  * A name has 1 to 64 letters, digits, underscores, no digit first, and is in any letter case no keyword of SQLite, as
  * ORDER or GROUP (the 147 words of sqlite.org/lang_keywords.html, release 3.40.0), nor DIV, FALSE or TRUE. Letters are
  * those of ASCII. A column that has such a name needs another one, or a view that gives it one.
@@ -36,7 +40,7 @@
  *    4      tree         a record lies deeper than 32, the root being 1
  *    5      tree         a record's kind is above 13, an operator's number above 52, or an operator stands at the wrong
  *                        number of operands
- *    6      tree         a field, a body's size, a name or a text breaks its rule above
+ *    6      tree         a field, a body's size, a name or a text breaks its rule above, as a Str that is no UTF-8
  *    7      tree         an Interval is no direct operand of a temporal operator, a temporal operator other than TAfter,
  *                        TBefore, TDisjoint, TEquals and TIntersects lacks an Interval on a side, or the right side of
  *                        BETWEEN or NOT BETWEEN is no Array of exactly two
@@ -46,7 +50,8 @@
  *   11      row          no run of records of kind 200 as above, or two of its names are equal in any letter case
  *   12      text         outside the grammar, or more than 64 brackets one inside another. The grammar: comparisons by
  *                        < > <= >= = <> != of columns, quoted texts and NULL, a column with IS NULL, IS NOT NULL or
- *                        NOT NULL, TRUE, FALSE, NULL, joined by NOT, AND, OR and brackets
+ *                        NOT NULL, TRUE, FALSE, NULL, joined by NOT, AND, OR and brackets. A quoted text ends at the
+ *                        first apostrophe that is not doubled; what stands in it is a text as above, of any length
  *   13      text, row    a name in the text is absent from the row
  * Of several, lowering gives 1 first, then 2; then 3 to 6, record by record in reading order, a parent first, and of one
  * record the lowest; then 7, 8 and 9. Reading gives the lowest.
@@ -194,14 +199,15 @@ enum wenduulig_refusal {
 };
 
 /* Lowers the filter `tree` under `settings` into `out`.
- * 0 or more: the length of the SQL text, which stands in the first bytes of `out` as ASCII, with no closing zero byte;
- * the bytes past it are as lent.
+ * 0 or more: the length in bytes of the SQL text, which stands in the first bytes of `out` as UTF-8 (ASCII but for what is
+ * in quotes), with no closing zero byte; the bytes past it are as lent.
  * -1 to -9: a refusal; all of `out` is as lent. */
 int64_t wenduulig_to_sql(const uint8_t *settings, size_t settings_len, const uint8_t *tree, size_t tree_len, uint8_t *out,
                          size_t out_len);
 
 /* Reads what `text` says of `row`: an enum wenduulig_truth, or -10 to -13 for a refusal.
- * The text need not come from wenduulig_to_sql; it has no closing zero byte. An empty row (row_len 0) has no columns. */
+ * The text need not come from wenduulig_to_sql; it has no closing zero byte. An empty row (row_len 0) has no columns.
+ * Values compare by their bytes, which for UTF-8 is the order of the characters' numbers. */
 int32_t wenduulig_read(const uint8_t *text, size_t text_len, const uint8_t *row, size_t row_len);
 
 #ifdef __cplusplus

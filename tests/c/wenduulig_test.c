@@ -417,8 +417,8 @@ static void test_reading_refusals(void)
     put_column(&row, "A", "x");
     expect_read("?", -WENDUULIG_BAD_ROW, "11: a and A, before 12");
     row.n = 0;
-    put_column(&row, "a", "it's");
-    expect_read("TRUE", -WENDUULIG_BAD_ROW, "11: an apostrophe in a value");
+    put_column(&row, "a", "a\tb");
+    expect_read("TRUE", -WENDUULIG_BAD_ROW, "11: a control byte in a value");
     row.n = 0;
     put_column(&row, "group", "x");
     expect_read("TRUE", -WENDUULIG_BAD_ROW, "11: a keyword of SQLite as a column's name");
@@ -432,6 +432,125 @@ static void test_reading_refusals(void)
     check(read_row(text.at, text.n, &row) == -WENDUULIG_BAD_TEXT, "12: 65 brackets");
     expect_read("a = 'x' OR \"z\" IS NULL", -WENDUULIG_MISSING_COLUMN, "13: z is no column");
     expect_read("", -WENDUULIG_BAD_TEXT, "12: the empty text");
+}
+
+static void put_str(struct bytes *b, unsigned flags, const char *s)
+{
+    const uint8_t one = (uint8_t)flags;
+    put_fields(b, WENDUULIG_STR, &one, 1, s);
+}
+
+/* A text as a Str, as a value and in quotes: each with its SQL text. */
+static const char *const labels[][2] = {
+    {"O'Ring 5 mm", "'O''Ring 5 mm'"}, {"Fl\xc3\xbcgel", "'Fl\xc3\xbcgel'"}, {"", "''"}, {"'", "''''"}, {"''", "''''''"},
+    {"a''b'", "'a''''b'''"}, {"\xc2\x80", "'\xc2\x80'"}, {"\xed\x9f\xbf\xee\x80\x80", "'\xed\x9f\xbf\xee\x80\x80'"},
+    {"\xf0\x90\x80\x80'\xf4\x8f\xbf\xbf", "'\xf0\x90\x80\x80''\xf4\x8f\xbf\xbf'"}};
+
+/* No text: a lone continuation, overlong forms, surrogates, above U+10FFFF, bytes of no sequence, cut short, control bytes. */
+static const char *const ill_formed[] = {
+    "\x80", "a\xbf", "\xc3\xa9\xa9", "\xc0\xa7", "\xc1\xbf", "\xe0\x80\xa7", "\xe0\x9f\xbf", "\xf0\x80\x80\xa7", "\xf0\x8f\xbf\xbf",
+    "\xed\xa0\x80", "\xed\xbf\xbf", "\xf4\x90\x80\x80", "\xf5\x80\x80\x80", "\xfe", "\xff", "\xc3", "\xc3'", "\xe2\x82", "\xe2\x82x",
+    "\xf0\x9f\x94", "\xf0\x9f\x94'", "\xf0", "\x01", "x\x1f", "\t", "\x7f"};
+
+/* The text between apostrophes, each of its own doubled, and what follows. */
+static void make_comparison(struct bytes *b, const char *s, const char *after)
+{
+    b->n = 0;
+    put_byte(b, '\'');
+    for (; *s; s++) {
+        put_byte(b, (uint8_t)*s);
+        if (*s == '\'')
+            put_byte(b, '\'');
+    }
+    put_byte(b, '\'');
+    put_text(b, after);
+}
+
+static void test_strings(void)
+{
+    make_settings(&settings);
+    for (size_t i = 0; i < sizeof labels / sizeof *labels; i++) {
+        tree.n = row.n = 0;
+        put_str(&tree, 0, labels[i][0]);
+        expect_text(strlen(labels[i][1]), labels[i][1], labels[i][1]);
+        expect_refusal(strlen(labels[i][1]) - 1, WENDUULIG_BUFFER_TOO_SHORT, "9: the length counts apostrophes doubled");
+        put_column(&row, "a", labels[i][0]);
+        make_comparison(&text, labels[i][0], " = a");
+        check(read_row(text.at, text.n, &row) == WENDUULIG_TRUE, labels[i][1]);
+    }
+    for (size_t i = 0; i < sizeof ill_formed / sizeof *ill_formed; i++) {
+        tree.n = row.n = 0;
+        put_str(&tree, 0, ill_formed[i]);
+        expect_refusal(100, WENDUULIG_BAD_FIELD, "6: a Str that is no text");
+        put_column(&row, "a", ill_formed[i]);
+        expect_read("TRUE", -WENDUULIG_BAD_ROW, "11: a value that is no text");
+        row.n = 0;
+        make_comparison(&text, ill_formed[i], " = NULL");
+        check(read_row(text.at, text.n, &row) == -WENDUULIG_BAD_TEXT, "12: a quoted text that is none");
+    }
+    tree.n = 0;
+    put_str(&tree, 3, "it's");
+    expect_text(20, "'it''s' COLLATE NCA", "a Str with an apostrophe and flags");
+}
+
+/* Where a quoted text ends, and that values compare undoubled. */
+static void test_quotes(void)
+{
+    row.n = 0;
+    put_column(&row, "a", "a'b");
+    expect_read("a = 'a''b'", WENDUULIG_TRUE, "a doubled apostrophe is one");
+    expect_read("a = 'a''''b'", WENDUULIG_FALSE, "four are two");
+    expect_read("a < 'a(' AND a > 'a&'", WENDUULIG_TRUE, "the order of an apostrophe's byte");
+    expect_read("a > 'a''' AND a < 'a''c'", WENDUULIG_TRUE, "a prefix that ends at a doubled apostrophe");
+    expect_read("'' < '''' AND '''' < ''''''", WENDUULIG_TRUE, "nothing, one, two apostrophes");
+    expect_read("''=''AND''=''", WENDUULIG_TRUE, "empty texts side by side");
+    expect_read("'z' < '\xc3\xa9' AND '\xef\xbf\xbf' < '\xf0\x90\x80\x80'", WENDUULIG_TRUE, "the order of bytes");
+    expect_read("a = 'a' 'b'", -WENDUULIG_BAD_TEXT, "12: two texts");
+    expect_read("a = 'a'b'", -WENDUULIG_BAD_TEXT, "12: an apostrophe too many");
+    expect_read("a = 'a''", -WENDUULIG_BAD_TEXT, "12: a text that ends in a doubled apostrophe is not closed");
+    expect_read("a = '''", -WENDUULIG_BAD_TEXT, "12: three apostrophes");
+    expect_read("\xc3\xa9 = a", -WENDUULIG_BAD_TEXT, "12: a letter beyond ASCII outside quotes");
+}
+
+/* `n` times a byte, as a Str. */
+static void make_run(struct bytes *b, unsigned byte, size_t n)
+{
+    b->n = 0;
+    size_t start = begin(b, WENDUULIG_STR);
+    put_byte(b, 0);
+    for (size_t i = 0; i < n; i++)
+        put_byte(b, byte);
+    end(b, start);
+}
+
+/* The limits of a Str and of a value count the record's bytes, the length of the text those that are written. */
+static void test_string_limits(void)
+{
+    char value[70];
+    int clean;
+    make_settings(&settings);
+    make_run(&tree, '\'', 4096);
+    check(lower(&settings, &tree, 8194, &text, &clean) == 8194 && clean, "4,096 apostrophes in 8,194 bytes");
+    expect_refusal(8193, WENDUULIG_BUFFER_TOO_SHORT, "9: 4,096 apostrophes in 8,193 bytes");
+    make_run(&tree, '\'', 4097);
+    expect_refusal(9000, WENDUULIG_BAD_FIELD, "6: 4,097 apostrophes");
+    memset(value, '\'', sizeof value);
+    value[64] = 0;
+    row.n = 0;
+    put_column(&row, "a", value);
+    expect_read("a > ''''", WENDUULIG_TRUE, "a value of 64 apostrophes");
+    value[64] = '\'';
+    value[65] = 0;
+    row.n = 0;
+    put_column(&row, "a", value);
+    expect_read("TRUE", -WENDUULIG_BAD_ROW, "11: a value of 65 apostrophes");
+    text.n = 0;
+    put_text(&text, "NULL = ");
+    for (int i = 0; i < 65528; i++)
+        put_byte(&text, '\'');
+    row.n = 0;
+    check(read_row(text.at, text.n, &row) == WENDUULIG_UNKNOWN, "a quoted text of 32,763 apostrophes");
+    check(read_row(text.at, text.n - 1, &row) == -WENDUULIG_BAD_TEXT, "12: the same, unclosed");
 }
 
 /* Each prefix of sheet J's tree, each byte of it changed to each other: an answer in range, and lent bytes as they were. */
@@ -524,6 +643,9 @@ int main(void)
     test_length_refusals();
     test_truths();
     test_reading_refusals();
+    test_strings();
+    test_quotes();
+    test_string_limits();
     test_damage();
     test_damaged_reading();
     test_stack();

@@ -4,7 +4,7 @@
 usage: python3 tools/answers/make_program_answers.py
 
 The answers are written by hand (tools/programs/cases.py). Writes nothing and exits with 1 if the model's answer to a whole case is another, or if
-there are fewer than 8 cases for `lower` or 13 for `read`."""
+there are fewer than 11 cases for `lower` or 17 for `read`."""
 import os
 import sys
 
@@ -28,7 +28,7 @@ def main():
                 differ += 1
                 print('differs: %s' % name, parts[0][:100], parts[1][:100], 'by hand', line, 'model', line_of(models[name](*parts)))
         print('%s: %d cases' % (name, len(cases) + 1))
-    counts.stop_if_wrong(differ, ('cases for lower', len(LOWER) + 1, 8), ('cases for read', len(READ) + 1, 13))
+    counts.stop_if_wrong(differ, ('cases for lower', len(LOWER) + 1, 11), ('cases for read', len(READ) + 1, 17))
     for name, cases, cut in (('lower', LOWER, LOWER_CUT), ('read', READ, READ_CUT)):
         stored.write(b''.join(stored.framed(*parts) for parts, _ in cases) + cut, name, 'stdin')
         stored.write(''.join(line + '\n' for _, line in cases) + 'incomplete\n', name, 'stdout')

@@ -10,12 +10,17 @@ from .stored import framed
 
 
 def answers(oracle, cases):
-    """For each (settings, tree) a letter (T text, E error, P panic, D undecodable) and bytes. One answer a case, or this fails."""
+    """For each (settings, tree) what `answers_of` says of their records."""
+    return answers_of(oracle, [(settings_record(settings), encode(tree)) for settings, tree in cases])
+
+
+def answers_of(oracle, cases):
+    """For each pair of records a letter (T text, E error, P panic, D undecodable) and bytes. One answer a case, or this fails."""
     with tempfile.TemporaryDirectory() as room:
         asked, told = os.path.join(room, 'cases'), os.path.join(room, 'answers')
         with open(asked, 'wb') as f:
-            for settings, tree in cases:
-                f.write(framed(settings_record(settings), encode(tree)))
+            for case in cases:
+                f.write(framed(*case))
         subprocess.run([oracle, 'lower', asked, told], check=True)
         with open(told, 'rb') as f:
             data = f.read()

@@ -7,7 +7,7 @@ MOST_COLUMNS = 2000    # of an SQLite table
 
 
 def truth(text, row):
-    """The text's truth on a table of TEXT columns that holds the row; None where SQLite does not take the text or the row."""
+    """The text's truth on a table of TEXT columns that holds the row; None where SQLite does not take the text or the row, or the text is no UTF-8."""
     cells = calls.heard(reader.columns, row)
     if isinstance(cells, int) or not cells or len(cells) > MOST_COLUMNS or b'\0' in text:
         return None
@@ -15,7 +15,7 @@ def truth(text, row):
     try:
         base.execute('CREATE TABLE t (%s)' % ', '.join('"%s" TEXT' % name.decode() for name in cells))
         base.execute('INSERT INTO t VALUES (%s)' % ', '.join('?' * len(cells)), [None if v is None else v.decode() for v in cells.values()])
-        found = base.execute('SELECT ' + text.decode('latin-1') + ' FROM t').fetchall()
+        found = base.execute('SELECT ' + text.decode() + ' FROM t').fetchall()
     except (sqlite3.Error, sqlite3.Warning, ValueError):
         return None
     finally:
@@ -23,3 +23,13 @@ def truth(text, row):
     if len(found) != 1 or len(found[0]) != 1 or not isinstance(found[0][0], (int, float, type(None))):
         return None
     return 'unknown' if found[0][0] is None else 'true' if found[0][0] else 'false'
+
+
+def value(literal):
+    """The bytes of the text that SQLite reads in a literal."""
+    base = sqlite3.connect(':memory:')
+    try:
+        kind, written = base.execute('SELECT typeof(%s), hex(%s)' % (literal, literal)).fetchone()
+    finally:
+        base.close()
+    return bytes.fromhex(written) if kind == 'text' else None

@@ -4,10 +4,11 @@ import struct
 import sys
 
 from model.c import TRUTH
-from model.refusals import ABSENT, GRAMMAR, READING_SIZE, ROW
+from model.refusals import ABSENT, BUFFER, FIELD, FRAME, GRAMMAR, KIND, PLACE, READING_SIZE, ROW, TEXT_SIZE
 
 CRATES = os.path.join(os.path.dirname(os.path.abspath(__file__)), '..', '..', 'crates')
-REPLAYED = ('operators', 'trees', 'keyword_trees', 'leaves', 'lowerings', 'readings', 'keyword_readings')    # in the order of the program's lines
+REPLAYED = ('operators', 'trees', 'keyword_trees', 'text_trees', 'leaves', 'lowerings', 'text_lowerings', 'readings', 'keyword_readings',
+            'text_readings')    # in the order of the program's lines
 checking = False    # set by make_all.py
 
 
@@ -28,7 +29,7 @@ def write_cases(word, cases, line):
     """Each case a tuple of parts, to the program `replay`: its file of that name, and the line that it must write of it."""
     write(b''.join(framed(*case) for case in cases), 'replay', 'data', word)
     with open(os.path.join(CRATES, 'replay', 'stdout')) as f:
-        lines = dict(zip(REPLAYED, f.read().splitlines()))
+        lines = {line.partition(':')[0]: line for line in f.read().splitlines()}
     lines[word] = '%s: %s' % (word, line)
     write(''.join('%s\n' % lines.get(one, '') for one in REPLAYED), 'replay', 'stdout')
 
@@ -47,6 +48,12 @@ def lowering_case(settings, tree, room, answer):
 def reading_case(text, row, answer):
     """The answer a byte: 0 false, 1 true, 2 unknown, or the refusal's number."""
     return text, row, bytes([TRUTH.get(answer, answer)])
+
+
+def lowering_line(tally):
+    """What the program writes of cases whose answers are 0 for a text or a refusal's number, counted here."""
+    return 'cases %d, as stored: texts %d, refused %s' % (
+        sum(tally.values()), tally[0], ', '.join('%d %d' % (n, tally[n]) for n in (FRAME, KIND, FIELD, PLACE, TEXT_SIZE, BUFFER)))
 
 
 def tree_line(tally):

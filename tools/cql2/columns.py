@@ -48,6 +48,9 @@ class NoTable:
     def collation(self, name):
         return 'BINARY'
 
+    def encoding(self):
+        return 'UTF-8'
+
 
 class Table:
     """A GeoPackage's table; `srid` is that of written geometries."""
@@ -69,3 +72,6 @@ class Table:
 
     def collation(self, name):
         return self.package.collation(self.name, name)
+
+    def encoding(self):
+        return self.package.encoding()

@@ -222,7 +222,6 @@ def unknown(name):
 NAME_RULE = 'a name has 1 to 64 letters, digits and underscores, no digit first, and is no keyword of SQLite, nor DIV, FALSE or TRUE'
 RULES = {
     NUM: 'a number has at most 15 digits in all, and at most 9 after the point',
-    STR: 'a text has at most 4,096 characters, all printable ASCII and none an apostrophe',
     DATE: 'there is no such day from year 1 to 9999',
     TIMESTAMP: 'there is no such time: a day from year 1 to 9999, hour 0 to 23, minute and second 0 to 59, whole seconds',
     SPATIAL: 'the geometry written as text is longer than 4,096 characters',

@@ -34,8 +34,9 @@ def guarded(name, work, enough=0):
     # a stream that the caller closed is None; what is written to it then goes nowhere
     sys.stdin, sys.stdout, sys.stderr = (stream or open(os.devnull, mode) for stream, mode in
                                          ((sys.stdin, 'r'), (sys.stdout, 'w'), (sys.stderr, 'w')))
-    for stream in (sys.stdout, sys.stderr):
-        stream.reconfigure(errors='backslashreplace')
+    # an SQL text is UTF-8, whatever characters the terminal has
+    sys.stdout.reconfigure(encoding='utf-8', errors='backslashreplace')
+    sys.stderr.reconfigure(errors='backslashreplace')
     try:
         work()
         sys.stdout.flush()

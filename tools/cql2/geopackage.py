@@ -110,6 +110,10 @@ class GeoPackage:
                 return told.rsplit('-', 1)[0]
         return 'BINARY'
 
+    def encoding(self):
+        """UTF-8, UTF-16le or UTF-16be: how the file holds texts."""
+        return self.ask('PRAGMA encoding')[0][0]
+
     def count(self, table):
         return self.ask('SELECT count(*) FROM %s' % quoted(table))[0][0]
 

@@ -4,6 +4,7 @@ import re
 
 from .columns import BOOLEAN, DATE, DATETIME, GEOMETRY, NUMBER, NUMBERS, TEXT, TEXTS, TIMESTAMP, UNKNOWN
 from .encode import KNOWN
+from .geopackage import without_accents
 from .reading import Number
 
 # A part of the filter: its value, its place, and what it lies in, the outermost first.
@@ -189,7 +190,7 @@ def number_as_text(part, table):
     found = operands(part)
     columns = [property_of(x) for x, _ in found if property_of(x) and family(x, table) in (DATE, DATETIME)]
     for x, place in found:
-        if columns and isinstance(x, str) and re.fullmatch(r'\s*[+-]?([0-9]+\.?[0-9]*|\.[0-9]+)([eE][+-]?[0-9]+)?\s*', x):
+        if columns and isinstance(x, str) and re.fullmatch(r'\s*[+-]?([0-9]+\.?[0-9]*|\.[0-9]+)([eE][+-]?[0-9]+)?\s*', x, re.ASCII):
             yield place, {'column': columns[0]}
 
 
@@ -240,7 +241,8 @@ def same_folds(one, other):
     (x, names, _), (y, others, _) = folds(one), folds(other)
     if names == others:
         return True
-    plain = lambda value, missing: isinstance(value, str) and ('casei' not in missing or value == value.lower())
+    kept = {'casei': str.lower, 'accenti': without_accents}
+    plain = lambda value, missing: isinstance(value, str) and all(value == kept[fold](value) for fold in missing)
     # a written text that a fold leaves as it is may stand beside a folded column, whose collation must be the one that counts: the left one, if any
     return names > others and plain(y, names - others) or not names and plain(x, others)
 
@@ -270,6 +272,13 @@ def declared_collation(part, table):
             return
 
 
+def other_order(part, table):
+    """Texts that are ordered by a file's own bytes, and these are UTF-16."""
+    found = operands(part) if operator(part.value) in ('<', '>', '<=', '>=') and table.encoding() != 'UTF-8' else []
+    if found and TEXT in {family(x, table) for x, _ in found} and not any(folds(x)[1] for x, _ in found):
+        yield part.place, {'encoding': table.encoding()}
+
+
 def fold_in_function(part, table):
     name = operator(part.above[-1]) if part.above else None
     if operator(part.value) in FOLDS and name is not None and name not in KNOWN:
@@ -287,6 +296,12 @@ def pattern(part):
 def like_case(part, table):
     text, place, both, _ = pattern(part) or ('', '', set(), set())
     if re.search('[A-Za-z]', text) and 'casei' not in both:
+        yield place, {}
+
+
+def like_case_beyond(part, table):
+    text, place, _, either = pattern(part) or ('', '', set(), set())
+    if 'casei' in either and any(not c.isascii() and not c.lower() == c == c.upper() for c in text):
         yield place, {}
 
 

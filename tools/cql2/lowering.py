@@ -65,10 +65,21 @@ def keyword(node):
     return 'the function %s is a keyword of %s: give it another name where it is registered, or use another function' % (name, whose)
 
 
+def unfit(node):
+    """The words for a text that is refused: the first character that it may not have, or its length."""
+    text = node.head[1:].decode('utf-8', 'surrogatepass')
+    for k, c in enumerate(text, 1):
+        if c < ' ' or c == '\x7f':
+            return 'the text has a control character, U+%04X, as its character %d: none below U+0020 is taken, nor U+007F' % (ord(c), k)
+        if '\ud800' <= c <= '\udfff':
+            return 'the text has half of a surrogate pair, \\u%04x, as its character %d: the two halves make a character, one alone is none' % (ord(c), k)
+    return 'the text has %d bytes as UTF-8, and 4,096 is the most' % (len(node.head) - 1)
+
+
 def told(number, node):
     """The words and the place for the record that breaks the rule."""
     if number == 6:
-        words = node.kind in (records.ID, records.FUNCTION) and keyword(node)
+        words = unfit(node) if node.kind == records.STR else node.kind in (records.ID, records.FUNCTION) and keyword(node)
         return words or node.rule or RULES[node.kind], node.place + ('.op' if node.kind == records.FUNCTION else '')
     stray = [child for child in node.children if child.kind == records.INTERVAL]
     name = records.OPERATORS[int.from_bytes(node.head[:2], 'little')] if node.kind == records.DYADIC else ''

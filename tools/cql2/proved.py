@@ -82,7 +82,7 @@ def run(name, cases):
         done = subprocess.run([path_of(name)], input=data, stdout=subprocess.PIPE)
     except OSError as e:
         raise BadInput('cannot run %s: %s' % (path_of(name), e.strerror))
-    lines = done.stdout.decode('ascii').split('\n')
+    lines = done.stdout.decode('utf-8').split('\n')
     if done.returncode != 0 or len(lines) != len(cases) + 1 or lines[-1]:
         raise BadInput('%s answered %d lines to %d cases (status %d)' % (path_of(name), len(lines) - 1, len(cases), done.returncode))
     return lines[:-1]

@@ -61,7 +61,6 @@ REFUSED = [
     ('BETWEEN(a, [0, 1, 2])', two('IsBetween', A, array(num(0), num(1), num(2))), ('T', 'a BETWEEN 0 AND 1'), 7),
     ('BETWEEN(a, [0]) or a right side that is no Array', two('IsBetween', A, array(num(0))), ('P', None), 7),
     ('BETWEEN(a, [0]) or a right side that is no Array', two('IsBetween', A, B), ('P', None), 7),
-    ("Str `it's`", text("it's"), ('T', "'it's'"), 6),
     ('Id `and`, Id `x y`, any name', name('and'), ('T', 'and'), 6),
     ('Id `and`, Id `x y`, any name', name('x y'), ('T', 'x y'), 6),
     (KEYWORD, name('order'), ('T', 'order'), 6),
@@ -74,8 +73,8 @@ REFUSED = [
     ('an Interval outside a temporal operator', one('Neg', interval(A, B)), ('P', None), 7),
     ('TDuring(a, b) between instants', two('TDuring', A, B), ('P', None), 7),
     ('TAfter(a, [[b, c], d]): an Interval as an end that the text leaves out', two('TAfter', A, interval(interval(B, C), name('d'))), ('T', 'a > d'), 7),
-    ('Str `é`', text('é'), ('T', "'é'"), 6),
-    ('Str of a byte below 20, as a tab', text('\t'), ('T', "'\t'"), 6),
+    ('Str of a byte below 20 or the byte 7F, as a tab', text('\t'), ('T', "'\t'"), 6),
+    ('Str of a byte below 20 or the byte 7F, as a tab', text('\x7f'), ('T', "'\x7f'"), 6),
     ('Num 10^15', num(10 ** 15), ('T', '1000000000000000'), 6),
     ('Num 10^-10', num(1, 10), ('T', '0.0000000001'), 6),
     ('Str of 4,097 bytes', text('x' * 4097), ('T', "'%s'" % ('x' * 4097)), 6),
@@ -84,6 +83,14 @@ REFUSED = [
     ('33 levels', nested(32, A), ('T', 'NOT (' * 31 + 'NOT a' + ')' * 31), 4),
     ('a tree of 32,774 bytes', array(*[NULL] * 5460, OPEN), ('T', '(%s)' % ', '.join(['NULL'] * 5460 + ["'-2021-01-01'"])), 2),
     ('a text of 65,536 bytes', array(*[OPEN] * 4368, name('x' * 14)), ('T', '(%s)' % ', '.join(["'-2021-01-01'"] * 4368 + ['x' * 14])), 8),
+]
+
+# The first cell of the row; the tree; the Rust's text; the text here; the value that SQLite reads in it.
+APOSTROPHES = [
+    ("Str `'`", text("'"), "'''", "''''", "'"),
+    ("Str `O'Ring`", text("O'Ring"), "'O'Ring'", "'O''Ring'", "O'Ring"),
+    ("Str `''`", text("''"), "''''", "''''''", "''"),
+    ("Str `it's` with flags 1", text("it's", 1), "'it's' COLLATE NC", "'it''s' COLLATE NC", "it's"),
 ]
 
 # The first cell of the row; the tree; its text; a row; what SQLite makes of the text; the tree's meaning in SQLite's words, and what it makes of that.
@@ -109,6 +116,8 @@ OTHER = [
      "instr(lower(a), 'x')", 1),
     ("LIKE(a, 'X'), a `x`", two('IsLike', A, text('X')), "a LIKE ('X')", {'a': 'x'}, 1, "a = 'X'", 0),
     (r"LIKE(a, '10\%'), a `10\5`", two('IsLike', A, text('10\\%')), "a LIKE ('10\\%')", {'a': '10\\5'}, 1, "a LIKE '10\\%' ESCAPE '\\'", 0),
+    ("CaseI(a) LIKE CaseI('É'), a `é`", two('IsLike', one('CaseI', A), text('É', 1)), "(a COLLATE NC) LIKE ('É' COLLATE NC)", {'a': 'é'}, 0,
+     "a COLLATE NC = 'É'", 1),
     ("AccentI(a) LIKE AccentI('cafe'), a `café`", two('IsLike', one('AccentI', A), text('cafe', 2)), "(a COLLATE NA) LIKE ('cafe' COLLATE NA)", {'a': 'café'}, 0,
      "a COLLATE NA = 'cafe'", 1),
     ('Exp, IntDiv, AContains, AContainedBy, AOverlaps', two('Exp', num(2), num(3)), '2 ^ 3', {}, 'unrecognized token: "^"', None, None),
@@ -194,6 +203,18 @@ class Differences(unittest.TestCase):
         for (first, _, (letter, words), _), answer in zip(REFUSED, told):
             with self.subTest(first):
                 self.assertEqual(answer if words is not None else answer[:1], (letter, words) if words is not None else (letter,))
+
+    def test_apostrophes(self):
+        for (first, _, rusts, words, value), line in zip(APOSTROPHES, self.lower(case[1] for case in APOSTROPHES)):
+            with self.subTest(first):
+                self.assertEqual((line, asked(words, {})), (words, value))
+                self.assertNotEqual(asked(rusts, {}), value)
+                self.assertTrue(all('`%s`' % one in self.row(first) for one in (rusts, words)))
+
+    @unittest.skipUnless(rust.program(), rust.MISSING)
+    def test_apostrophes_of_the_rust(self):
+        told = rust.answers([(SETTINGS, case[1].encode()) for case in APOSTROPHES])
+        self.assertEqual(told, [('T', case[2]) for case in APOSTROPHES])
 
     def test_texts(self):
         for (first, _, words, *_), line in zip(OTHER, self.lower(case[1] for case in OTHER)):

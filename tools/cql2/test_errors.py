@@ -116,6 +116,7 @@ BAD = [    # a filter that is not as CQL2-JSON has it, and what the line says
 
 NAME_RULE = 'a name has 1 to 64 letters, digits and underscores, no digit first, and is no keyword of SQLite, nor DIV, FALSE or TRUE'
 OTHER_NAME = 'the property %s is a keyword of SQLite: give the column another name, or show it under one by a view'
+CONTROL = 'the text has a control character, U+%s, as its character %d: none below U+0020 is taken, nor U+007F'
 REFUSED = [    # a filter that document 01 refuses: the number, the place, the beginning of the words
     (op('=', A, 'x' * 33000), 2, None, 'the filter is longer than 32,768 bytes as records (it has'),
     (nested(32), 4, '$' + '.args[0]' * 32, 'this lies deeper than 32 levels'),
@@ -126,11 +127,14 @@ REFUSED = [    # a filter that document 01 refuses: the number, the place, the b
     (op('and', op('=', A, 1), op('isNull', {'property': 'GROUP'})), 6, '$.args[1].args[0].property', OTHER_NAME % 'GROUP'),
     (op('=', {'property': 'true'}, 1), 6, '$.args[0].property', (OTHER_NAME % 'true').replace('SQLite', 'SQL')),
     (op('=', {'property': ''}, 1), 6, '$.args[0].property', NAME_RULE),
-    (op('=', A, "it's"), 6, '$.args[1]', 'a text has at most 4,096 characters'),
-    (op('in', A, ['x', 'Straße']), 6, '$.args[1][1]', 'a text has at most 4,096 characters'),
-    (op('=', A, op('casei', 'é')), 6, '$.args[1].args[0]', 'a text has at most 4,096 characters'),
-    (op('=', A, 'x' * 4097), 6, '$.args[1]', 'a text has at most 4,096 characters'),
-    ('{"op": "=", "args": [{"property": "a"}, "\\ud800"]}', 6, '$.args[1]', 'a text has at most 4,096 characters'),
+    (op('=', A, "it's\n"), 6, '$.args[1]', CONTROL % ('000A', 5)),
+    (op('in', A, ['x', 'Straße\x7f']), 6, '$.args[1][1]', CONTROL % ('007F', 7)),
+    (op('=', A, op('casei', 'é\0')), 6, '$.args[1].args[0]', CONTROL % ('0000', 2)),
+    (op('=', A, 'x' * 4097), 6, '$.args[1]', 'the text has 4097 bytes as UTF-8, and 4,096 is the most'),
+    (op('=', A, 'é' * 2049), 6, '$.args[1]', 'the text has 4098 bytes as UTF-8, and 4,096 is the most'),
+    ('{"op": "=", "args": [{"property": "a"}, "\\ud800"]}', 6, '$.args[1]', 'the text has half of a surrogate pair, \\ud800, as its character 1: '),
+    ('{"op": "=", "args": [{"property": "a"}, "\\ud83d\\udd29\\udd29"]}', 6, '$.args[1]',
+     'the text has half of a surrogate pair, \\udd29, as its character 2: '),
     ('{"op": "=", "args": [{"property": "a"}, 1000000000000000]}', 6, '$.args[1]', 'a number has at most 15 digits'),
     ('{"op": "=", "args": [{"property": "a"}, 1e400]}', 6, '$.args[1]', 'a number has at most 15 digits'),
     ('{"op": "=", "args": [{"property": "a"}, -1e99999999999999999999]}', 6, '$.args[1]', 'a number has at most 15 digits'),
@@ -147,7 +151,9 @@ REFUSED = [    # a filter that document 01 refuses: the number, the place, the b
     (op('s_within', A, {'type': 'LineString', 'coordinates': [[1.1234567, 2.1234567]] * 300}), 6, '$.args[1]',
      'the geometry written as text is longer than 4,096'),
     # the first in reading order is named, as document 01 has it
-    (op('and', op('=', A, "'"), op('=', {'property': '1'}, 1)), 6, '$.args[0].args[1]', 'a text has'),
+    (op('and', op('=', A, '\t'), op('=', {'property': '1'}, 1)), 6, '$.args[0].args[1]', CONTROL % ('0009', 1)),
+    (op('=', {'property': "O'Ring"}, 1), 6, '$.args[0].property', NAME_RULE),
+    (op('=', {'property': 'Flügel'}, 1), 6, '$.args[0].property', NAME_RULE),
     ('{"op": "and", "args": [{"op": "=", "args": [{"property": "1"}, 1]}, {"op": "=", "args": [{"property": "a"}, 1e400]}]}', 6,
      '$.args[0].args[0].property', NAME_RULE),
     (op('t_during', A, interval('..', '..')), 7, '$', 't_during takes an interval on both sides'),
@@ -228,6 +234,11 @@ class Errors(unittest.TestCase):
             subprocess.run(['cp', '-r', FILTER, os.path.join(proved.ROOT, 'tools'), os.path.join(proved.ROOT, 'crates.txt'), folder], check=True)
             done = subprocess.run([sys.executable, os.path.join(folder, 'filter'), 'true'], capture_output=True, env={'PATH': folder})
             self.assertEqual(self.line(done, 2), 'the proved program is not built, and `rt` of the Rattle kit is not on the PATH')
+
+    def test_a_text_is_written_as_utf_8(self):
+        """Whatever characters the terminal has."""
+        done = run('-', data=json.dumps(op('=', A, "Flügel 🔩 o'")).encode(), env={**os.environ, 'PYTHONIOENCODING': 'latin-1'})
+        self.assertEqual((done.stdout, done.stderr), ("a = 'Flügel 🔩 o'''\n".encode(), b''))
 
     def test_help_and_broken_pipe(self):
         done = run('--help')

@@ -35,6 +35,9 @@ PICKS = [
     (op('not', op('=', TRAY, 'left')), lambda l, t, a, b: t is not None and t != 'left'),
     (op('or', op('<', ENTRY, {'date': '2026-03-03'}), op('>=', EXIT, {'date': '2026-04-01'})),
      lambda l, t, a, b: a and a < '2026-03-03' or b and b >= '2026-04-01'),
+    (op('=', LABEL, "O'Ring 5 mm"), lambda l, t, a, b: l == "O'Ring 5 mm"),
+    (op('or', op('>=', LABEL, 'Flügel'), op('<', LABEL, "O'")), lambda l, t, a, b: l.encode() >= 'Flügel'.encode() or l < "O'"),
+    (op('and', op('<>', LABEL, 'Flügel'), op('<', LABEL, 'Flügeln')), lambda l, t, a, b: l != 'Flügel' and l < 'Flügeln'),
     (op('in', LABEL, ['cup', 'bowl']), lambda l, t, a, b: l in ('cup', 'bowl')),
     (op('like', LABEL, '%u%'), lambda l, t, a, b: 'u' in l),
     (op('between', {'property': 'fid'}, 10, 20), None),
@@ -87,7 +90,7 @@ class Rows(unittest.TestCase):
         self.assertTrue(any(row[4] is None for row in rows) and any(row[3] is None for row in rows) and any(row[2] is None for row in rows))
 
     def test_reader_and_sqlite_agree(self):
-        for data, _ in PICKS[:13]:
+        for data, _ in PICKS[:16]:
             with self.subTest(data):
                 self.assertEqual(sum(checking.check(self.package, 'stays', sql_of(data)).values()), 200)
 
@@ -99,11 +102,13 @@ class Rows(unittest.TestCase):
     def test_collations(self):
         path = self.other('words.gpkg', 'DELETE FROM stays', *["INSERT INTO stays (label) VALUES ('%s')" % word for word in WORDS])
         package = geopackage.GeoPackage(path, COLLATIONS)
-        # the pattern or value must be ASCII, so accents can only be on the column's side
         for data, want in ((op('=', op('casei', LABEL), op('casei', 'cUP')), ['cup', 'CUP', 'Cup']),
                            (op('=', op('accenti', LABEL), op('accenti', 'cafe')), ['cafe', 'café']),
                            (op('=', op('casei', op('accenti', LABEL)), op('casei', op('accenti', 'CAFE'))), ['cafe', 'café', 'CAFÉ']),
-                           (op('=', LABEL, 'cafe'), ['cafe'])):
+                           (op('=', op('accenti', LABEL), op('accenti', 'café')), ['cafe', 'café']),
+                           (op('=', op('casei', LABEL), op('casei', 'CAFÉ')), ['café', 'CAFÉ']),
+                           (op('=', op('casei', op('accenti', LABEL)), op('accenti', op('casei', 'Café'))), ['cafe', 'café', 'CAFÉ']),
+                           (op('=', LABEL, 'cafe'), ['cafe']), (op('=', LABEL, 'café'), ['café'])):
             self.assertEqual([row[1] for row in package.select('stays', sql_of(data))], want)
         package.connection.close()
 

@@ -28,7 +28,9 @@ class Maker:
         return {'property': self.r.choice(('a b', '1', 'or', '', 'é', 'x' * 65)) if self.faulty() else self.r.choice(('a', 'b1', '_c', 'x' * 64))}
 
     def text(self):
-        return self.r.choice(("'", 'é', '\n', 'x' * 4097)) if self.faulty() else self.r.choice(('', 'x', 'two words', '%_"'))
+        if self.faulty():
+            return self.r.choice(('\n', "it's\x7f", '\ud800', 'é\udc80', 'x' * 4097, 'é' * 2049))
+        return self.r.choice(('', 'x', 'two words', '%_"', "O'Ring 5 mm", "''", 'Flügel', "🔩'\x80", "'" * 30))
 
     def number(self):
         return self.r.choice((1e15, 1e-10, 1e300)) if self.faulty() else self.r.choice((0, 1, -2.5, 1e-9, 999999999999999, 0.25))

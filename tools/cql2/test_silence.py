@@ -42,7 +42,7 @@ class Maker:
         return op(name, *[x if name in INSTANTS and self.r.random() < .4 else self.interval() for x in sides])
 
     def character(self):
-        value = self.r.choice(({'property': 's'}, {'property': 't'}, 'x', 'X', 'xy', '%'))
+        value = self.r.choice(({'property': 's'}, {'property': 't'}, {'property': 's'}, {'property': 't'}, 'x', 'X', 'xy', '%', 'é', 'É', 'e', "x'"))
         for _ in range(self.r.choice((0, 0, 0, 1, 1, 2, 3))):
             value = op(self.r.choice(('casei', 'accenti')), value)
         return value
@@ -50,9 +50,9 @@ class Maker:
     def text(self):
         kind = self.r.random()
         if kind < .2:
-            return op('like', self.character(), self.r.choice(('x%', '_', '%', op('casei', 'X%'))))
+            return op('like', self.character(), self.r.choice(('x%', '_', '%', op('casei', 'X%'), "%'", 'É%', 'é', op('casei', 'É'), op('accenti', 'e'))))
         if kind < .4:
-            return op('in', self.character(), [op('casei', 'X') if self.r.random() < .3 else self.r.choice(('x', 'X', 'y')) for _ in range(self.r.choice((1, 2, 3)))])
+            return op('in', self.character(), [op('casei', 'X') if self.r.random() < .3 else self.r.choice(('x', 'X', 'y', 'é', "x'")) for _ in range(self.r.choice((1, 2, 3)))])
         return op(self.r.choice(sorted(COMPARED)), self.character(), self.character())
 
     def number(self, depth):
@@ -70,7 +70,7 @@ class Maker:
 
     def row(self):
         (a, b), (c, d) = (sorted(self.r.choice(DAYS) for _ in range(2)) for _ in range(2))
-        row = {'a': a, 'b': b, 'c': c, 'd': d, 's': self.r.choice(('x', 'X', 'xy', 'é')), 't': self.r.choice(('x', 'X', 'é', 'É')), 'm': self.r.randrange(-3, 9),
+        row = {'a': a, 'b': b, 'c': c, 'd': d, 's': self.r.choice(('x', 'X', 'xy', 'é', 'e', "x'", "'")), 't': self.r.choice(('x', 'X', 'é', 'É', "''", 'E')), 'm': self.r.randrange(-3, 9),
                'n': self.r.randrange(1, 5)}
         return {name: None if self.r.random() < .15 else value for name, value in row.items()}
 

@@ -34,9 +34,16 @@ def point(*numbers):
 
 
 AB, CD = interval(A, B), interval(C, D)
+APOSTROPHES = [    # the Rust writes each once
+    (op('=', A, "O'Ring 5 mm"), "a = 'O''Ring 5 mm'"), (op('in', A, ["'", "''", 'x']), "a IN ('''', '''''', 'x')"),
+    (op('=', op('casei', A), op('casei', "d'Été")), "(a COLLATE CQL2_CI) = 'd''Été' COLLATE CQL2_CI"), (op('like', A, "%'%"), "a LIKE ('%''%')"),
+    (op('f', "';--"), "f(''';--')")]
 TEXTS = [    # a filter, and its text written by hand from src/ds/gpkg.rs
     (op('=', A, 1), 'a = 1'),
     (op('<>', A, 'x'), "a <> 'x'"),
+    (op('=', A, 'Flügel'), "a = 'Flügel'"),
+    (op('<', '🔩 \x80\u2028\ufeff', A), "'🔩 \x80\u2028\ufeff' < a"),
+    (op('=', op('accenti', A), op('accenti', 'Flügel')), "(a COLLATE CQL2_AI) = 'Flügel' COLLATE CQL2_AI"),
     (op('<', A, DAY), "a < '2024-02-29'"),
     (op('>', A, LATER), "a > '2024-03-01T23:59:58'"),
     (op('<=', A, True), 'a <= TRUE'),
@@ -158,6 +165,7 @@ class Texts(unittest.TestCase):
         proved.build(['lower', 'read'])
 
     def cases(self):
+        """Those of which the Rust's text is the same."""
         yield from TEXTS + STANDARD
         for text, shown in NUMBERS:
             yield b'{"op": "=", "args": [{"property": "a"}, %s]}' % text.encode(), 'a = ' + shown
@@ -165,7 +173,7 @@ class Texts(unittest.TestCase):
             yield op('s_crosses', geometry, A), "ST_Crosses(ST_GeomFromText('%s', 4326), a)" % wkt
 
     def test_texts_as_written_by_hand(self):
-        for data, text in self.cases():
+        for data, text in [*self.cases(), *APOSTROPHES]:
             with self.subTest(data):
                 self.assertEqual(sql_of(data), text)
 
@@ -182,7 +190,7 @@ class Texts(unittest.TestCase):
         self.assertEqual(set(KNOWN) - used, set())
 
     def test_texts_of_the_model(self):
-        for data, text in self.cases():
+        for data, text in [*self.cases(), *APOSTROPHES]:
             with self.subTest(data):
                 encoded = tree_of(data).encode()
                 tree = checker.tree_of(encoded)
@@ -196,6 +204,13 @@ class Texts(unittest.TestCase):
         for (data, text), answer in zip(cases, told):
             with self.subTest(data):
                 self.assertEqual(answer, ('T', text))
+
+    @unittest.skipUnless(rust.program(), rust.MISSING)
+    def test_apostrophes_of_the_rust(self):
+        told = rust.answers([(records.settings(*SETTINGS), tree_of(data).encode()) for data, _ in APOSTROPHES])
+        for (_, text), (letter, other) in zip(APOSTROPHES, told):
+            self.assertEqual(letter, 'T')
+            self.assertNotEqual(other, text)
 
     def test_where_the_tree_is_not_that_of_the_rusts_reader(self):
         """README says how `and` and `or` of more than two are grouped, here and there."""

@@ -16,6 +16,7 @@ from .test_texts import A, B, C, D, DAY, interval, op, point
 
 TEXT, INTEGER, DATE = 'TEXT', 'INTEGER', 'DATE'
 F = {'property': 'fid'}
+UTF_16 = 'a GeoPackage whose texts are UTF-16'
 
 
 def casei(x):
@@ -66,6 +67,9 @@ CASES = [
     ('a column of another declared type', op('not', A), ['$.args[0]'], [TEXT], [['true']], None, [1], None),
     ("LIKE(a, 'X'), a `x`", op('like', A, 'X%'), ['$.args[1]'], [TEXT], [['xy'], ['Xy']], [2], [1, 2], None),
     ("LIKE(a, 'X'), a `x`", op('like', casei(A), 'X%'), ['$.args[1]'], [TEXT], [['xy']], [], [1], (op('like', casei(A), casei('X%')), [1])),
+    ("CaseI(a) LIKE CaseI('É'), a `é`", op('like', casei(A), casei('É%')), ['$.args[1]'], [TEXT], [['été'], ['Été']], [1, 2], [2],
+     (op('like', casei(A), casei('_t%')), [1, 2])),
+    ("CaseI(a) LIKE CaseI('É'), a `é`", op('like', A, casei('É')), ['$.args[1]'], [TEXT], [['é'], ['É']], [1], [2], op('=', A, 'é')),
     ("AccentI(a) LIKE AccentI('cafe'), a `café`", op('like', casei(accenti(A)), casei(accenti('caf%'))), ['$.args[1]'], [TEXT],
      [['cáfe'], ['cafe']], [1, 2], [2], None),
     (r"LIKE(a, '10\%'), a `10\5`", op('like', A, '10\\%'), ['$.args[1]'], [TEXT], [['10%'], ['10\\5']], [1], [2], None),
@@ -73,6 +77,8 @@ CASES = [
      [['Café'], ['CAFE']], [1, 2], [2], op('=', casei(accenti(A)), accenti(casei('cafe')))),
     ('= with a collation on both sides, or on one', op('=', casei(A), accenti('X')), ['$'], [TEXT], [['x'], ['X']], [], [1, 2], (op('=', casei(A), casei('X')), [1, 2])),
     ('= with a collation on both sides, or on one', op('=', A, casei('x')), ['$'], [TEXT], [['x'], ['X']], [1], [1, 2], op('=', A, 'x')),
+    ('= with a collation on both sides, or on one', op('=', accenti(A), 'é'), ['$'], [TEXT], [['e'], ['é']], [], [1, 2],
+     (op('=', accenti(A), 'e'), [1, 2])),
     ("IN(x, ['X' with flags 1, 'y'])", op('in', A, [casei('x'), 'y']), ['$.args[1][0]'], [TEXT], [['x'], ['X']], None, [1],
      (op('in', casei(A), [casei('x'), casei('y')]), [1, 2])),
     ('a column declared with a collation', op('=', A, 'x'), ['$.args[0]'], ['TEXT COLLATE NOCASE'], [['x'], ['X']], [1], [1, 2],
@@ -106,7 +112,9 @@ FINE = [    # a filter, and the columns as declared; no warning with them, nor w
     (op('=', A, op('/', 6, 2)), [INTEGER]), (op('=', A, op('*', B, 0.5)), ['REAL', INTEGER]), (op('between', A, 1, op('+', B, 2)), [INTEGER] * 2),
     (op('not', op('s_intersects', A, point(1, 2))), ['POINT']), (op('and', *there(A), op('s_intersects', A, point(1, 2))), ['POINT']),
     (op('=', {'property': 'keys'}, 1), None), (op('=', A, True), ['BOOLEAN']), (True, [TEXT]), (op('>=', A, stamp('2026-03-01T12:00:00Z')), ['DATETIME']),
-    (op('=', A, '2024-01-01'), [DATE]), (op('not', A), ['BOOLEAN']), (A, [INTEGER]),
+    (op('=', A, '2024-01-01'), [DATE]), (op('not', A), ['BOOLEAN']), (A, [INTEGER]), (op('=', A, "O'Ring 5 mm"), [TEXT]),
+    (op('or', op('=', A, 'Flügel'), op('<', A, "''")), [TEXT]), (op('like', A, "%ü'%"), [TEXT]), (op('like', A, '🔩_'), [TEXT]),
+    (op('=', casei(A), casei('FLÜGEL')), [TEXT]), (op('=', casei(A), 'flügel'), [TEXT]), (op('in', A, ["'", 'é']), [TEXT]),
 ]
 
 
@@ -121,11 +129,12 @@ class Warnings(unittest.TestCase):
     def tearDownClass(cls):
         cls.folder.cleanup()
 
-    def package(self, kinds, rows):
+    def package(self, kinds, rows, encoding='UTF-8'):
         """A GeoPackage with a table t of the columns fid, a, b, c."""
         type(self).made += 1
         path = os.path.join(self.folder.name, '%d.gpkg' % self.made)
         connection = sqlite3.connect(path)
+        connection.execute("PRAGMA encoding = '%s'" % encoding)
         connection.executescript('PRAGMA application_id = 0x47504B47; CREATE TABLE gpkg_contents (table_name, data_type); '
                                  "INSERT INTO gpkg_contents VALUES ('t', 'attributes'); CREATE TABLE t (fid INTEGER PRIMARY KEY, %s)"
                                  % ', '.join('%s %s' % x for x in zip('abc', kinds)))
@@ -174,6 +183,18 @@ class Warnings(unittest.TestCase):
             with self.subTest(case[1]):
                 self.check(*case)
 
+    def test_a_file_of_utf_16(self):
+        """Its texts are ordered by the bytes that it holds, and equal as ever."""
+        entry = next(one for one in differences.TABLE if one.entry == UTF_16)
+        for encoding, rows, found in (('UTF-16le', [['Ā'], ['a']], [1, 2]), ('UTF-16be', [['\U00010000'], ['a']], [1, 2]), ('UTF-8', [['Ā'], ['a']], [2])):
+            path, last = self.package([TEXT], rows, encoding), 'z' if encoding != 'UTF-16be' else '\uffff'
+            text, lines = self.told(op('<', A, last), '-g', path)
+            self.assertEqual(self.picked(path, text), found)
+            begins = 'filter: warning at $: ' + entry.happens.split('%')[0]
+            self.assertEqual([line[:len(begins)] for line in lines], [begins] if encoding != 'UTF-8' else [])
+            for fine in (op('=', A, rows[0][0]), op('<', casei(A), casei('z')), op('isNull', A)):
+                self.assertEqual(self.told(fine, '-g', path, '--strict')[1], [])
+
     def test_fine(self):
         for data, kinds in FINE:
             with self.subTest(data):
@@ -196,7 +217,7 @@ class Warnings(unittest.TestCase):
             document = f.read()
         for one in differences.TABLE:
             self.assertIn('\n| %s |' % one.entry, document)
-        run_here = {case[0] for case in CASES} | {case[0] for case in SPATIAL} | {'SWithin, SOverlaps, STouches of a column'}
+        run_here = {case[0] for case in CASES} | {case[0] for case in SPATIAL} | {'SWithin, SOverlaps, STouches of a column', UTF_16}
         self.assertEqual({one.entry for one in differences.TABLE} - run_here, set())
 
     def test_a_text_that_is_too_deep_for_sqlite(self):

@@ -33,6 +33,7 @@ SYSTEMS = [('Undefined Cartesian SRS', -1, 'NONE', -1, UNDEFINED, 'undefined Car
            ('WGS 84 geodetic', 4326, 'EPSG', 4326, WGS84, 'longitude/latitude coordinates in decimal degrees on the WGS 84 spheroid')]
 
 
+LABELS = ('bolt', 'bowl', 'cup', "O'Ring 5 mm", 'Flügel')
 BENCH = -1    # metres on the bench: the Cartesian system that has no further definition
 WIDTH, DEPTH = 1.2, 0.6
 
@@ -51,7 +52,7 @@ def stays(count, seed):
         came = first + datetime.timedelta(days=pick.randrange(31))
         left = came + datetime.timedelta(days=pick.choice((0, 1, 1, 2, 3, 5, 8)))
         unseen, still_open = pick.random() < 0.04, pick.random() < 0.12
-        rows.append((pick.choice(('bolt', 'bowl', 'cup', 'gauge', 'wrench')), pick.choice(('left', 'middle', 'right', None)),
+        rows.append((pick.choice(LABELS), pick.choice(('left', 'middle', 'right', None)),
                      None if unseen else came.isoformat(), None if still_open else left.isoformat(),
                      point(round(pick.uniform(0, WIDTH), 2), round(pick.uniform(0, DEPTH), 2))))
     return rows

@@ -3,7 +3,7 @@
 
 usage: python3 tools/differences/sqlite.py
 
-Exits with 1 if an answer is not the one that stands beside the text here, if fewer than 35 texts were run, or if other numbers of keywords are
+Exits with 1 if an answer is not the one that stands beside the text here, if fewer than 47 texts were run, or if other numbers of keywords are
 read bare."""
 import collections
 import os
@@ -16,7 +16,7 @@ from model.lowering import text as text_of
 from model.names import KEYWORDS
 from model.records import SHEET_SETTINGS
 
-TEXTS = 35
+TEXTS = 47
 ANDS_TAKEN = 28
 BARE = {'syntax error': 59, 1: 84, 0: 3, None: 1}    # of SQLite's 147 keywords
 CLOCK = ['CURRENT_DATE', 'CURRENT_TIME', 'CURRENT_TIMESTAMP']
@@ -76,6 +76,18 @@ CASES = [    # a text, a row, the declared type of its columns, and SQLite's ans
     ("'2024-01-01' < '-2021-01-01'", {}, "", 0),
     ("'2024-01-01' < '2024-01-01T00:00:00'", {}, "", 1),
     ("'2024-01-01T00:00:00' = '2024-01-01T00:00:00.000Z'", {}, "", 0),
+    ("'O''Ring'", {}, "", "O'Ring"),
+    ("'O'Ring'", {}, "", 'error: near "Ring": syntax error'),
+    ("''''", {}, "", "'"),
+    ("'''", {}, "", "error: unrecognized token: \"''')\""),
+    ("''''''", {}, "", "''"),
+    ("'it's' COLLATE NC", {}, "", 'error: near "s": syntax error'),
+    ("a COLLATE NC LIKE ('É' COLLATE NC)", {"a": "é"}, "TEXT", 0),
+    ("a COLLATE NC = 'É'", {"a": "é"}, "TEXT", 1),
+    ("'Flügel' = 'Flu\u0308gel'", {}, "", 0),
+    ("'z' < 'é' AND '\uffff' < '\U00010000'", {}, "", 1),
+    ("CAST(X'E9' AS TEXT) > 'z'", {}, "", 1),
+    ("a = 'x\t'", {"a": "x\t"}, "TEXT", 1),
 ]
 
 
@@ -108,9 +120,27 @@ def keywords():
         sys.exit('these are not the counts of docs/DIFFERENCES.md')
 
 
+ORDERS = {'UTF-8': (0, 1), 'UTF-16le': (1, 0), 'UTF-16be': (0, 0)}    # by how the file holds its texts: a < 'z' for a Ā, U+FFFF < U+10000
+
+
+def orders():
+    """How texts are ordered in files of each encoding. Exits with 1 if it is another."""
+    found = {}
+    for encoding in ORDERS:
+        base = sqlite3.connect(':memory:')
+        base.execute("PRAGMA encoding = '%s'" % encoding)
+        base.execute("CREATE TABLE t AS SELECT 'Ā' AS a")
+        found[encoding] = base.execute("SELECT a < 'z', '\uffff' < '\U00010000' FROM t").fetchone()
+        base.close()
+    print('order of texts:', found)
+    if found != ORDERS:
+        sys.exit('these are not the orders of docs/DIFFERENCES.md')
+
+
 def main():
     print('SQLite', sqlite3.sqlite_version)
     keywords()
+    orders()
     row, differ = {'a': '1', 'b': '2', 'c': '3', 'd': '4'}, 0
     deep = [(ands_over_disjoint(count), row, 'TEXT') for count in (ANDS_TAKEN, ANDS_TAKEN + 1)]
     cases = CASES + [(*deep[0], 1), (*deep[1], 'error: parser stack overflow')]

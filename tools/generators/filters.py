@@ -6,16 +6,19 @@ from model.limits import FLAGS, MANTISSA, PLANNER, PRECISION
 from model.names import is_name
 from model.operators import BETWEEN, DYADIC, INSTANT_OR_INTERVAL, MONADIC, TEMPORAL
 from model.records import SHEET_SETTINGS, Settings, encode, levels
-from model.strings import is_str
 
-STR_LETTERS = ''.join(chr(code) for code in range(0x80) if is_str(bytes([code])))
+STR_LETTERS = ''.join(chr(code) for code in range(0x20, 0x7f) if code != ord("'"))    # of which the Rust's text is SQLite's
+
+
+def plain_text(r):
+    return ''.join(r.choice(STR_LETTERS) for _ in range(r.choice([0, 1, 3, 9])))
 
 
 class Maker:
-    """`r` may be one that others use too."""
+    """`r` may be one that others use too. `some_text`: makes the text of a Str."""
 
-    def __init__(self, r):
-        self.r = r
+    def __init__(self, r, some_text=plain_text):
+        self.r, self.some_text = r, some_text
 
     def name(self, most=12):
         r = self.r
@@ -40,7 +43,7 @@ class Maker:
                           r.randrange(-10 ** 14, 10 ** 14)])
             return ('num', m, r.randrange(10))
         if k == 5:
-            return ('str', r.randrange(FLAGS + 1), ''.join(r.choice(STR_LETTERS) for _ in range(r.choice([0, 1, 3, 9]))))
+            return ('str', r.randrange(FLAGS + 1), self.some_text(r))
         if k == 6:
             return ('date',) + self.day()
         if k == 7:
@@ -95,9 +98,9 @@ class Maker:
         return Settings(self.r.randrange(PRECISION + 1), self.name(), self.name(), self.name())
 
 
-def accepted(count, seed):
+def accepted(count, seed, some_text=plain_text):
     """Settings and tree, `count` times but for those past a limit: each operator at the root in turn, then as many of any kind, and so on."""
-    maker = Maker(random.Random(seed))
+    maker = Maker(random.Random(seed), some_text)
     roots = [('monadic', name) for name in MONADIC] + [('dyadic', name) for name in DYADIC]
     for k in range(count):
         turn, depth = k % (2 * len(roots)), maker.r.choice([1, 1, 2, 3, 4, 6])

@@ -33,8 +33,8 @@ def bracketed(bare, written):
 
 
 class Writer:
-    """One method for each kind. Of a text longer than `most` characters no more than that is kept, at each node: ends that are written twice at
-    each of 30 levels would fill the memory."""
+    """One method for each kind. Of a text longer than `most` characters, each a byte or more, no more than that is kept, at each node: ends that are
+    written twice at each of 30 levels would fill the memory."""
 
     def __init__(self, settings, most=sys.maxsize):
         self.settings, self.most = Settings(*settings), most

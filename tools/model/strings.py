@@ -1,14 +1,20 @@
-"""What texts in records may hold, and how a string stands in quotes (document 01, "Records" and "Truth"). Str and row values have one rule."""
+"""What texts in records may hold, and how a string stands in quotes (document 01, "Records" and "Truth"; document 02, slip 2). Str and row values
+have one rule."""
 import re
 
-RUN = rb'[\x20-\x26\x28-\x7e]*'    # bytes 20 to 7E except the apostrophe
-STR = re.compile(RUN + rb'\Z')
-QUOTED = rb"'(?P<text>" + RUN + rb")'"    # a string in an SQL text: what stands between its marks is `text`
+CONTROLS = re.compile(rb'[\x00-\x1f\x7f]')
+QUOTED = rb"'(?P<text>[^']*(?:''[^']*)*)'(?!')"    # a string in an SQL text ends at the first apostrophe that is not doubled; between is `text`
 SPATIAL = re.compile(rb'[A-Za-z0-9 ,()\-.]*\Z')
 
 
 def is_str(data):
-    return STR.match(data) is not None
+    """Well-formed UTF-8, as Python's strict decoder has it, without the bytes 00 to 1F and 7F. test_model.py holds the decoder against the
+    Unicode standard's Table 3-7."""
+    try:
+        data.decode('utf-8', 'strict')
+    except UnicodeDecodeError:
+        return False
+    return CONTROLS.search(data) is None
 
 
 def is_spatial(data):
@@ -16,10 +22,10 @@ def is_spatial(data):
 
 
 def quoted(text):
-    """As the lowering writes it."""
-    return "'" + text + "'"
+    """A str as the lowering writes it: between apostrophes, each of its own doubled."""
+    return "'" + text.replace("'", "''") + "'"
 
 
 def value_of(written):
-    """The value of what stands between the marks, as the reader takes it."""
-    return written
+    """The value of the bytes between the marks, as the reader takes it: of two apostrophes one."""
+    return written.replace(b"''", b"'")

@@ -2,10 +2,12 @@
 
   python3 -m unittest discover -s tools     all tests of the command, of the programs and of the model"""
 import ast
+import itertools
 import os
+import re
 import unittest
 
-from model import calls, lowering, names, records
+from model import calls, lowering, names, records, strings
 from model.records import SHEET_SETTINGS, array, dyadic, encode, ident, interval, monadic, null, row, settings_record
 
 SETTINGS = settings_record(SHEET_SETTINGS)
@@ -22,7 +24,21 @@ TEXTS = [    # sheets A to M
      "ST_Within(ST_ReducePrecision(g, 1E-7), ST_GeomFromText('POINT (1 2)', 4326))"),
     (('dyadic', 'SWithin', G, H), 'ST_Within(g, h)'),
     (('timestamp', 2024, 2, 29, 1, 2, 3), "'2024-02-29T01:02:03'"), (('dyadic', 'TDisjoint', A, B), 'a != b'),
-    (('dyadic', 'AEquals', ('array', []), ('array', [])), '() = ()'), (('num', 0, 9), '0')]
+    (('dyadic', 'AEquals', ('array', []), ('array', [])), '() = ()'), (('num', 0, 9), '0'), (('str', 0, "O'Ring"), "'O''Ring'"),
+    (('str', 0, "'"), "''''"), (('str', 0, ''), "''"), (('str', 3, "''"), "'''''' COLLATE NCA"), (('str', 1, 'Flügel'), "'Flügel' COLLATE NC")]
+TABLE_3_7 = [    # of the Unicode standard: well-formed UTF-8 byte sequences
+    rb'[\x00-\x7f]', rb'[\xc2-\xdf][\x80-\xbf]', rb'\xe0[\xa0-\xbf][\x80-\xbf]', rb'[\xe1-\xec][\x80-\xbf]{2}', rb'\xed[\x80-\x9f][\x80-\xbf]',
+    rb'[\xee-\xef][\x80-\xbf]{2}', rb'\xf0[\x90-\xbf][\x80-\xbf]{2}', rb'[\xf1-\xf3][\x80-\xbf]{3}', rb'\xf4[\x80-\x8f][\x80-\xbf]{2}']
+WELL_FORMED = re.compile(rb'(?:' + rb'|'.join(TABLE_3_7) + rb')*\Z')
+EVERY = bytes(range(256))
+EDGES = bytes(sorted({0, 0x20, 0x7f, 0xff} | {edge + step for edge in (0x80, 0x90, 0xa0, 0xc0) for step in (-1, 0)}))    # of the table's later bytes
+LEADS = bytes(range(0xc0, 0x100))
+ILL_FORMED = [    # a lone continuation, overlong forms, surrogates, above U+10FFFF, bytes that no sequence has, cut short at each place
+    b'\x80', b'\xbf', b'a\x80', b'\xc3\xa9\xa9', b'\xc0\xa7', b'\xc1\xbf', b'\xe0\x9f\xbf', b'\xf0\x8f\xbf\xbf', b'\xed\xa0\x80', b'\xed\xbf\xbf',
+    b'\xf4\x90\x80\x80', b'\xf5\x80\x80\x80', b'\xff', b'\xfe', b'\xc3', b'\xe2\x82', b'\xe2', b'\xf0\x9f\x94', b'\xf0\x9f', b'\xf0', b'\xc3a',
+    b'\xe2\x82a', b'\xf0\x9f\x94a']
+VALID = [b'', b"'", b"''", b"O'Ring", 'Flügel'.encode(), b'\xc2\x80', b'\xc2\x9f', b'\xdf\xbf', b'\xe0\xa0\x80', b'\xed\x9f\xbf', b'\xee\x80\x80',
+         b'\xef\xbf\xbf', b'\xf0\x90\x80\x80', b'\xf4\x8f\xbf\xbf', b' ', b'~', b'\xf0\x9f\x94\xa9\'']
 BYTES = [    # some trees as bytes, by hand
     (NULL, '020000000000'), (('num', -5, 1), '0b0000000300fbffffffffffffff01'), (A, '03000000080061'),
     (('dyadic', 'TAfter', A, ('interval', A, OPEN)), '1e0000000a001a00' '03000000080061' '0f0000000d00' '03000000080061' '020000000100')]
@@ -39,8 +55,9 @@ class Lowering(unittest.TestCase):
     def test_texts(self):
         for tree, text in TEXTS:
             self.assertEqual(lowering.text(SHEET_SETTINGS, tree), text)
-            self.assertEqual(calls.to_sql(SETTINGS, encode(tree), len(text)), text.encode())
-            self.assertEqual(calls.to_sql(SETTINGS, encode(tree), len(text) - 1), 9)
+            written = text.encode()
+            self.assertEqual(calls.to_sql(SETTINGS, encode(tree), len(written)), written)
+            self.assertEqual(calls.to_sql(SETTINGS, encode(tree), len(written) - 1), 9)
 
     def test_bytes(self):
         self.assertEqual(SETTINGS.hex(), '0d0000006400' '07' '024e43' '024e41' '034e4341')
@@ -60,7 +77,8 @@ class Refusals(unittest.TestCase):
         a, b = ident(b'a'), ident(b'b')
         for number, tree in ((2, bytes(32769)), (3, b''), (3, null() + b'\0'), (3, b'\1\0\0\0\0\0'), (4, nested(33)), (5, records.record(14)),
                              (5, monadic(8, a)), (5, dyadic(7, a, b)), (6, ident(b'and')), (6, records.date(1900, 2, 29)),
-                             (6, records.string(b"it's")), (6, records.record(9, b'\7')), (7, interval(a, b)), (7, dyadic(28, a, b)),
+                             (6, records.string(b'\t')), (6, records.string(b'\xc3')), (6, records.record(9, b'\7')), (7, interval(a, b)),
+                             (7, dyadic(28, a, b)),
                              (7, dyadic(47, a, array(a)))):
             self.refused(number, tree)
         for settings in (b'', SETTINGS + b'\0', SETTINGS[:-1], records.settings_bytes(16, b'NC', b'NA', b'NCA'),
@@ -76,7 +94,8 @@ class Refusals(unittest.TestCase):
         self.refused(4, nested(33)[:-6] + records.record(14))
 
     def test_what_passes(self):
-        for tree in (nested(32), records.date(2000, 2, 29), ident(b'n' * 64), records.string(b'x' * 4096, 3), records.num(10 ** 15 - 1, 9)):
+        for tree in (nested(32), records.date(2000, 2, 29), ident(b'n' * 64), records.string(b'x' * 4096, 3), records.string(b"'" * 4096),
+                     records.num(10 ** 15 - 1, 9)):
             self.assertIsInstance(calls.to_sql(SETTINGS, tree, 100000), bytes)
 
     def test_tree_sizes(self):
@@ -93,6 +112,14 @@ class Refusals(unittest.TestCase):
             tree = ('dyadic', 'TEquals', tree, ('interval', A, B))
         for size, number in ((3973, 9), (3974, 8)):
             self.refused(number, encode(('dyadic', 'And', tree, ('array', [longest] * 3 + [('str', 0, 'y' * size)]))), room=65534)
+
+    def test_limits_count_bytes_as_written(self):
+        """A Str of 4,096 apostrophes has a text of 8,194 bytes; seven of them, their collations and 4,032 apostrophes pass 65,535."""
+        self.refused(6, records.string(b"'" * 4097))
+        self.refused(6, records.string('é'.encode() * 2048 + b'x'))
+        self.refused(9, records.string(b"'" * 4096), room=8193)
+        for last, number in (("'" * 4031 + 'x', 9), ("'" * 4032, 8)):
+            self.refused(number, encode(('array', [('str', 3, "'" * 4096)] * 7 + [('str', 3, last)])), room=65534)
 
     def test_a_long_text(self):
         tree = A
@@ -111,6 +138,31 @@ class Names(unittest.TestCase):
             self.assertTrue(names.is_name(name), name)
 
 
+class Strings(unittest.TestCase):
+    def test_by_hand(self):
+        for value in VALID:
+            self.assertTrue(strings.is_str(value), value)
+        for value in [*ILL_FORMED, *(bytes([b]) for b in (*range(0x20), 0x7f)), b'a\0', b'\xc3\xa9\x7f']:
+            self.assertFalse(strings.is_str(value), value)
+
+    def test_the_decoder_has_the_standards_table(self):
+        """All sequences of one and two bytes; of three and four every lead, with the edges of what follows it."""
+        for sequence in itertools.chain(itertools.product(EVERY), itertools.product(EVERY, EVERY), itertools.product(LEADS, EVERY, EDGES),
+                                        itertools.product(LEADS[0x20:], EVERY, EDGES, EDGES)):
+            data = bytes(sequence)
+            right = WELL_FORMED.match(data) is not None and min(data) >= 0x20 and 0x7f not in data
+            self.assertEqual(strings.is_str(data), right, data)
+
+    def test_each_as_tree_as_row_and_as_text(self):
+        for value in VALID + ILL_FORMED:
+            good, literal = value in VALID, b"'" + value.replace(b"'", b"''") + b"'"
+            self.assertEqual(calls.to_sql(SETTINGS, records.string(value), 100), literal if good else 6)
+            self.assertEqual(calls.read(b'TRUE', row([(b'a', value)])), 'true' if good else 11)
+            self.assertEqual(calls.read(literal + b' = NULL', b''), 'unknown' if good else 12)
+            if good:
+                self.assertEqual(calls.read(literal + b' = a', row([(b'a', value)])), 'true')
+
+
 class Reading(unittest.TestCase):
     def test_sheet_n(self):
         held = row([(b'a', b'2024-01-02'), (b'b', None), (b'c', b'2024-01-01')])
@@ -123,6 +175,12 @@ class Reading(unittest.TestCase):
                 ('true', b'TRUE OR FALSE AND FALSE', b''), ('true', b'b IS NULL AND a NOT NULL', held), (10, b' ' * 65536, b'\0'), (11, b'(', b'\0'),
                 (11, b'TRUE', row([(b'a', b''), (b'A', b'')])), (12, b'zz = ', held), (12, b'(' * 65 + b'TRUE' + b')' * 65, held),
                 ('true', b'(' * 64 + b'TRUE' + b')' * 64, held), (13, b'TRUE OR zz IS NULL', held),
+                ('true', b"'a''b' = x", row([(b'x', b"a'b")])), ('false', b"'a''b' = x", row([(b'x', b"a''b")])), (12, b"'a' 'b' = x", held),
+                ('true', b"'''' = x", row([(b'x', b"'")])), ('true', b"'''''' = x", row([(b'x', b"''")])), ('true', b"'' = x", row([(b'x', b'')])),
+                (12, b"''' = a", held), (12, b"a = 'x''", held), (12, b"a = ''x'", held), ('true', b"'(' < '''(' OR '''(' < '('", held),
+                ('true', b"'it''s' < 'it(s'", b''), ('true', b"'''' < ''''''", b''), ('true', "'z' < 'é'".encode(), b''),
+                ('true', b'\'\xef\xbf\xbf\'<\'\xf0\x90\x80\x80\'', b''), (12, b"a = '\x7f'", held), (12, b"\xc3\xa9 = a", held),
+                ('true', b"''=''AND''=''", b''), (11, b"a = '\x7f'", row([(b'a', b'\xc3')])), (12, b"zz = '\xc3'", held),
                 ('true', b'TRUE'.rjust(65535), b''), (10, b'TRUE'.rjust(65536), b''), (11, b'TRUE', bytes(32768)), (10, b'TRUE', bytes(32769))):
             self.assertEqual(calls.read(text, cells), answer, text[:80])
 

@@ -3,7 +3,7 @@
 The long parts are there because a program must answer, and go on with the next case, also where a part passes every limit and its own buffer."""
 from answers.stored import framed
 from model.operators import NUMBER
-from model.records import SHEET_SETTINGS, dyadic, ident, interval, null, row, settings_record
+from model.records import SHEET_SETTINGS, dyadic, ident, interval, null, row, settings_record, string
 
 SETTINGS, NULL = settings_record(SHEET_SETTINGS), null()
 A, B, C = map(ident, (b'a', b'b', b'c'))
@@ -19,6 +19,9 @@ LOWER = [
     ((SETTINGS, b''), 'refused 3'),
     ((SETTINGS, interval(A, B)), 'refused 7'),
     ((SETTINGS, NULL), 'NULL'),
+    ((SETTINGS, dyadic(NUMBER['Eq'], A, string(b"O'Ring 5 mm"))), "a = 'O''Ring 5 mm'"),
+    ((SETTINGS, string('Flügel'.encode(), 3)), "'Flügel' COLLATE NCA"),
+    ((SETTINGS, string('Flügel'.encode('latin-1'))), 'refused 6'),
 ]
 READ = [
     ((TEXT_J, ROW_N), 'unknown'),
@@ -33,6 +36,10 @@ READ = [
     ((b'TRUE', ROW_N[:-1]), 'refused 11'),
     ((b'1 = 1', ROW_N), 'refused 12'),
     ((b'd IS NULL', ROW_N), 'refused 13'),
+    ((b"a = 'O''Ring 5 mm'", row([(b'a', b"O'Ring 5 mm")])), 'true'),
+    (("a < 'Flügel'".encode(), row([(b'a', b'Flz')])), 'true'),
+    ((b"a = 'O'Ring 5 mm'", row([(b'a', b"O'Ring 5 mm")])), 'refused 12'),
+    ((b'TRUE', row([(b'a', 'Flügel'.encode('latin-1'))])), 'refused 11'),
 ]
 
 # the last case of each: input that ends inside a part, which is answered by the line `incomplete`

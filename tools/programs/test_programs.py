@@ -11,7 +11,7 @@ import unittest
 sys.path.insert(0, os.path.join(os.path.dirname(os.path.abspath(__file__)), '..'))
 from answers.stored import framed
 from cql2 import proved
-from generators import filters, readings, trees
+from generators import filters, readings, text_cases, texts, trees
 from model import calls
 from model.limits import PLANNER
 from model.records import encode, row as row_of, settings_record
@@ -65,7 +65,8 @@ class Programs(unittest.TestCase):
             self.assertEqual(told, [line for _, line in cases])
 
     def test_lowerings_of_the_model(self):
-        cases = [(settings_record(settings), encode(tree)) for settings, tree in filters.accepted(2000, 7)] + list(trees.mutations(2000, 7))
+        made = [*filters.accepted(2000, 7), *filters.accepted(2000, 8, texts.random_text)]
+        cases = [(settings_record(settings), encode(tree)) for settings, tree in made] + list(trees.mutations(2000, 7))
         told = answers('lower', b''.join(framed(*case) for case in cases))
         for case, line in zip(cases, told):
             want = calls.to_sql(*case, PLANNER.text)
@@ -79,7 +80,7 @@ class Programs(unittest.TestCase):
         for _ in range(5000):
             cells = readings.some_row(r)
             cases.append((readings.joined(r, readings.expression(r, cells, r.randrange(5))), row_of(cells)))
-        cases += list(readings.random_readings(1000, 7))
+        cases += [*readings.random_readings(1000, 7), *text_cases.joined(), *text_cases.marks()]
         told = answers('read', b''.join(framed(*case) for case in cases))
         for case, line in zip(cases, told):
             want = calls.read(*case)

@@ -1,5 +1,5 @@
-//! Lowers CQL2 filters to SQL text for a GeoPackage, byte for byte that of ogc-cql2, and reads what a time filter's text
-//! says of a row.
+//! Lowers CQL2 filters to SQL text for a GeoPackage, byte for byte that of ogc-cql2 but for apostrophes in strings, which
+//! are doubled as SQLite reads them, and reads what a time filter's text says of a row.
 //!
 //! Both jobs are done by functions that are proved to meet document 01's rules on all inputs (crates/capi of this
 //! repository, linked as `libcapi.a`, for x86-64 Linux); this crate builds their bytes from Rust types and refuses nothing
@@ -17,6 +17,11 @@
 //! assert_eq!(read(&sql, &row)?, Some(true));
 //! let no_start = Row::new().with("a", "2024-01-02").with_null("b").with("c", "2024-01-01");
 //! assert_eq!(read(&sql, &no_start)?, None); // unknown
+//!
+//! // A string is any `&str` without control characters.
+//! let label = to_sql(&Settings::default(), &E::dyadic(Op::Eq, E::id("label"), E::str("O'Ring für 5 mm")))?;
+//! assert_eq!(label, "label = 'O''Ring für 5 mm'");
+//! assert_eq!(read(&label, &Row::new().with("label", "O'Ring für 5 mm"))?, Some(true));
 //!
 //! // What breaks a rule is refused, with its number and words.
 //! let refused = to_sql(&Settings::default(), &E::date(1900, 2, 29)).unwrap_err();
@@ -109,7 +114,7 @@ fn refusal(answer: i64) -> Refusal {
     u8::try_from(-answer).ok().and_then(Refusal::from_number).expect("an answer below zero is minus a refusal's number")
 }
 
-/// Document 01 lets only ASCII into names and texts, so a text is ASCII.
+/// Only UTF-8 is let into strings, and only ASCII into all else, so a text is UTF-8.
 fn string(text: &[u8]) -> String {
-    String::from_utf8(text.to_vec()).expect("a text is ASCII")
+    String::from_utf8(text.to_vec()).expect("a text is UTF-8")
 }

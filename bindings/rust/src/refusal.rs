@@ -51,7 +51,7 @@ refusals! {
     BadField = 6: concat!(
         "a value in the filter breaks its rule: names of ",
         names!(),
-        "; strings of printable ASCII without the apostrophe, at most 4,096 bytes; dates that the calendar has, years 1 \
+        "; strings of UTF-8 without the bytes 00 to 1F and 7F, at most 4,096 bytes; dates that the calendar has, years 1 \
          to 9999; times from 00:00:00 to 23:59:59; numbers of at most 15 digits, at most 9 after the point; WKT of \
          letters, digits, space, comma, parentheses, minus and point, 1 to 4,096 bytes; in raw records also a Bool of 0 \
          or 1, flags of 0 to 3, and bodies of their kind's size"
@@ -68,12 +68,13 @@ refusals! {
     BadRow = 11: concat!(
         "the row breaks its form: names of ",
         names!(),
-        ", no two equal in any letter case; values of at most 64 bytes of printable ASCII without the apostrophe; in \
+        ", no two equal in any letter case; values of at most 64 bytes of UTF-8 without the bytes 00 to 1F and 7F; in \
          raw records also whole records of kind 200, NULL with no bytes after it"
     ),
     BadText = 12: "the SQL text is not one that can be read: only comparisons of columns, quoted texts and NULL, a \
          column with IS NULL, IS NOT NULL or NOT NULL, TRUE, FALSE, NULL, joined by NOT, AND, OR and at most 64 brackets \
-         one inside another; no numbers, functions, LIKE, IN, BETWEEN or COLLATE",
+         one inside another; no numbers, functions, LIKE, IN, BETWEEN or COLLATE; a quoted text ends at the first \
+         apostrophe that is not doubled and is UTF-8 without the bytes 00 to 1F and 7F",
     MissingColumn = 13: "the SQL text names a column that the row does not have; names count with their letter case",
 }
 

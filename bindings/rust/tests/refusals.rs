@@ -55,9 +55,17 @@ fn operators_and_fields() {
     assert_eq!(lower(&E::monadic(Op::Eq, E::Null)), Err(Refusal::BadKindOrOperator));
     assert_eq!(lower(&E::dyadic(Op::Neg, E::Null, E::Null)), Err(Refusal::BadKindOrOperator));
     for bad in [
-        E::str("it's"),
-        E::str("é"),
+        E::str("a\tb"),
+        E::str("\0"),
+        E::str("it's\u{1f}"),
+        E::str("é\u{7f}"),
         E::str("x".repeat(4097)),
+        E::str("é".repeat(2049)),
+        E::str("'".repeat(4097)),
+        E::id("é"),
+        E::id("a'"),
+        E::spatial(0, "'"),
+        E::spatial(0, "é"),
         E::id(""),
         E::id("and"),
         E::id("Order"),
@@ -114,7 +122,10 @@ fn reading() {
     assert_eq!(read_bytes(b"TRUE", &[0; 32_769]), Err(Refusal::InputTooLong));
     for bad in [
         Row::new().with("a", "x").with("A", "x"),
-        Row::new().with("a", "it's"),
+        Row::new().with("a", "a\tb"),
+        Row::new().with("a", "é".repeat(33)),
+        Row::new().with("a", "'".repeat(65)),
+        Row::new().with("é", "x"),
         Row::new().with("a", "x".repeat(65)),
         Row::new().with("or", "x"),
         Row::new().with("n".repeat(300), "x"),

@@ -66,10 +66,15 @@ impl Random {
         Num { mantissa, scale: self.below(10) as u8 }
     }
 
+    /// Without an apostrophe, which the Rust does not double.
     fn string(&mut self) -> QString {
         let n = self.of(&[0, 1, 3, 9, 40]);
-        let printable: Vec<u8> = (0x20..0x7F).filter(|b| *b != b'\'').collect();
-        let s = QString::plain(self.letters(&printable, n));
+        let mut some: Vec<char> = (' '..='~').filter(|c| *c != '\'').collect();
+        if self.below(2) == 0 {
+            some.truncate(8);
+            some.extend("éüßΩ車🔩\u{80}\u{9f}\u{7ff}\u{800}\u{ffff}\u{10000}\u{10ffff}".chars());
+        }
+        let s = QString::plain((0..n).map(|_| self.of(&some)).collect::<String>());
         match self.below(4) {
             0 => s,
             1 => s.and_icase(),
