@@ -47,10 +47,7 @@ pub fn put_quoted(s: &[u8], out: &mut [u8], at: usize) -> usize
 fn more_for(b: u8) -> usize
     ensures { λ r. ⌜ (r ≤ 1) × (length (doubled (b ∷ [])) ≡ 1 + r) ⌝ }
 {
-    if b == b'\'' {
-        return 1;
-    }
-    0
+    if b == b'\'' { 1 } else { 0 }
 }
 
 // How many bytes a text is written with besides itself: one for each apostrophe.
@@ -104,9 +101,9 @@ pub fn put_str(s: &[u8], out: &mut [u8], at: usize) -> usize
     if emit::lacks_room(out.len(), at, size) {
         return emit::ended(at, size);
     }
-    let text = emit::put(b"'", out, at);
-    copy_doubled(s, out, text);
-    emit::put(b"'", out, text + n)
+    let first = emit::put(b"'", out, at);
+    copy_doubled(s, out, first);
+    emit::put(b"'", out, first + n)
 }
 
 // Writes ` COLLATE ` and a collation's name.

@@ -100,8 +100,8 @@ pub fn compare_values(a: &[u8], a_written: bool, b: &[u8], b_written: bool) -> O
         i = after(a, a_written, i);
         j = after(b, b_written, j);
     }
-    if j == b.len() {
-        return Ordering::Equal;
+    if j < b.len() {
+        return Ordering::Less;
     }
-    Ordering::Less
+    Ordering::Equal
 }

@@ -22,10 +22,13 @@ enum Kind {
     Operators,
     Trees,
     KeywordTrees,
+    TextTrees,
     Leaves,
     Lowerings,
+    TextLowerings,
     Readings,
     KeywordReadings,
+    TextReadings,
 }
 
 // More cases than any file has.
@@ -46,10 +49,13 @@ fn begin_line(kind: Kind) {
         Kind::Operators => write(b"operators: "),
         Kind::Trees => write(b"trees: "),
         Kind::KeywordTrees => write(b"keyword_trees: "),
+        Kind::TextTrees => write(b"text_trees: "),
         Kind::Leaves => write(b"leaves: "),
         Kind::Lowerings => write(b"lowerings: "),
+        Kind::TextLowerings => write(b"text_lowerings: "),
         Kind::Readings => write(b"readings: "),
         Kind::KeywordReadings => write(b"keyword_readings: "),
+        Kind::TextReadings => write(b"text_readings: "),
     }
 }
 
@@ -67,10 +73,13 @@ fn open(kind: Kind) -> i32 {
         Kind::Operators => open_path(b"operators"),
         Kind::Trees => open_path(b"trees"),
         Kind::KeywordTrees => open_path(b"keyword_trees"),
+        Kind::TextTrees => open_path(b"text_trees"),
         Kind::Leaves => open_path(b"leaves"),
         Kind::Lowerings => open_path(b"lowerings"),
+        Kind::TextLowerings => open_path(b"text_lowerings"),
         Kind::Readings => open_path(b"readings"),
         Kind::KeywordReadings => open_path(b"keyword_readings"),
+        Kind::TextReadings => open_path(b"text_readings"),
     }
 }
 
@@ -78,10 +87,10 @@ fn open(kind: Kind) -> i32 {
 fn parts_of(kind: Kind) -> usize {
     match kind {
         Kind::Operators => 1,
-        Kind::Trees | Kind::KeywordTrees => 3,
+        Kind::Trees | Kind::KeywordTrees | Kind::TextTrees => 3,
         Kind::Leaves => 2,
-        Kind::Lowerings => 4,
-        Kind::Readings | Kind::KeywordReadings => 3,
+        Kind::Lowerings | Kind::TextLowerings => 4,
+        Kind::Readings | Kind::KeywordReadings | Kind::TextReadings => 3,
     }
 }
 
@@ -89,10 +98,10 @@ fn parts_of(kind: Kind) -> usize {
 fn judged<'a>(kind: Kind, place: u64, a: &'a [u8], b: &'a [u8], c: &'a [u8], d: &'a [u8]) -> Turn {
     match kind {
         Kind::Operators => operators::judged(a, place as usize),
-        Kind::Trees | Kind::KeywordTrees => trees::judged(a, b, c),
+        Kind::Trees | Kind::KeywordTrees | Kind::TextTrees => trees::judged(a, b, c),
         Kind::Leaves => leaves::judged(a, b),
-        Kind::Lowerings => lowerings::judged(a, b, c, d),
-        Kind::Readings | Kind::KeywordReadings => readings::judged(a, b, c),
+        Kind::Lowerings | Kind::TextLowerings => lowerings::judged(a, b, c, d),
+        Kind::Readings | Kind::KeywordReadings | Kind::TextReadings => readings::judged(a, b, c),
     }
 }
 
@@ -179,10 +188,13 @@ fn report(kind: Kind, done: u64, counts: [u64; 16]) {
     begin_line(kind);
     match kind {
         Kind::Operators => operators::report(done, counts),
-        Kind::Trees | Kind::KeywordTrees => trees::report(done, counts),
+        Kind::Trees | Kind::KeywordTrees | Kind::TextTrees => trees::report(done, counts),
         Kind::Leaves => leaves::report(done, counts),
-        Kind::Lowerings => lowerings::report(done, counts),
-        Kind::Readings | Kind::KeywordReadings => readings::report(done, counts),
+        Kind::Lowerings | Kind::TextLowerings => lowerings::report(done, counts),
+        Kind::Readings | Kind::KeywordReadings | Kind::TextReadings => readings::report(
+            done,
+            counts,
+        ),
     }
     write(b"\n");
 }
@@ -206,8 +218,11 @@ fn main() {
     replay(Kind::Operators);
     replay(Kind::Trees);
     replay(Kind::KeywordTrees);
+    replay(Kind::TextTrees);
     replay(Kind::Leaves);
     replay(Kind::Lowerings);
+    replay(Kind::TextLowerings);
     replay(Kind::Readings);
     replay(Kind::KeywordReadings);
+    replay(Kind::TextReadings);
 }

@@ -5,26 +5,32 @@ use Prim.Native.Nat.{ℕ, _-_}
 use mathlib.Core.Path.{_≡_, refl, sym, ap, _∙_, subst}
 use mathlib.Core.List.{List}
 use mathlib.Core.Bool.{Bool, true, false, false≢true}
+use mathlib.Core.Logic.{_↔_}
 use Rattle.prelude.specs.Choice.{pick, both, some}
 use Rattle.prelude.specs.ChoiceLaws.{both-true}
 use Rattle.op.specs.declared.Op.{Op}
-use Rattle.op.specs.declared.Op.the-variants.{TDisjoint, TIntersects}
+use Rattle.op.specs.declared.Op.the-variants.{Eq, TDisjoint, TIntersects}
 use Rattle.op.specs.Op.{oneOf, isTemporal}
-use Rattle.tree.specs.Tree.{Tree, dyadic, interval}
+use Rattle.tree.specs.Tree.{Tree, str, id, dyadic, interval}
 use Rattle.tree.specs.Limits.{depthLimit}
 use Rattle.tree.specs.GoodWords.{Good}
 use Rattle.tree.specs.Placed.{operands, inPlace, inner, placed}
 use Rattle.tree.specs.Tests.{everywhere, byOperator, isInterval, startOf, stopOf}
 use Rattle.tree.specs.TestsLaws.{both-of}
-use Rattle.row.specs.Row.{Column}
+use Rattle.order.specs.declared.Ordering.{Ordering}
+use Rattle.order.specs.declared.Ordering.the-variants.{Less, Equal, Greater}
+use Rattle.order.specs.Order.{order}
+use Rattle.order.specs.OrderLaws.{order-refl, order-same}
+use Rattle.row.specs.Row.{val, Column, has, look}
 use Rattle.truth.specs.declared.Truth.{Truth}
 use Rattle.truth.specs.declared.Truth.the-variants.{True, False, Unknown, Missing}
 use Rattle.truth.specs.declared.Reading.{Reading}
 use Rattle.truth.specs.declared.Reading.the-variants.{True as SaysTrue, False as SaysFalse, Unknown as SaysUnknown}
-use Rattle.truth.specs.Grammar.{truthOf}
+use Rattle.truth.specs.declared.Kind.the-variants.{Eq as EQ}
+use Rattle.truth.specs.Grammar.{value, holds as says, truthOf}
 use Rattle.truth.specs.Reading.{answered, readingOf}
-use Rattle.time.specs.Filter.{isEnd, isOperand, timeFilter}
-use Rattle.time.specs.FilterTruth.{holds, temporalTruth, columnsNonNull, proper, truthOn}
+use Rattle.time.specs.Filter.{comparable, isEnd, isOperand, timeFilter}
+use Rattle.time.specs.FilterTruth.{treeAtom, valueOn, holds, temporalTruth, comparison, columnsNonNull, proper, truthOn}
 use Rattle.time.specs.Converse.{converse, Turned, keep, turn, in-both, in-neg, thirteen}
 use Rattle.time.specs.Ogc.{Width, isStart, isPoint, instants, ogcOperand, ogcOn}
 use Rattle.time.specs.Accepted.{Lowers, IsRow}
@@ -144,3 +150,25 @@ agrees-with-ogc {o} {t} {u} {cs = cs} w L i R ht hu n a b =
     ∙ ap answered
     (predicate-truth cs o t u i
     ∙ ogc-agrees w cs o t u (depthLimit - 1) (depthLimit - 1) i (predicate-placed o t u (p .in-place)) (p .good .2) (p .good .3) n ht hu a b)
+
+-- ---- Strings.
+
+-- Round trip of a Str, whatever bytes it holds: its text, compared with a column, reads true exactly if the column's value is the string.
+pub string-reads : {n s v x row : List ℕ} {cs : List Column} → Lowers (dyadic Eq (id n) (str 0 s)) x → IsRow row cs → look n cs ≡ has (val v)
+    → (readingOf x row ≡ SaysTrue) ↔ (v ≡ s)
+unfolding timeFilter byOperator comparable some truthOn valueOn treeAtom value comparison says
+string-reads {n} {s} {v} {x} {row} {cs} L R e = (only, back)
+  where
+    told : readingOf x row ≡ answered (truthOf (says EQ (order v s)))
+    told = reads-as L refl R ∙ rw e refl
+
+    only : readingOf x row ≡ SaysTrue → v ≡ s
+    only r = by (order v s) refl (sym told ∙ r)
+      where
+        by : (o : Ordering) → order v s ≡ o → answered (truthOf (says EQ o)) ≡ SaysTrue → v ≡ s
+        by Less q z = absurd (false≢true cc)
+        by Equal q z = order-same v s q
+        by Greater q z = absurd (false≢true cc)
+
+    back : v ≡ s → readingOf x row ≡ SaysTrue
+    back q = told ∙ rw (ap (order v) (sym q) ∙ order-refl v) refl

@@ -48,10 +48,10 @@ loop-again : tie.Need-loop-again Inv-loop μ-loop
 loop-again c = let x = c .before .before .before .before .before .before .before .before .loop .inv in alike-next x (omega arith) (omega (arith, x .right)) (omega arith) (c .before .after .ensures) (c .after2 .ensures)
 
 returns-4 : tie.Need-returns-4 Inv-loop μ-loop
-returns-4 c = let x = c .before .before .loop .inv in value-both x (omega arith) (omega arith)
+returns-4 c = let x = c .before .before .loop .inv in value-short x (omega arith) (omega arith)
 
 returns-5 : tie.Need-returns-5 Inv-loop μ-loop
-returns-5 c = let x = c .before .before .loop .inv in value-short x (omega arith) (omega (arith, x .right))
+returns-5 c = let x = c .before .before .loop .inv in value-both x (omega arith) (omega arith)
 
 pub compare-values-spec : {M : Type 1} → statement M
 compare-values-spec =
