@@ -9,7 +9,7 @@ use native.Mathlib.Numerals.{add-one}
 use lib.Dec.{eqb, ltb}
 use lib.ListN.{length, getD, take, drop, length-take, length-drop, List·getD-eq-default}
 use lib.Seq.{drop-cons, take-all}
-use borrow.Author.Tests.{eq-eqb, ltb-true, ltb-false}
+use borrow.Author.Tests.{eq-eqb, ne-eqb, ltb-true, ltb-false}
 use Rattle.prelude.specs.Choice.{pick, both, negated, between}
 use Rattle.prelude.specs.ChoiceLaws.{both-true, between-true}
 use Rattle.prelude.specs.Bytes.{apostrophe}
@@ -254,6 +254,23 @@ module _ {quoted : Bool} {s : List ℕ} where
 pub one-tells : (v : Bool) → eqb (pick v 1 0) 1 ≡ v
 one-tells true = refl
 one-tells false = refl
+
+-- and any other: an apostrophe in a quoted text, or one that is no plain byte
+module _ (b : ℕ) (quoted : Bool) (e : both (plain b) (negated (both quoted (eqb b apostrophe))) ≡ false) where
+  pub marks-quoted : b ≡ apostrophe → quoted ≡ true
+  marks-quoted z = go quoted (sym (rw z refl) ∙ e)
+    where
+      go : (q : Bool) → negated (both q true) ≡ false → q ≡ true
+      go true f = refl
+      go false f = cc
+
+  pub other-bytes : (b ≡ apostrophe → ⊥) → plain b ≡ false
+  other-bytes f = go (plain b) quoted (sym (rw (ne-eqb b apostrophe f) refl) ∙ e)
+    where
+      go : (p q : Bool) → both p (negated (both q false)) ≡ false → p ≡ false
+      go true true g = cc
+      go true false g = cc
+      go false q g = refl
 
 -- two apostrophes
 pub doubled-inside : (s : List ℕ) (i : ℕ) → eqb (getD s (i + 1) 0) apostrophe ≡ true → i + 1 < length s

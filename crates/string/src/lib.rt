@@ -57,21 +57,19 @@ fn past_sequences(s: &[u8], quoted: bool, from: usize) -> usize
     let mut i = from;
     while i < s.len() {
         let b = s[i];
-        if !is_plain(b) {
+        if is_simple(b, quoted) {
+            i += 1;
+        } else if b == b'\'' {
+            if !is_doubled(s, i) {
+                return i + 1;
+            }
+            i += 2;
+        } else {
             let n = sequence_at(s, i);
             if n == 0 {
                 return 0;
             }
             i += n;
-        } else if b != b'\'' {
-            i += 1;
-        } else if !quoted {
-            i += 1;
-        } else {
-            if !is_doubled(s, i) {
-                return i + 1;
-            }
-            i += 2;
         }
     }
     if quoted { 0 } else { 1 }

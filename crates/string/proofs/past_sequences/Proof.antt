@@ -1,16 +1,15 @@
 -- `string::past_sequences` meets its contract: the loop keeps that the string is read up to i; each `return` is a law of where it stops.
 use Prim.Native.Nat.{_+_, _-_}
 use mathlib.Core.Path.{_≡_, sym, _∙_}
-use mathlib.Core.Bool.{true, false≢true}
+use mathlib.Core.Bool.{true}
 use native.Mathlib.Omega.{arith}
 use lib.Dec.{eqb}
 use lib.ListN.{length, getD}
-use Rattle.prelude.specs.Bytes.{apostrophe}
 use borrow.Author.Tests.{eqb-true, eqb-false, not-true, not-false}
 use borrow.Author.Needs.{needs}
+use Rattle.prelude.specs.Bytes.{apostrophe}
 use Rattle.string.specs.SequenceWords.{Reaches}
-use Rattle.string.specs.SequenceLaws.{reaches-then, heads-some, heads-none, plain-passes, pair-passes, bad-told, closed-told, end-told, valid-told, doubled-inside}
-use Rattle.string.specs.QuoteLaws.{closing-go}
+use Rattle.string.specs.SequenceLaws.{reaches-then, heads-some, heads-none, simple-passes, marks-quoted, other-bytes, doubled-inside, pair-passes, bad-told, closed-told, end-told, valid-told}
 use Rattle.string.proofs.past_sequences.Statement.{statement}
 use Rattle.string.proofs.past_sequences.Tie as tie
 
@@ -26,65 +25,56 @@ loop-holds c = c .before .pre
 shared-slice-read-b : tie.Need-shared-slice-read-b Inv-loop μ-loop
 shared-slice-read-b c = search needs
 
-is-plain-requires : tie.Need-is-plain-requires Inv-loop μ-loop
-is-plain-requires c κs = search needs
-
-sequence-at-requires : tie.Need-sequence-at-requires Inv-loop μ-loop
-sequence-at-requires c κs = (c .before .before .before .loop-test .taken, sym (c .before .is-plain .ensures) ∙ not-true _ (c .if1 .taken))
-
-returns : tie.Need-returns Inv-loop μ-loop
-returns c = bad-told (c .before .before .before .before .before .before .loop .inv) (heads-none _ _ (c .before .sequence-at .ensures) (c .if2 .taken)) (c .before .before .before .before .before .loop-test .taken) (sym (c .before .before .before .is-plain .ensures) ∙ not-true _ (c .before .before .if1 .taken))
+is-simple-requires : tie.Need-is-simple-requires Inv-loop μ-loop
+is-simple-requires c κs = search needs
 
 add-i : tie.Need-add-i Inv-loop μ-loop
-add-i c = let h = heads-some _ _ _ (c .before .sequence-at .ensures) (c .if2 .left) in omega (arith, h .0 .inside)
+add-i c = search needs
 
 loop-less : tie.Need-loop-less Inv-loop μ-loop
-loop-less c = let h = heads-some _ _ _ (c .before .sequence-at .ensures) (c .if2 .left) in omega (arith, h .0 .inside)
+loop-less c = omega arith
 
 loop-again : tie.Need-loop-again Inv-loop μ-loop
-loop-again c = let h = heads-some _ _ _ (c .before .sequence-at .ensures) (c .if2 .left) in reaches-then (c .before .before .before .before .before .before .loop .inv) (h .0) (λ q. h .1)
-
-add-i-2 : tie.Need-add-i-2 Inv-loop μ-loop
-add-i-2 c = search needs
-
-loop-less-2 : tie.Need-loop-less-2 Inv-loop μ-loop
-loop-less-2 c = omega arith
-
-loop-again-2 : tie.Need-loop-again-2 Inv-loop μ-loop
-loop-again-2 c = reaches-then (c .before .before .before .before .before .loop .inv) (plain-passes _ _ (c .before .before .before .before .loop-test .taken) (sym (c .before .before .is-plain .ensures) ∙ not-false _ (c .before .if1 .left))) (λ q. closing-go _ _ (c .before .before .before .before .loop-test .taken) (c .if3 .taken))
-
-add-i-3 : tie.Need-add-i-3 Inv-loop μ-loop
-add-i-3 c = search needs
-
-loop-less-3 : tie.Need-loop-less-3 Inv-loop μ-loop
-loop-less-3 c = omega arith
-
-loop-again-3 : tie.Need-loop-again-3 Inv-loop μ-loop
-loop-again-3 c = reaches-then (c .before .before .before .before .before .before .loop .inv) (plain-passes _ _ (c .before .before .before .before .before .loop-test .taken) (sym (c .before .before .before .is-plain .ensures) ∙ not-false _ (c .before .before .if1 .left))) (λ q. absurd (false≢true (sym (not-true _ (c .if4 .taken)) ∙ q)))
+loop-again c = let p = simple-passes _ _ (c .before .before .before .loop-test .taken) _ (sym (c .before .is-simple .ensures) ∙ c .if1 .taken) in reaches-then (c .before .before .before .before .loop .inv) (p .0) (p .1)
 
 is-doubled-requires : tie.Need-is-doubled-requires Inv-loop μ-loop
-is-doubled-requires c κs = c .before .before .before .before .before .loop-test .taken
+is-doubled-requires c κs = c .before .before .before .before .loop-test .taken
 
 add-result : tie.Need-add-result Inv-loop μ-loop
 add-result c = search needs
 
+returns : tie.Need-returns Inv-loop μ-loop
+returns c = closed-told (c .before .before .before .before .before .before .before .loop .inv) (marks-quoted _ _ (sym (c .before .before .before .before .is-simple .ensures) ∙ c .before .before .before .if1 .left) (c .before .before .if2 .taken)) (c .before .before .before .before .before .before .loop-test .taken) (c .before .before .if2 .taken) (eqb-false _ _ (sym (c .before .is-doubled .ensures) ∙ not-true _ (c .if3 .taken)))
+
+add-i-2 : tie.Need-add-i-2 Inv-loop μ-loop
+add-i-2 c = let e : eqb (getD (c .before .before .before .before .before .before .before .before .before .args .s .now) (c .before .before .before .before .before .before .before .loop .i + 1) 0) apostrophe ≡ true = sym (c .before .is-doubled .ensures) ∙ not-false _ (c .if3 .left) in let p = doubled-inside (c .before .before .before .before .before .before .before .before .before .args .s .now) (c .before .before .before .before .before .before .before .loop .i) e in omega (arith, p)
+
+loop-less-2 : tie.Need-loop-less-2 Inv-loop μ-loop
+loop-less-2 c = let e : eqb (getD (c .before .before .before .before .before .before .before .before .before .args .s .now) (c .before .before .before .before .before .before .before .loop .i + 1) 0) apostrophe ≡ true = sym (c .before .is-doubled .ensures) ∙ not-false _ (c .if3 .left) in let p = doubled-inside (c .before .before .before .before .before .before .before .before .before .args .s .now) (c .before .before .before .before .before .before .before .loop .i) e in omega (arith, p)
+
+loop-again-2 : tie.Need-loop-again-2 Inv-loop μ-loop
+loop-again-2 c = let e : eqb (getD (c .before .before .before .before .before .before .before .before .before .args .s .now) (c .before .before .before .before .before .before .before .loop .i + 1) 0) apostrophe ≡ true = sym (c .before .is-doubled .ensures) ∙ not-false _ (c .if3 .left) in let p = doubled-inside (c .before .before .before .before .before .before .before .before .before .args .s .now) (c .before .before .before .before .before .before .before .loop .i) e in let q = pair-passes (c .before .before .before .before .before .before .before .before .before .args .s .now) (c .before .before .before .before .before .before .before .loop .i) p (c .before .before .if2 .taken) (eqb-true _ _ e) in reaches-then (c .before .before .before .before .before .before .before .loop .inv) (q .0) (λ z. q .1)
+
+sequence-at-requires : tie.Need-sequence-at-requires Inv-loop μ-loop
+sequence-at-requires c κs = (c .before .before .before .before .loop-test .taken, other-bytes _ (c .before .before .before .before .before .before .before .args .quoted) (sym (c .before .before .is-simple .ensures) ∙ c .before .if1 .left) (c .if2 .left))
+
 returns-2 : tie.Need-returns-2 Inv-loop μ-loop
-returns-2 c = closed-told (c .before .before .before .before .before .before .before .before .loop .inv) (not-false _ (c .before .before .if4 .left)) (c .before .before .before .before .before .before .before .loop-test .taken) (c .before .before .before .if3 .left) (eqb-false _ _ (sym (c .before .is-doubled .ensures) ∙ not-true _ (c .if5 .taken)))
+returns-2 c = bad-told (c .before .before .before .before .before .before .before .loop .inv) (heads-none _ _ (c .before .sequence-at .ensures) (c .if4 .taken)) (c .before .before .before .before .before .before .loop-test .taken) (other-bytes _ (c .before .before .before .before .before .before .before .before .before .args .quoted) (sym (c .before .before .before .before .is-simple .ensures) ∙ c .before .before .before .if1 .left) (c .before .before .if2 .left))
 
-add-i-4 : tie.Need-add-i-4 Inv-loop μ-loop
-add-i-4 c = let p = doubled-inside (c .before .before .before .before .before .before .before .before .before .before .args .s .now) (c .before .before .before .before .before .before .before .before .loop .i) (sym (c .before .is-doubled .ensures) ∙ not-false _ (c .if5 .left)) in omega (arith, p)
+add-i-3 : tie.Need-add-i-3 Inv-loop μ-loop
+add-i-3 c = let h = heads-some _ _ _ (c .before .sequence-at .ensures) (c .if4 .left) in omega (arith, h .0 .inside)
 
-loop-less-4 : tie.Need-loop-less-4 Inv-loop μ-loop
-loop-less-4 c = let p = doubled-inside (c .before .before .before .before .before .before .before .before .before .before .args .s .now) (c .before .before .before .before .before .before .before .before .loop .i) (sym (c .before .is-doubled .ensures) ∙ not-false _ (c .if5 .left)) in omega (arith, p)
+loop-less-3 : tie.Need-loop-less-3 Inv-loop μ-loop
+loop-less-3 c = let h = heads-some _ _ _ (c .before .sequence-at .ensures) (c .if4 .left) in omega (arith, h .0 .inside)
 
-loop-again-4 : tie.Need-loop-again-4 Inv-loop μ-loop
-loop-again-4 c = let e : eqb (getD (c .before .before .before .before .before .before .before .before .before .before .args .s .now) (c .before .before .before .before .before .before .before .before .loop .i + 1) 0) apostrophe ≡ true = sym (c .before .is-doubled .ensures) ∙ not-false _ (c .if5 .left) in let p = pair-passes (c .before .before .before .before .before .before .before .before .before .before .args .s .now) (c .before .before .before .before .before .before .before .before .loop .i) (doubled-inside (c .before .before .before .before .before .before .before .before .before .before .args .s .now) (c .before .before .before .before .before .before .before .before .loop .i) e) (c .before .before .before .if3 .left) (eqb-true _ _ e) in reaches-then (c .before .before .before .before .before .before .before .before .loop .inv) (p .0) (λ q. p .1)
+loop-again-3 : tie.Need-loop-again-3 Inv-loop μ-loop
+loop-again-3 c = let h = heads-some _ _ _ (c .before .sequence-at .ensures) (c .if4 .left) in reaches-then (c .before .before .before .before .before .before .before .loop .inv) (h .0) (λ q. h .1)
 
 returns-3 : tie.Need-returns-3 Inv-loop μ-loop
-returns-3 c = end-told (c .before .before .loop .inv) (c .if6 .taken) (c .before .loop-test .left)
+returns-3 c = end-told (c .before .before .loop .inv) (c .if5 .taken) (c .before .loop-test .left)
 
 returns-4 : tie.Need-returns-4 Inv-loop μ-loop
-returns-4 c = valid-told (c .before .before .loop .inv) (c .if6 .left) (c .before .loop-test .left)
+returns-4 c = valid-told (c .before .before .loop .inv) (c .if5 .left) (c .before .loop-test .left)
 
 pub past-sequences-spec : {M : Type 1} → statement M
 past-sequences-spec =
@@ -94,23 +84,20 @@ past-sequences-spec =
     μ-loop
     loop-holds
     shared-slice-read-b
-    is-plain-requires
-    sequence-at-requires
-    returns
+    is-simple-requires
     add-i
     loop-less
     loop-again
+    is-doubled-requires
+    add-result
+    returns
     add-i-2
     loop-less-2
     loop-again-2
+    sequence-at-requires
+    returns-2
     add-i-3
     loop-less-3
     loop-again-3
-    is-doubled-requires
-    add-result
-    returns-2
-    add-i-4
-    loop-less-4
-    loop-again-4
     returns-3
     returns-4)
