@@ -158,7 +158,7 @@ def worst():
         ('a Str of 4,096 apostrophes', lowering([MARKS])),
         ('7 of them: a text of 57,372 bytes', lowering([('array', [MARKS] * 7)])),
         ('a Str of 1,024 four-byte characters', lowering([word('🔩' * (STR // 4))])),
-        ('32 KB of two-byte characters, the last cut', lowering_of(records.array(*[records.string('é'.encode() * (STR // 2))] * 7, records.string(b'\xc3')))),
+        ('28 KB of two-byte characters, the last cut', lowering_of(records.array(*[records.string('é'.encode() * (STR // 2))] * 7, records.string(b'\xc3')))),
         ('a quoted text of 32,764 apostrophes', reading(['%s=mass' % quoted("'" * 32764)], CELLS, False)),
         ('the same against a value of 64', reading(['%s=mark' % quoted("'" * 32764)], MARKED, False)),
         ('1,110 tests of 24 apostrophes', reading([repeated('mark>' + quoted("'" * 24), ' OR ', SQL)], MARKED, False)),

@@ -19,7 +19,7 @@ READING = [
     ('texts in the grammar', 'grammar', 1000), ('texts of time filters', 'lowered', 600), ('texts, a token bent', 'tokens_bent', 500),
     ('rows bent', 'row_bent', 300), ('texts, bytes damaged', 'text_damaged', 400), ('rows, bytes damaged', 'row_damaged', 300),
     ('rows at their limits', 'row_edges', 300), ('random tokens', 'token_soup', 300), ('random bytes as text and row', 'random_bytes', 100),
-    ('values of any characters', 'texts', 900), ('apostrophes about', 'marks', 300),
+    ('values of any characters', 'texts', 900), ('apostrophes in texts', 'marks', 300),
     ('names at their limits', 'names', 400), ('stored texts', 'stored', 200), ('62 to 66 brackets', 'brackets', 150),
     ('rows of many columns', 'wide_row', 100),
     ('text of 65,535, row of 32,768 bytes', 'limits', 20), ('stored large texts and rows', 'large', 6), ('text or row too long', 'too_long', 60),

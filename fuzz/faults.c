@@ -30,7 +30,7 @@ static const uint8_t *without(const uint8_t *s, size_t n, const char *word)
     return copy;
 }
 
-/* Bytes at i that are no UTF-8, but for one rule: a lead byte `lead` before a byte of `low` to `high`. Such pairs stand for a right one. */
+/* The bytes, with `pair` in place of each byte `lead` that stands before a byte of `low` to `high`, and of that byte. */
 static const uint8_t *with_pairs(const uint8_t *s, size_t n, uint8_t lead, uint8_t low, uint8_t high, const char *pair)
 {
     memcpy(copy, s, n);
@@ -69,7 +69,7 @@ static size_t run_of(const uint8_t *s, size_t n, uint8_t byte)
     return most;
 }
 
-/* As lent, but the text is longer than the buffer only if it is with its apostrophes once. */
+/* The true answer, but 9 only if the text with its apostrophes once is longer than the buffer. */
 static int64_t counted_once(const uint8_t *s, size_t sn, const uint8_t *t, size_t tn, uint8_t *out, size_t room)
 {
     static uint8_t whole[65536];

@@ -170,8 +170,8 @@ impl E {
         E::Id(name.into())
     }
 
-    /// A plain string: any characters, of at most 4,096 bytes; one with a control character below U+0020 or U+007F is
-    /// refused (6) when it is lowered.
+    /// A plain string: any characters, of at most 4,096 bytes; one with a character of U+0000 to U+001F, or with
+    /// U+007F, is refused (6) when it is lowered.
     pub fn str<S: Into<String>>(s: S) -> E {
         E::Str(QString::plain(s))
     }

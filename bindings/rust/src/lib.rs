@@ -18,7 +18,7 @@
 //! let no_start = Row::new().with("a", "2024-01-02").with_null("b").with("c", "2024-01-01");
 //! assert_eq!(read(&sql, &no_start)?, None); // unknown
 //!
-//! // A string is any `&str` without control characters.
+//! // A string is any `&str` without the characters U+0000 to U+001F and U+007F.
 //! let label = to_sql(&Settings::default(), &E::dyadic(Op::Eq, E::id("label"), E::str("O'Ring für 5 mm")))?;
 //! assert_eq!(label, "label = 'O''Ring für 5 mm'");
 //! assert_eq!(read(&label, &Row::new().with("label", "O'Ring für 5 mm"))?, Some(true));

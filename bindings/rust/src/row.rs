@@ -4,7 +4,7 @@ use crate::record::{begin, end, named};
 /// The columns of a row, each a name and a value or NULL.
 ///
 /// A name obeys the rule of names and stands once, in any letter case; a value is any `&str` of at most 64 bytes without
-/// control characters below U+0020 and U+007F. [`read`](crate::read) refuses any other row (11). Dates are written as
+/// the characters U+0000 to U+001F and U+007F. [`read`](crate::read) refuses any other row (11). Dates are written as
 /// `2024-01-02`, timestamps as `2024-01-02T03:04:05`: values compare as byte strings, which is as `&str` does.
 #[derive(Clone, Debug, Default, PartialEq, Eq, Hash)]
 pub struct Row {

@@ -75,7 +75,7 @@ fn comparisons() {
     }
 }
 
-/// Every character but the control bytes, some hundred in a string.
+/// Every character but the control bytes, a thousand in a string.
 #[test]
 fn every_character() {
     let all: Vec<char> = ('\u{0}'..=char::MAX).filter(|c| !u8::try_from(*c).is_ok_and(is_control)).collect();

@@ -35,7 +35,7 @@ fn from(s: &[u8], i: usize) -> &[u8] {
     if i <= s.len() { &s[i..] } else { &s[0..0] }
 }
 
-// A Str is its text in quotes, and then the collation that its flags ask for.
+// A Str is its text in quotes, apostrophes doubled, and then the collation that its flags ask for.
 fn write_str(body: &[u8], out: &mut [u8]) -> usize {
     let end = literal::put_str(from(body, 1), out, START);
     match byte_at(body, 0) {

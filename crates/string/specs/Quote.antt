@@ -27,7 +27,7 @@ undoubled (b ∷ (c ∷ s)) = b ∷ pick (both (eqb b apostrophe) (eqb c apostro
 abbrev pub valueOf : Bool → List ℕ → List ℕ
 valueOf written s = pick written (undoubled s) s
 
--- how many bytes stand before the apostrophe that closes a text: the first that is not doubled
+-- how many bytes stand before the apostrophe that closes a text, the first that is not doubled; all of them if none closes it
 unfoldable pub closing : List ℕ → ℕ
 closing [] = 0
 closing (b ∷ []) = pick (eqb b apostrophe) 0 1

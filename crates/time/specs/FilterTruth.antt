@@ -27,7 +27,8 @@ use Rattle.truth.specs.Grammar.{Atom, column, text, none, value, not3, and3, or
 use Rattle.time.specs.Operators.{entry}
 use Rattle.time.specs.Filter.{isNeg, isAnd, isOr, compares}
 
--- what stands for a tree in a comparison: a column, the string that lowering writes, quotation marks left off, or NULL
+-- what stands for a tree in a comparison: a column, a Str's own string, the string that lowering writes for an instant, quotation marks left off,
+-- or NULL
 unfoldable pub treeAtom : Tree → Atom
 treeAtom null = none
 treeAtom unbounded = text (literal.openEnd alone)

@@ -1,6 +1,6 @@
 -- Demand 3 and the agreement with OGC 21-065r2, as theorems over the two public calls: over texts that `lowering` answers (the definition in the
 -- contract of gpkg::to_sql) and over `readingOf` (the definition in the contract of truth::read). Demand 2 is `reads-truth` of ReadsTruth.antt.
--- Each follows from reads-truth and the law of the same name over trees.
+-- Each follows from reads-truth and the law of the same name over trees; string-reads, the round trip of a Str, from reads-truth and the order alone.
 use Prim.Native.Nat.{ℕ, _-_}
 use mathlib.Core.Path.{_≡_, refl, sym, ap, _∙_, subst}
 use mathlib.Core.List.{List}
@@ -153,7 +153,8 @@ agrees-with-ogc {o} {t} {u} {cs = cs} w L i R ht hu n a b =
 
 -- ---- Strings.
 
--- Round trip of a Str, whatever bytes it holds: its text, compared with a column, reads true exactly if the column's value is the string.
+-- Round trip of a Str, whatever bytes it holds: its text, compared with a column, reads true exactly if the column's value is the string. A row's
+-- value has at most 64 bytes; for a Str of any length `text-atom` (AtomLaws.antt) says that its text is one token, whose value is the string.
 pub string-reads : {n s v x row : List ℕ} {cs : List Column} → Lowers (dyadic Eq (id n) (str 0 s)) x → IsRow row cs → look n cs ≡ has (val v)
     → (readingOf x row ≡ SaysTrue) ↔ (v ≡ s)
 unfolding timeFilter byOperator comparable some truthOn valueOn treeAtom value comparison says

@@ -27,7 +27,7 @@ scaleLimit = 9
 abbrev pub flagsLimit : ℕ
 flagsLimit = 3
 
--- bytes of a Str or Spatial text
+-- bytes of a Str or Spatial text in its record
 abbrev pub textLimit : ℕ
 textLimit = 4096
 
