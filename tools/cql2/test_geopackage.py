@@ -17,7 +17,8 @@ from .test_texts import interval, op, sql_of
 STAY = interval({'property': 'entry'}, {'property': 'exit'})
 LABEL, TRAY, ENTRY, EXIT = ({'property': name} for name in ('label', 'tray', 'entry', 'exit'))
 COLLATIONS = ('CQL2_CI', 'CQL2_AI', 'CQL2_CI_AI')
-WORDS = ['cup', 'CUP', 'Cup', 'cafe', 'café', 'CAFÉ', 'bowl']
+APART = 'Flu\u0308gel'    # u and U+0308, which look like ü
+WORDS = ['cup', 'CUP', 'Cup', 'cafe', 'café', 'CAFÉ', 'bowl', 'Flügel', APART]
 
 # A filter, and the same by hand on (label, tray, entry, exit); None in a comparison keeps the row out.
 PICKS = [
@@ -108,7 +109,9 @@ class Rows(unittest.TestCase):
                            (op('=', op('accenti', LABEL), op('accenti', 'café')), ['cafe', 'café']),
                            (op('=', op('casei', LABEL), op('casei', 'CAFÉ')), ['café', 'CAFÉ']),
                            (op('=', op('casei', op('accenti', LABEL)), op('accenti', op('casei', 'Café'))), ['cafe', 'café', 'CAFÉ']),
-                           (op('=', LABEL, 'cafe'), ['cafe']), (op('=', LABEL, 'café'), ['café'])):
+                           (op('=', LABEL, 'cafe'), ['cafe']), (op('=', LABEL, 'café'), ['café']),
+                           (op('=', LABEL, 'Flügel'), ['Flügel']), (op('=', LABEL, APART), [APART]),
+                           (op('=', op('accenti', LABEL), op('accenti', 'Flügel')), ['Flügel', APART])):
             self.assertEqual([row[1] for row in package.select('stays', sql_of(data))], want)
         package.connection.close()
 

@@ -5,7 +5,9 @@ ghost use lib.ListN.{length};
 ghost use lib.IntN.{natAbs};
 ghost use Rattle.literal.specs.Literal.{boolText, unboundedText, low, decimal, plain, sign, numText, quoted, collate, date, clock, dateText, timestampText, spatialText};
 ghost use Rattle.literal.specs.LiteralLaws.{shown};
+ghost use Rattle.prelude.specs.Choice.{all};
 ghost use Rattle.string.specs.Quote.{doubled};
+ghost use Rattle.string.specs.QuoteLaws.{noMark};
 ghost use lib.Seq.{sets};
 ghost use mathlib.Core.List.{_∷_, []};
 ghost use Rattle.emit.specs.Emit.{countLimit, Puts};
@@ -41,6 +43,20 @@ pub fn put_quoted(s: &[u8], out: &mut [u8], at: usize) -> usize
     let text = emit::put(b"'", out, at);
     let close = emit::put(s, out, text);
     emit::put(b"'", out, close)
+}
+
+// Most texts have no apostrophe, and the first test of all bytes costs less than counting.
+fn lacks_apostrophe(s: &[u8]) -> bool
+    ensures { λ r. ⌜ r ≡ all noMark (now (s .entry)) ⌝ }
+{
+    let mut i = 0;
+    while i < s.len() {
+        if s[i] == b'\'' {
+            return false;
+        }
+        i += 1;
+    }
+    true
 }
 
 // How many bytes a byte is written with besides itself.
@@ -88,15 +104,14 @@ fn copy_doubled(s: &[u8], out: &mut [u8], at: usize)
 pub fn put_str(s: &[u8], out: &mut [u8], at: usize) -> usize
     ensures { λ r. ⌜ Puts countLimit at (quoted (doubled (now (s .entry)))) (now (out .entry)) (now (out .exit)) r ⌝ }
 {
-    let more = apostrophes(s);
-    if more == 0 {
+    if lacks_apostrophe(s) {
         return put_quoted(s, out, at);
     }
     // Up to the limit each sum fits.
     if emit::COUNT_LIMIT < s.len() {
         return emit::ended(at, s.len());
     }
-    let n = s.len() + more;
+    let n = s.len() + apostrophes(s);
     let size = n + QUOTES;
     if emit::lacks_room(out.len(), at, size) {
         return emit::ended(at, size);

@@ -104,7 +104,7 @@ pub doubled-other : (b : ℕ) → (b ≡ apostrophe → ⊥) → doubled (b ∷ 
 unfolding doubled
 doubled-other b f = simp (ne-eqb b apostrophe f)
 
--- is never shorter, and as long as before only without an apostrophe
+-- is never shorter
 pub doubled-longer : (s : List ℕ) → length s ≤ length (doubled s)
 unfolding doubled
 doubled-longer [] = omega arith
@@ -113,16 +113,6 @@ doubled-longer (b ∷ s) = go (eqb b apostrophe) (doubled-longer s)
     go : (c : Bool) → length s ≤ length (doubled s) → suc (length s) ≤ length (pick c (b ∷ (b ∷ doubled s)) (b ∷ doubled s))
     go true h = omega arith
     go false h = omega arith
-
-pub doubled-same : (s : List ℕ) → length (doubled s) ≡ length s → doubled s ≡ s
-unfolding doubled
-doubled-same [] e = refl
-doubled-same (b ∷ s) e = go (eqb b apostrophe) e (λ q. doubled-same s q)
-  where
-    go : (c : Bool) → length (pick c (b ∷ (b ∷ doubled s)) (b ∷ doubled s)) ≡ suc (length s) → (length (doubled s) ≡ length s → doubled s ≡ s)
-        → pick c (b ∷ (b ∷ doubled s)) (b ∷ doubled s) ≡ b ∷ s
-    go true q f = absurd (omega (arith, doubled-longer s))
-    go false q f = ap (λ (l : List ℕ). b ∷ l) (f (omega arith))
 
 -- is undoubled again
 pub undoubled-doubled : (s : List ℕ) → undoubled (doubled s) ≡ s
@@ -187,29 +177,40 @@ pub valid-doubled : (s : List ℕ) → valid (doubled s) ≡ valid s
 unfolding valid
 valid-doubled s = goes-doubled s [] refl
 
--- ---- strings of plain bytes without an apostrophe
+-- ---- strings without an apostrophe
 
+abbrev pub noMark : ℕ → Bool
+noMark b = negated (eqb b apostrophe)
+
+unnegate : (c : Bool) → negated c ≡ true → c ≡ false
+unnegate true q = cc
+unnegate false q = refl
+
+-- doubling leaves them
+pub no-mark-doubled : (s : List ℕ) → all noMark s ≡ true → doubled s ≡ s
+unfolding all doubled
+no-mark-doubled [] e = refl
+no-mark-doubled (b ∷ s) e =
+    let h = both-true (noMark b) (all noMark s) e in
+    rw (unnegate (eqb b apostrophe) (h .0)) (ap (λ (l : List ℕ). b ∷ l) (no-mark-doubled s (h .1)))
+
+-- and of plain bytes they are valid
 abbrev pub unmarked : ℕ → Bool
-unmarked b = both (plain b) (negated (eqb b apostrophe))
+unmarked b = both (plain b) (noMark b)
 
-unmarked-parts : (b : ℕ) → unmarked b ≡ true → (plain b ≡ true) × (eqb b apostrophe ≡ false)
-unmarked-parts b e = let h = both-true (plain b) (negated (eqb b apostrophe)) e in (h .0, unnegate (eqb b apostrophe) (h .1))
-  where
-    unnegate : (c : Bool) → negated c ≡ true → c ≡ false
-    unnegate true q = cc
-    unnegate false q = refl
-
--- are valid, and doubling leaves them
 pub unmarked-valid : (s : List ℕ) → all unmarked s ≡ true → valid s ≡ true
 unfolding all valid goesOn
 unmarked-valid [] e = refl
 unmarked-valid (b ∷ s) e =
     let h = both-true (unmarked b) (all unmarked s) e in
-    plain-go b s (unmarked-parts b (h .0) .0) ∙ unmarked-valid s (h .1)
+    plain-go b s (both-true (plain b) (noMark b) (h .0) .0) ∙ unmarked-valid s (h .1)
 
 pub unmarked-doubled : (s : List ℕ) → all unmarked s ≡ true → doubled s ≡ s
-unfolding all doubled
-unmarked-doubled [] e = refl
-unmarked-doubled (b ∷ s) e =
-    let h = both-true (unmarked b) (all unmarked s) e in
-    rw (unmarked-parts b (h .0) .1) (ap (λ (l : List ℕ). b ∷ l) (unmarked-doubled s (h .1)))
+unfolding all
+unmarked-doubled s e = no-mark-doubled s (without s e)
+  where
+    without : (s : List ℕ) → all unmarked s ≡ true → all noMark s ≡ true
+    without [] e = refl
+    without (b ∷ s) e =
+        let h = both-true (unmarked b) (all unmarked s) e in
+        rw (both-true (plain b) (noMark b) (h .0) .1) (without s (h .1))
