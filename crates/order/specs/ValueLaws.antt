@@ -1,19 +1,17 @@
 -- Laws of specs/ValueWords.antt: the first byte of a value, and how a loop over two values decides their order.
 use Prim.Native.Nat.{ℕ, _+_, _≤_, _<_}
-use mathlib.Core.Path.{_≡_, refl, sym, ap, _∙_}
+use mathlib.Core.Path.{_≡_, refl, sym, _∙_}
 use mathlib.Core.List.{List, [], _∷_}
-use mathlib.Core.Bool.{Bool, true, false, false≢true}
+use mathlib.Core.Bool.{Bool, true, false}
 use native.Mathlib.Omega.{arith}
-use native.Mathlib.Numerals.{add-one}
-use lib.Dec.{eqb, ltb}
-use lib.ListN.{length, getD, drop, drop-of-length-le, List·getD-eq-default}
-use lib.Seq.{drop-cons}
-use borrow.Author.Tests.{ne-eqb, ltb-true, ltb-false}
+use lib.Dec.{eqb}
+use lib.ListN.{length, getD, drop, drop-of-length-le}
+use borrow.Author.Tests.{ne-eqb}
 use Rattle.prelude.specs.Choice.{pick, both}
 use Rattle.prelude.specs.ChoiceLaws.{both-true}
 use Rattle.prelude.specs.Bytes.{apostrophe}
 use Rattle.string.specs.Quote.{undoubled, valueOf}
-use Rattle.string.specs.QuoteLaws.{undoubled-go, undoubled-pair}
+use Rattle.string.specs.QuoteLaws.{at-place, mark-inside, undoubled-go, undoubled-pair}
 use Rattle.order.specs.declared.Ordering.the-variants.{Less, Equal, Greater}
 use Rattle.order.specs.Order.{order}
 use Rattle.order.specs.OrderLaws.{less, more, equal}
@@ -27,7 +25,7 @@ value-at true s i h = go (pairAt s i) refl
     go : (b : Bool) → pairAt s i ≡ b → undoubled (drop i s) ≡ getD s i 0 ∷ undoubled (drop (pick b (i + 2) (i + 1)) s)
     go true e = undoubled-pair s i h e
     go false e = undoubled-go s i h e
-value-at false s i h = rw (add-one, drop-cons s i 0 h)
+value-at false s i h = at-place s i h
 
 value-end : (v : Bool) (s : List ℕ) (i : ℕ) → length s ≤ i → valueOf v (drop i s) ≡ []
 unfolding undoubled
@@ -41,14 +39,6 @@ next-onward v s i = go (both v (pairAt s i))
     go : (b : Bool) → i < pick b (i + 2) (i + 1)
     go true = omega arith
     go false = omega arith
-
--- a second apostrophe lies inside
-pub mark-inside : (s : List ℕ) (k : ℕ) → eqb (getD s k 0) apostrophe ≡ true → k < length s
-mark-inside s k e = go (ltb k (length s)) refl
-  where
-    go : (b : Bool) → ltb k (length s) ≡ b → k < length s
-    go true q = ltb-true k (length s) q
-    go false q = absurd (false≢true (sym (ap (λ (b : ℕ). eqb b apostrophe) (List·getD-eq-default s 0 (ltb-false k (length s) q))) ∙ e))
 
 pub next-inside : (v : Bool) (s : List ℕ) (i : ℕ) → i < length s → nextAt v s i ≤ length s
 unfolding nextAt

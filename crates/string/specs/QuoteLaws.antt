@@ -1,15 +1,15 @@
 -- Laws of specs/Quote.antt: what is doubled is undoubled again, and closed where it ends; where a text is closed, told from place to place.
-use Prim.Native.Nat.{ℕ, zero, suc, _+_, _≤_, _<_}
+use Prim.Native.Nat.{ℕ, suc, _+_, _≤_, _<_}
 use mathlib.Core.Path.{_≡_, refl, sym, ap, _∙_}
 use mathlib.Core.List.{List, [], _∷_, _++_}
-use mathlib.Core.Bool.{Bool, true, false}
+use mathlib.Core.Bool.{Bool, true, false, false≢true}
 use native.Mathlib.Omega.{arith}
 use native.Mathlib.Numerals.{add-one}
 use lib.Dec.{eqb, ltb}
 use lib.ListN.{length, getD, take, drop, drop-of-length-le, List·getD-eq-default}
 use lib.Seq.{drop-cons, drop-drop, getD-drop}
 use borrow.Author.Tests.{eq-eqb, ne-eqb, eqb-true, lt-leb, ltb-true, ltb-false}
-use Rattle.prelude.specs.Choice.{pick, both, between, negated, some, all}
+use Rattle.prelude.specs.Choice.{pick, both, negated, some, all}
 use Rattle.prelude.specs.ChoiceLaws.{both-true}
 use Rattle.prelude.specs.Bytes.{apostrophe}
 use Rattle.string.specs.Utf8.{Range, within, sequences, goesOn, valid}
@@ -35,7 +35,7 @@ closing-cons b (c ∷ r) = refl
 
 -- ---- from a place on
 module _ (s : List ℕ) (i : ℕ) (h : i < length s) where
-  at-place : drop i s ≡ getD s i 0 ∷ drop (i + 1) s
+  pub at-place : drop i s ≡ getD s i 0 ∷ drop (i + 1) s
   at-place = rw (add-one, drop-cons s i 0 h)
 
   next : getD (drop (i + 1) s) 0 0 ≡ getD s (i + 1) 0
@@ -66,6 +66,14 @@ module _ (s : List ℕ) (i : ℕ) (h : i < length s) where
   pub undoubled-pair : (both (eqb (getD s i 0) apostrophe) (eqb (getD s (i + 1) 0) apostrophe) ≡ true) → undoubled (drop i s) ≡ getD s i 0 ∷ undoubled (drop (i + 2) s)
   undoubled-pair f = ap undoubled at-place ∙ undoubled-cons (getD s i 0) (drop (i + 1) s) ∙ simp (next, f) (ap (λ (l : List ℕ). getD s i 0 ∷ undoubled l) behind)
 
+-- an apostrophe lies inside
+pub mark-inside : (s : List ℕ) (k : ℕ) → eqb (getD s k 0) apostrophe ≡ true → k < length s
+mark-inside s k e = go (ltb k (length s)) refl
+  where
+    go : (b : Bool) → ltb k (length s) ≡ b → k < length s
+    go true q = ltb-true k (length s) q
+    go false q = absurd (false≢true (sym (ap (λ (b : ℕ). eqb b apostrophe) (List·getD-eq-default s 0 (ltb-false k (length s) q))) ∙ e))
+
 pub closing-end : (s : List ℕ) (i : ℕ) → length s ≤ i → closing (drop i s) ≡ 0
 unfolding closing
 closing-end s i h = rw (drop-of-length-le s h)
@@ -73,15 +81,12 @@ closing-end s i h = rw (drop-of-length-le s h)
 -- a quoted text ends within what stands there
 pub quoted-inside : (r : List ℕ) → quotedSize r ≤ length r
 unfolding quotedSize
-quoted-inside r = go (ltb (closing r) (length r)) refl
+quoted-inside r = go (eqb (getD r (closing r) 0) apostrophe) refl (valid (take (closing r) r))
   where
-    some : closing r < length r → (b : Bool) → pick b (closing r + 1) 0 ≤ length r
-    some h true = omega arith
-    some h false = omega arith
-
-    go : (b : Bool) → ltb (closing r) (length r) ≡ b → pick (both (eqb (getD r (closing r) 0) apostrophe) (valid (take (closing r) r))) (closing r + 1) 0 ≤ length r
-    go true e = some (ltb-true (closing r) (length r) e) (both (eqb (getD r (closing r) 0) apostrophe) (valid (take (closing r) r)))
-    go false e = rw (List·getD-eq-default r 0 (ltb-false (closing r) (length r) e)) (omega arith)
+    go : (b : Bool) → eqb (getD r (closing r) 0) apostrophe ≡ b → (v : Bool) → pick (both b v) (closing r + 1) 0 ≤ length r
+    go true e true = omega (arith, mark-inside r (closing r) e)
+    go true e false = omega arith
+    go false e v = omega arith
 
 -- ---- what is doubled
 

@@ -5,11 +5,10 @@ use mathlib.Core.Path.{_≡_, refl, sym, ap, _∙_, subst}
 use mathlib.Core.List.{List, [], _∷_}
 use mathlib.Core.Bool.{Bool, true, false, false≢true}
 use native.Mathlib.Omega.{arith}
-use native.Mathlib.Numerals.{add-one}
 use lib.Dec.{eqb, ltb}
 use lib.ListN.{length, getD, take, drop, length-take, length-drop, List·getD-eq-default}
-use lib.Seq.{drop-cons, take-all}
-use borrow.Author.Tests.{eq-eqb, ne-eqb, ltb-true, ltb-false}
+use lib.Seq.{take-all}
+use borrow.Author.Tests.{eq-eqb, ne-eqb}
 use Rattle.prelude.specs.Choice.{pick, both, negated, between}
 use Rattle.prelude.specs.ChoiceLaws.{both-true, between-true}
 use Rattle.prelude.specs.Bytes.{apostrophe}
@@ -17,7 +16,7 @@ use Rattle.string.specs.Utf8.{Range, within, goesOn, valid}
 use Rattle.string.specs.Quote.{closing, quotedSize}
 use Rattle.string.specs.SequenceWords.{plain, more, lowest, highest, tails, due, Passes, Open, Heads, Reaches}
 use Rattle.string.specs.Utf8Laws.{plain-go, lead-go, lead-none, short}
-use Rattle.string.specs.QuoteLaws.{closing-go, closing-pair, closing-stop, closing-end}
+use Rattle.string.specs.QuoteLaws.{at-place, closing-go, closing-pair, closing-stop, closing-end}
 
 -- one step after the other
 pub passes-then : {s : List ℕ} {i r q : ℕ} {d e f : List Range} → Passes s i r d e → Passes s (i + r) q e f → Passes s i (r + q) d f
@@ -44,15 +43,12 @@ fails-short s i d h k m = short d (take m (drop i s)) (omega (arith, length-take
 
 -- the byte at a place
 module _ (s : List ℕ) (i : ℕ) (h : i < length s) where
-  at-place : drop i s ≡ getD s i 0 ∷ drop (i + 1) s
-  at-place = rw (add-one, drop-cons s i 0 h)
-
   passes-one : (d e : List Range) → ((t : List ℕ) → goesOn d (getD s i 0 ∷ t) ≡ goesOn e t) → Passes s i 1 d e
   passes-one d e f = record {
     inside = omega arith;
     same = λ m.
         let a : 1 + m ≡ suc m = omega arith in
-        ap (λ (l : List ℕ). goesOn d (take (1 + m) l)) at-place ∙ ap (λ (k : ℕ). goesOn d (take k (getD s i 0 ∷ drop (i + 1) s))) a ∙ f (take m (drop (i + 1) s));
+        ap (λ (l : List ℕ). goesOn d (take (1 + m) l)) (at-place s i h) ∙ ap (λ (k : ℕ). goesOn d (take k (getD s i 0 ∷ drop (i + 1) s))) a ∙ f (take m (drop (i + 1) s));
   }
 
   pub plain-passes : plain (getD s i 0) ≡ true → Passes s i 1 [] []
@@ -78,14 +74,14 @@ module _ (s : List ℕ) (i : ℕ) (h : i < length s) where
 
   module _ (l : getD s i 0 < 256) (e : plain (getD s i 0) ≡ false) where
     pub none-heads : more (getD s i 0) ≡ 0 → Heads s i 0
-    none-heads q m = rw at-place (lead-none (getD s i 0) (take m (drop (i + 1) s)) l e q)
+    none-heads q m = rw (at-place s i h) (lead-none (getD s i 0) (take m (drop (i + 1) s)) l e q)
 
     module _ (k : ℕ) (q : more (getD s i 0) ≡ suc k) where
       pub lead-passes : Passes s i 1 [] (due (getD s i 0) (suc k))
       lead-passes = passes-one [] (due (getD s i 0) (suc k)) (λ t. lead-go (getD s i 0) k t l e q)
 
       pub fails-heads : Fails s (i + 1) (due (getD s i 0) (suc k)) → Heads s i 0
-      fails-heads f m = rw at-place (lead-go (getD s i 0) k (take m (drop (i + 1) s)) l e q ∙ f m)
+      fails-heads f m = rw (at-place s i h) (lead-go (getD s i 0) k (take m (drop (i + 1) s)) l e q ∙ f m)
 
 -- a sequence byte by byte: what is due after its first bytes, and that none of these is an apostrophe
 high-lowest : (b : ℕ) → apostrophe < lowest b
@@ -273,13 +269,6 @@ module _ (b : ℕ) (quoted : Bool) (e : both (plain b) (negated (both quoted (eq
       go false q g = refl
 
 -- two apostrophes
-pub doubled-inside : (s : List ℕ) (i : ℕ) → eqb (getD s (i + 1) 0) apostrophe ≡ true → i + 1 < length s
-doubled-inside s i e = go (ltb (i + 1) (length s)) refl
-  where
-    go : (b : Bool) → ltb (i + 1) (length s) ≡ b → i + 1 < length s
-    go true q = ltb-true (i + 1) (length s) q
-    go false q = absurd (false≢true (sym (ap (λ (b : ℕ). eqb b apostrophe) (List·getD-eq-default s 0 (ltb-false (i + 1) (length s) q))) ∙ e))
-
 pub pair-passes : (s : List ℕ) (i : ℕ) → i + 1 < length s → getD s i 0 ≡ apostrophe → getD s (i + 1) 0 ≡ apostrophe → Passes s i 2 [] [] × Open s i 2
 pair-passes s i h e f =
     (passes-then (plain-passes s i (omega arith) (ap plain e)) (plain-passes s (i + 1) h (ap plain f)), closing-pair s i (omega arith) e f)

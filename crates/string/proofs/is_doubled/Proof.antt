@@ -1,5 +1,5 @@
 -- `string::is_doubled` meets its contract: past the end there is no byte.
-use mathlib.Core.Path.{sym, ap, _∙_}
+use mathlib.Core.Path.{sym, ap}
 use Prim.Native.Nat.{ℕ}
 use lib.Dec.{eqb}
 use lib.ListN.{List·getD-eq-default}

@@ -9,7 +9,8 @@ use borrow.Author.Tests.{eqb-true, eqb-false, not-true, not-false}
 use borrow.Author.Needs.{needs}
 use Rattle.prelude.specs.Bytes.{apostrophe}
 use Rattle.string.specs.SequenceWords.{Reaches}
-use Rattle.string.specs.SequenceLaws.{reaches-then, heads-some, heads-none, simple-passes, marks-quoted, other-bytes, doubled-inside, pair-passes, bad-told, closed-told, end-told, valid-told}
+use Rattle.string.specs.QuoteLaws.{mark-inside}
+use Rattle.string.specs.SequenceLaws.{reaches-then, heads-some, heads-none, simple-passes, marks-quoted, other-bytes, pair-passes, bad-told, closed-told, end-told, valid-told}
 use Rattle.string.proofs.past_sequences.Statement.{statement}
 use Rattle.string.proofs.past_sequences.Tie as tie
 
@@ -47,13 +48,13 @@ returns : tie.Need-returns Inv-loop μ-loop
 returns c = closed-told (c .before .before .before .before .before .before .before .loop .inv) (marks-quoted _ _ (sym (c .before .before .before .before .is-simple .ensures) ∙ c .before .before .before .if1 .left) (c .before .before .if2 .taken)) (c .before .before .before .before .before .before .loop-test .taken) (c .before .before .if2 .taken) (eqb-false _ _ (sym (c .before .is-doubled .ensures) ∙ not-true _ (c .if3 .taken)))
 
 add-i-2 : tie.Need-add-i-2 Inv-loop μ-loop
-add-i-2 c = let e : eqb (getD (c .before .before .before .before .before .before .before .before .before .args .s .now) (c .before .before .before .before .before .before .before .loop .i + 1) 0) apostrophe ≡ true = sym (c .before .is-doubled .ensures) ∙ not-false _ (c .if3 .left) in let p = doubled-inside (c .before .before .before .before .before .before .before .before .before .args .s .now) (c .before .before .before .before .before .before .before .loop .i) e in omega (arith, p)
+add-i-2 c = let e : eqb (getD (c .before .before .before .before .before .before .before .before .before .args .s .now) (c .before .before .before .before .before .before .before .loop .i + 1) 0) apostrophe ≡ true = sym (c .before .is-doubled .ensures) ∙ not-false _ (c .if3 .left) in let p = mark-inside (c .before .before .before .before .before .before .before .before .before .args .s .now) (c .before .before .before .before .before .before .before .loop .i + 1) e in omega (arith, p)
 
 loop-less-2 : tie.Need-loop-less-2 Inv-loop μ-loop
-loop-less-2 c = let e : eqb (getD (c .before .before .before .before .before .before .before .before .before .args .s .now) (c .before .before .before .before .before .before .before .loop .i + 1) 0) apostrophe ≡ true = sym (c .before .is-doubled .ensures) ∙ not-false _ (c .if3 .left) in let p = doubled-inside (c .before .before .before .before .before .before .before .before .before .args .s .now) (c .before .before .before .before .before .before .before .loop .i) e in omega (arith, p)
+loop-less-2 c = let e : eqb (getD (c .before .before .before .before .before .before .before .before .before .args .s .now) (c .before .before .before .before .before .before .before .loop .i + 1) 0) apostrophe ≡ true = sym (c .before .is-doubled .ensures) ∙ not-false _ (c .if3 .left) in let p = mark-inside (c .before .before .before .before .before .before .before .before .before .args .s .now) (c .before .before .before .before .before .before .before .loop .i + 1) e in omega (arith, p)
 
 loop-again-2 : tie.Need-loop-again-2 Inv-loop μ-loop
-loop-again-2 c = let e : eqb (getD (c .before .before .before .before .before .before .before .before .before .args .s .now) (c .before .before .before .before .before .before .before .loop .i + 1) 0) apostrophe ≡ true = sym (c .before .is-doubled .ensures) ∙ not-false _ (c .if3 .left) in let p = doubled-inside (c .before .before .before .before .before .before .before .before .before .args .s .now) (c .before .before .before .before .before .before .before .loop .i) e in let q = pair-passes (c .before .before .before .before .before .before .before .before .before .args .s .now) (c .before .before .before .before .before .before .before .loop .i) p (c .before .before .if2 .taken) (eqb-true _ _ e) in reaches-then (c .before .before .before .before .before .before .before .loop .inv) (q .0) (λ z. q .1)
+loop-again-2 c = let e : eqb (getD (c .before .before .before .before .before .before .before .before .before .args .s .now) (c .before .before .before .before .before .before .before .loop .i + 1) 0) apostrophe ≡ true = sym (c .before .is-doubled .ensures) ∙ not-false _ (c .if3 .left) in let p = mark-inside (c .before .before .before .before .before .before .before .before .before .args .s .now) (c .before .before .before .before .before .before .before .loop .i + 1) e in let q = pair-passes (c .before .before .before .before .before .before .before .before .before .args .s .now) (c .before .before .before .before .before .before .before .loop .i) p (c .before .before .if2 .taken) (eqb-true _ _ e) in reaches-then (c .before .before .before .before .before .before .before .loop .inv) (q .0) (λ z. q .1)
 
 sequence-at-requires : tie.Need-sequence-at-requires Inv-loop μ-loop
 sequence-at-requires c κs = (c .before .before .before .before .loop-test .taken, other-bytes _ (c .before .before .before .before .before .before .before .args .quoted) (sym (c .before .before .is-simple .ensures) ∙ c .before .if1 .left) (c .if2 .left))

@@ -1,6 +1,6 @@
 -- `string::sequence::is_second` meets its contract: after each first byte that its tests name, the range of the definition.
 use mathlib.Core.Path.{_∙_}
-use borrow.Author.Tests.{eq-eqb, ne-eqb}
+use borrow.Author.Tests.{ne-eqb}
 use borrow.Author.Needs.{needs}
 use Rattle.string.specs.SequenceWords.{lowest, highest}
 use Rattle.string.proofs.sequence.is_second.Statement.{statement}
