@@ -1,7 +1,7 @@
 // The order of byte strings, byte by byte: of strings as they are, and of the values of strings that are written with each apostrophe doubled.
 ghost use mathlib.Core.Path.{_≡_};
 ghost use mathlib.Core.Bool.{Bool};
-ghost use Prim.Native.Nat.{_<_};
+ghost use Prim.Native.Nat.{_≤_, _<_};
 ghost use lib.ListN.{length};
 ghost use Rattle.string.specs.Quote.{valueOf};
 ghost use Rattle.order.specs.Order.{order};
@@ -39,15 +39,19 @@ pub fn compare(a: &[u8], b: &[u8]) -> Ordering
     Ordering::Less
 }
 
+fn least(a: usize, b: usize) -> usize
+    ensures { λ r. ⌜ (r ≤ a) × (r ≤ b) ⌝ }
+{
+    if a <= b { a } else { b }
+}
+
 // How many bytes both strings begin with, up to the first apostrophe: over these the values are the strings.
 fn common(a: &[u8], b: &[u8]) -> usize
     ensures { λ r. ⌜ ((v w : Bool) → Alike v w (now (a .entry)) (now (b .entry)) r r) ⌝ }
 {
+    let n = least(a.len(), b.len());
     let mut i = 0;
-    while i < a.len() {
-        if i == b.len() {
-            return i;
-        }
+    while i < n {
         let x = a[i];
         if x != b[i] {
             return i;
