@@ -37,26 +37,23 @@ fn is_digit(b: u8) -> bool
 pub fn is_name_start(b: u8) -> bool
     ensures { λ r. ⌜ r ≡ nameStart b ⌝ }
 {
-    if is_letter(b) {
+    if b == b'_' {
         return true;
     }
-    b == b'_'
+    is_letter(b)
 }
 
-// Most bytes of names are small letters, so these are looked at first, by two comparisons; then the capitals and the underscore, which lie below them, then the digits.
+// Most bytes of names are letters and digits, so the underscore is looked for last.
 fn is_name_byte(b: u8) -> bool
     ensures { λ r. ⌜ r ≡ nameByte b ⌝ }
 {
-    if b'a' <= b {
-        return b <= b'z';
+    if is_letter(b) {
+        return true;
     }
-    if b'A' <= b {
-        if b <= b'Z' {
-            return true;
-        }
-        return b == b'_';
+    if is_digit(b) {
+        return true;
     }
-    is_digit(b)
+    b == b'_'
 }
 
 fn is_spatial_byte(b: u8) -> bool

@@ -13,10 +13,10 @@ use lib.Seq.{drop-cons}
 use borrow.Author.Tests.{lt-ltb, le-ltb, ltb-true, ltb-false}
 use Rattle.order.specs.declared.Ordering.{Ordering}
 use Rattle.order.specs.declared.Ordering.the-variants.{Less, Equal, Greater}
-use Rattle.order.specs.Order.{order, isLess, below}
+use Rattle.order.specs.Order.{order, isLess, isEqual, below}
 
 -- two bytes
-three : (a b : ℕ) → (a < b) ⊎ ((a ≡ b) ⊎ (b < a))
+pub three : (a b : ℕ) → (a < b) ⊎ ((a ≡ b) ⊎ (b < a))
 three a b = go (ltb a b) (ltb b a) refl refl
   where
     go : (p q : Bool) → ltb a b ≡ p → ltb b a ≡ q → (a < b) ⊎ ((a ≡ b) ⊎ (b < a))
@@ -75,6 +75,20 @@ order-same (a ∷ x) (b ∷ y) e =
     let p : a ≡ b = h .0 in
     let q : x ≡ y = order-same x y (h .1) in
     cc
+
+-- strings of two lengths are not the same
+pub other-length : (x y : List ℕ) → (length x ≡ length y → ⊥) → isEqual (order x y) ≡ false
+other-length x y f = go (order x y) refl
+  where
+    go : (o : Ordering) → order x y ≡ o → isEqual o ≡ false
+    go Less e = refl
+    go Equal e = absurd (f (ap length (order-same x y e)))
+    go Greater e = refl
+
+pub isEqual-true : (o : Ordering) → isEqual o ≡ true → o ≡ Equal
+isEqual-true Less e = cc
+isEqual-true Equal e = refl
+isEqual-true Greater e = cc
 
 -- below one way is above the other way
 pub order-above : (x y : List ℕ) → order x y ≡ Less → order y x ≡ Greater
@@ -170,6 +184,13 @@ module _ (a b : List ℕ) (i : ℕ) where
   pub order-more : i < length a → i < length b → getD b i 0 ≤ getD a i 0 → getD b i 0 < getD a i 0 → order (drop i a) (drop i b) ≡ Greater
   unfolding order
   order-more h k p q = rw (drop-cons a i 0 h, drop-cons b i 0 k, le-ltb _ _ p, lt-ltb _ _ q)
+
+  pub order-apart : i < length a → i < length b → (getD a i 0 ≡ getD b i 0 → ⊥) → isEqual (order (drop i a) (drop i b)) ≡ false
+  order-apart h k f =
+      ⊎-elim (λ (l : getD a i 0 < getD b i 0). ap isEqual (order-less h k l))
+      (⊎-elim (λ (e : getD a i 0 ≡ getD b i 0). absurd (f e))
+      (λ (l : getD b i 0 < getD a i 0). let m : getD b i 0 ≤ getD a i 0 = omega arith in ap isEqual (order-more h k m l)))
+      (three (getD a i 0) (getD b i 0))
 
   pub order-long : i < length a → length b ≤ i → order (drop i a) (drop i b) ≡ Greater
   unfolding order

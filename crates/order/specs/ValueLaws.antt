@@ -3,6 +3,7 @@ use Prim.Native.Nat.{ℕ, _+_, _≤_, _<_}
 use mathlib.Core.Path.{_≡_, refl, sym, _∙_}
 use mathlib.Core.List.{List, [], _∷_}
 use mathlib.Core.Bool.{Bool, true, false}
+use mathlib.Core.Logic.{_⊎_, inl, inr, ⊎-elim}
 use native.Mathlib.Omega.{arith}
 use lib.Dec.{eqb}
 use lib.ListN.{length, getD, drop, drop-of-length-le}
@@ -14,7 +15,7 @@ use Rattle.string.specs.Quote.{undoubled, valueOf}
 use Rattle.string.specs.QuoteLaws.{at-place, mark-inside, undoubled-go, undoubled-pair}
 use Rattle.order.specs.declared.Ordering.the-variants.{Less, Equal, Greater}
 use Rattle.order.specs.Order.{order}
-use Rattle.order.specs.OrderLaws.{less, more, equal}
+use Rattle.order.specs.OrderLaws.{three, less, more, equal}
 use Rattle.order.specs.ValueWords.{Alike, pairAt, nextAt}
 
 -- the byte at i, and the value after it
@@ -81,6 +82,14 @@ module _ {v w : Bool} {a b : List ℕ} {i j : ℕ} (x : Alike v w a b i j) where
 
   pub value-more : i < length a → j < length b → getD b j 0 < getD a i 0 → Greater ≡ order (valueOf v a) (valueOf w b)
   value-more h k l = sym (rw (value-at v a i h, value-at w b j k) (more (getD a i 0) (getD b j 0) _ _ l)) ∙ x .same
+
+  pub value-apart : i < length a → j < length b → (getD a i 0 ≡ getD b j 0 → ⊥)
+      → order (getD a i 0 ∷ []) (getD b j 0 ∷ []) ≡ order (valueOf v a) (valueOf w b)
+  value-apart h k f =
+      ⊎-elim (λ (l : getD a i 0 < getD b j 0). less (getD a i 0) (getD b j 0) [] [] l ∙ value-less h k l)
+      (⊎-elim (λ (e : getD a i 0 ≡ getD b j 0). absurd (f e))
+      (λ (l : getD b j 0 < getD a i 0). more (getD a i 0) (getD b j 0) [] [] l ∙ value-more h k l))
+      (three (getD a i 0) (getD b j 0))
 
   pub value-long : i < length a → length b ≤ j → Greater ≡ order (valueOf v a) (valueOf w b)
   unfolding order

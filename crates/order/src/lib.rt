@@ -1,10 +1,10 @@
 // The order of byte strings, byte by byte: of strings as they are, and of the values of strings that are written with each apostrophe doubled.
 ghost use mathlib.Core.Path.{_≡_};
-ghost use mathlib.Core.Bool.{Bool};
+ghost use mathlib.Core.List.{_∷_, []};
 ghost use Prim.Native.Nat.{_≤_, _<_};
 ghost use lib.ListN.{length};
 ghost use Rattle.string.specs.Quote.{valueOf};
-ghost use Rattle.order.specs.Order.{order};
+ghost use Rattle.order.specs.Order.{order, isEqual};
 ghost use Rattle.order.specs.ValueWords.{Alike, nextAt};
 
 // How one string stands to another.
@@ -39,29 +39,38 @@ pub fn compare(a: &[u8], b: &[u8]) -> Ordering
     Ordering::Less
 }
 
+// Whether a is b.
+pub fn is_same(a: &[u8], b: &[u8]) -> bool
+    ensures { λ r. ⌜ r ≡ isEqual (order (now (a .entry)) (now (b .entry))) ⌝ }
+{
+    if a.len() != b.len() {
+        return false;
+    }
+    let mut i = 0;
+    while i < a.len() {
+        if a[i] != b[i] {
+            return false;
+        }
+        i += 1;
+    }
+    true
+}
+
 fn least(a: usize, b: usize) -> usize
-    ensures { λ r. ⌜ (r ≤ a) × (r ≤ b) ⌝ }
+    ensures { λ r. ⌜ (r ≤ a) × (r ≤ b) × (a ≤ b → r ≡ a) × (b ≤ a → r ≡ b) ⌝ }
 {
     if a <= b { a } else { b }
 }
 
-// How many bytes both strings begin with, up to the first apostrophe: over these the values are the strings.
-fn common(a: &[u8], b: &[u8]) -> usize
-    ensures { λ r. ⌜ ((v w : Bool) → Alike v w (now (a .entry)) (now (b .entry)) r r) ⌝ }
+// The order of two bytes that differ.
+fn unequal(x: u8, y: u8) -> Ordering
+    requires { ⌜ (x ≡ y → ⊥) ⌝ }
+    ensures { λ r. ⌜ r ≡ order (x ∷ []) (y ∷ []) ⌝ }
 {
-    let n = least(a.len(), b.len());
-    let mut i = 0;
-    while i < n {
-        let x = a[i];
-        if x != b[i] {
-            return i;
-        }
-        if x == b'\'' {
-            return i;
-        }
-        i += 1;
+    if x < y {
+        return Ordering::Less;
     }
-    i
+    Ordering::Greater
 }
 
 // The place after the byte of value at i: if s is written with its apostrophes doubled, two of them are one byte.
@@ -82,13 +91,13 @@ fn after(s: &[u8], written: bool, i: usize) -> usize
     next
 }
 
-// How the value of a stands to the value of b; each says whether it is written with its apostrophes doubled.
-pub fn compare_values(a: &[u8], a_written: bool, b: &[u8], b_written: bool) -> Ordering
+// What `compare_values` says of strings that are alike up to a place.
+fn compare_from(a: &[u8], a_written: bool, b: &[u8], b_written: bool, from: usize) -> Ordering
+    requires { ⌜ Alike «a_written» «b_written» (now a) (now b) from from ⌝ }
     ensures { λ r. ⌜ r ≡ order (valueOf «a_written» (now (a .entry))) (valueOf «b_written» (now (b .entry))) ⌝ }
 {
-    let first = common(a, b);
-    let mut i = first;
-    let mut j = first;
+    let mut i = from;
+    let mut j = from;
     while i < a.len() {
         if j == b.len() {
             return Ordering::Greater;
@@ -106,6 +115,33 @@ pub fn compare_values(a: &[u8], a_written: bool, b: &[u8], b_written: bool) -> O
     }
     if j < b.len() {
         return Ordering::Less;
+    }
+    Ordering::Equal
+}
+
+// How the value of a stands to the value of b; each says whether it is written with its apostrophes doubled.
+// Up to the first apostrophe the values are the strings, and most are told there.
+pub fn compare_values(a: &[u8], a_written: bool, b: &[u8], b_written: bool) -> Ordering
+    ensures { λ r. ⌜ r ≡ order (valueOf «a_written» (now (a .entry))) (valueOf «b_written» (now (b .entry))) ⌝ }
+{
+    let n = least(a.len(), b.len());
+    let mut i = 0;
+    while i < n {
+        let x = a[i];
+        let y = b[i];
+        if x != y {
+            return unequal(x, y);
+        }
+        if x == b'\'' {
+            return compare_from(a, a_written, b, b_written, i);
+        }
+        i += 1;
+    }
+    if a.len() < b.len() {
+        return Ordering::Less;
+    }
+    if b.len() < a.len() {
+        return Ordering::Greater;
     }
     Ordering::Equal
 }

@@ -1,29 +1,29 @@
--- `literal::lacks_apostrophe` meets its contract: what is left of the text, from i on, answers for the whole.
-use mathlib.Core.Path.{_≡_, refl, sym, ap, _∙_}
+-- `literal::lacks_apostrophe` meets its contract: what was found up to i and what is left from i on answer for the whole text.
+use mathlib.Core.Path.{_≡_, refl, sym, _∙_}
 use Prim.Native.Nat.{_-_, _≤_}
 use native.Mathlib.Omega.{arith}
 use lib.ListN.{length, drop}
-use borrow.Author.Tests.{eq-eqb, ne-eqb}
-use Rattle.prelude.specs.Choice.{all, negated}
-use Rattle.prelude.specs.ChoiceLaws.{all-next, all-not, all-end}
+use borrow.Author.Needs.{needs}
+use Rattle.prelude.specs.Choice.{both, all}
 use Rattle.string.specs.QuoteLaws.{noMark}
+use Rattle.literal.proofs.DoubledLaws.{search-next, search-end}
 use Rattle.literal.proofs.lacks_apostrophe.Statement.{statement}
 use Rattle.literal.proofs.lacks_apostrophe.Tie as tie
 
 abbrev Inv-loop : tie.InvT-loop
-Inv-loop s i₀ i = (i ≤ length s) × (all noMark s ≡ all noMark (drop i s))
+Inv-loop s lacks₀ i₀ lacks i = (i ≤ length s) × (all noMark s ≡ both lacks (all noMark (drop i s)))
 
 abbrev μ-loop : tie.MeasureT-loop
-μ-loop s i₀ i = length s - i
+μ-loop s lacks₀ i₀ lacks i = length s - i
 
 loop-holds : tie.Need-loop-holds Inv-loop μ-loop
 loop-holds c = (omega arith, refl)
 
-shared-slice-read-if1 : tie.Need-shared-slice-read-if1 Inv-loop μ-loop
-shared-slice-read-if1 c = omega arith
+shared-slice-read-lacks-still : tie.Need-shared-slice-read-lacks-still Inv-loop μ-loop
+shared-slice-read-lacks-still c = omega arith
 
-returns : tie.Need-returns Inv-loop μ-loop
-returns c = sym (c .before .before .before .loop .inv .1 ∙ all-not noMark (c .before .before .before .before .args .s .now) _ (omega arith) (ap negated (eq-eqb _ _ (c .if1 .taken))))
+lacks-still-requires : tie.Need-lacks-still-requires Inv-loop μ-loop
+lacks-still-requires c κs = search needs
 
 add-i : tie.Need-add-i Inv-loop μ-loop
 add-i c = omega arith
@@ -32,10 +32,10 @@ loop-less : tie.Need-loop-less Inv-loop μ-loop
 loop-less c = omega arith
 
 loop-again : tie.Need-loop-again Inv-loop μ-loop
-loop-again c = (omega arith, c .before .before .before .loop .inv .1 ∙ all-next noMark (c .before .before .before .before .args .s .now) _ (omega arith) (ap negated (ne-eqb _ _ (c .if1 .left))))
+loop-again c = let l = c .before .before .before .loop in (omega arith, l .inv .1 ∙ search-next (l .lacks) _ _ (l .i) (omega arith) (c .lacks-still .ensures))
 
-returns-2 : tie.Need-returns-2 Inv-loop μ-loop
-returns-2 c = sym (c .before .loop .inv .1 ∙ all-end noMark (c .before .before .args .s .now) (c .before .loop .i) (omega arith))
+returns : tie.Need-returns Inv-loop μ-loop
+returns c = let l = c .before .loop in sym (l .inv .1 ∙ search-end (l .lacks) _ (l .i) (omega arith))
 
 pub lacks-apostrophe-spec : {M : Type 1} → statement M
 lacks-apostrophe-spec =
@@ -44,9 +44,9 @@ lacks-apostrophe-spec =
     Inv-loop
     μ-loop
     loop-holds
-    shared-slice-read-if1
-    returns
+    shared-slice-read-lacks-still
+    lacks-still-requires
     add-i
     loop-less
     loop-again
-    returns-2)
+    returns)
