@@ -8,11 +8,10 @@ use native.Mathlib.Numerals.{add-one}
 use lib.ListN.{length, getD, set, take, drop, length-append, take-append-drop}
 use lib.Dec.{eqb}
 use lib.Seq.{take-suc, take-all, sets, length-sets}
-use Rattle.prelude.specs.Choice.{pick, both, all}
-use Rattle.prelude.specs.ChoiceLaws.{all-next, all-not, all-end}
+use Rattle.prelude.specs.Choice.{pick}
 use Rattle.prelude.specs.Bytes.{apostrophe}
 use Rattle.string.specs.Quote.{doubled}
-use Rattle.string.specs.QuoteLaws.{noMark, doubled-append, doubled-mark, doubled-other, doubled-longer}
+use Rattle.string.specs.QuoteLaws.{doubled-append, doubled-mark, doubled-other, doubled-longer}
 use Rattle.literal.specs.Literal.{quoted}
 use Rattle.literal.specs.LiteralLaws.{length-quoted}
 use Rattle.emit.specs.Emit.{countLimit, ended, Puts}
@@ -134,18 +133,3 @@ laid-then {cap} {at} {out} {t} {mid} {exit} {q} {k} u w e f = record {
   laid = e ∙ rw (w .end, w .laid) (sets-append t u out at);
   end = let z = w .end in let l = length-append t u in omega (arith, z, l, f);
 }
-
--- a search for an apostrophe: one byte more,
-pub search-next : (m r : Bool) (s : List ℕ) (i : ℕ) → i < length s → r ≡ both m (noMark (getD s i 0))
-    → both m (all noMark (drop i s)) ≡ both r (all noMark (drop (i + 1) s))
-search-next false r s i h q = rw q refl
-search-next true r s i h q = go r (sym q)
-  where
-    go : (b : Bool) → noMark (getD s i 0) ≡ b → all noMark (drop i s) ≡ both b (all noMark (drop (i + 1) s))
-    go true e = all-next noMark s i h e
-    go false e = all-not noMark s i h e
-
--- and its end
-pub search-end : (m : Bool) (s : List ℕ) (i : ℕ) → length s ≤ i → both m (all noMark (drop i s)) ≡ m
-search-end true s i h = all-end noMark s i h
-search-end false s i h = refl

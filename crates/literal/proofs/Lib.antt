@@ -2,3 +2,4 @@
 mod Signed
 mod Laws
 mod DoubledLaws
+mod SearchLaws

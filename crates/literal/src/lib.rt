@@ -11,6 +11,7 @@ ghost use Rattle.string.specs.QuoteLaws.{noMark};
 ghost use lib.Seq.{sets};
 ghost use mathlib.Core.List.{_∷_, []};
 ghost use Rattle.emit.specs.Emit.{countLimit, Puts};
+ghost use Rattle.literal.specs.SearchWords.{Searched};
 
 // How many bytes a text has besides what it holds: two quotation marks; ` COLLATE `; `ST_GeomFromText('', )`.
 const QUOTES: usize = 2;
@@ -45,24 +46,58 @@ pub fn put_quoted(s: &[u8], out: &mut [u8], at: usize) -> usize
     emit::put(b"'", out, close)
 }
 
-// What is left of `lacks` with one byte more.
+// Whether there is no apostrophe, with one byte more.
 fn lacks_still(lacks: bool, b: u8) -> bool
     ensures { λ r. ⌜ r ≡ both lacks (noMark b) ⌝ }
 {
     if b == b'\'' { false } else { lacks }
 }
 
-// Most texts have no apostrophe. The loop does not stop at one, so that it can be compiled to test many bytes at once.
+// No apostrophe is among the eight bytes from the place i on. All eight are read, which is compiled to one test.
+fn lacks_in_eight(s: &[u8], i: usize) -> bool
+    requires { ⌜ i + 8 ≤ length (now s) ⌝ }
+    ensures { λ r. ⌜ Searched (now (s .entry)) i 8 r ⌝ }
+{
+    let mut lacks = lacks_still(true, s[i]);
+    lacks = lacks_still(lacks, s[i + 1]);
+    lacks = lacks_still(lacks, s[i + 2]);
+    lacks = lacks_still(lacks, s[i + 3]);
+    lacks = lacks_still(lacks, s[i + 4]);
+    lacks = lacks_still(lacks, s[i + 5]);
+    lacks = lacks_still(lacks, s[i + 6]);
+    lacks_still(lacks, s[i + 7])
+}
+
+// No apostrophe is in a text, looked at byte by byte.
+fn lacks_singly(s: &[u8]) -> bool
+    ensures { λ r. ⌜ r ≡ all noMark (now (s .entry)) ⌝ }
+{
+    let mut i = 0;
+    while i < s.len() {
+        if s[i] == b'\'' {
+            return false;
+        }
+        i += 1;
+    }
+    true
+}
+
+// Most texts have no apostrophe, and both walks ask this of each. The last eight bytes are looked at together too, some of them a second time.
 fn lacks_apostrophe(s: &[u8]) -> bool
     ensures { λ r. ⌜ r ≡ all noMark (now (s .entry)) ⌝ }
 {
-    let mut lacks = true;
-    let mut i = 0;
-    while i < s.len() {
-        lacks = lacks_still(lacks, s[i]);
-        i += 1;
+    if s.len() < 8 {
+        return lacks_singly(s);
     }
-    lacks
+    let last = s.len() - 8;
+    let mut i = 0;
+    while i < last {
+        if !lacks_in_eight(s, i) {
+            return false;
+        }
+        i += 8;
+    }
+    lacks_in_eight(s, last)
 }
 
 // How many bytes a byte is written with besides itself.

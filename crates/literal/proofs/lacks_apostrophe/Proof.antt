@@ -1,29 +1,39 @@
--- `literal::lacks_apostrophe` meets its contract: what was found up to i and what is left from i on answer for the whole text.
-use mathlib.Core.Path.{_≡_, refl, sym, _∙_}
+-- `literal::lacks_apostrophe` meets its contract: the loop keeps that no byte before i is an apostrophe; the last look reaches back over some of them.
 use Prim.Native.Nat.{_-_, _≤_}
+use mathlib.Core.Bool.{true}
+use mathlib.Core.Path.{sym}
 use native.Mathlib.Omega.{arith}
-use lib.ListN.{length, drop}
+use lib.ListN.{length}
 use borrow.Author.Needs.{needs}
-use Rattle.prelude.specs.Choice.{both, all}
-use Rattle.string.specs.QuoteLaws.{noMark}
-use Rattle.literal.proofs.DoubledLaws.{search-next, search-end}
+use borrow.Author.Tests.{not-true, not-false}
+use Rattle.literal.specs.SearchWords.{Searched}
+use Rattle.literal.proofs.SearchLaws.{searched-start, searched-both, searched-end}
 use Rattle.literal.proofs.lacks_apostrophe.Statement.{statement}
 use Rattle.literal.proofs.lacks_apostrophe.Tie as tie
 
 abbrev Inv-loop : tie.InvT-loop
-Inv-loop s lacks₀ i₀ lacks i = (i ≤ length s) × (all noMark s ≡ both lacks (all noMark (drop i s)))
+Inv-loop s last i₀ i = (i ≤ length s) × Searched s 0 i true
 
 abbrev μ-loop : tie.MeasureT-loop
-μ-loop s lacks₀ i₀ lacks i = length s - i
+μ-loop s last i₀ i = length s - i
+
+lacks-singly-requires : tie.Need-lacks-singly-requires Inv-loop μ-loop
+lacks-singly-requires c κs = search needs
+
+returns : tie.Need-returns Inv-loop μ-loop
+returns c = search needs
+
+sub-last : tie.Need-sub-last Inv-loop μ-loop
+sub-last c = omega arith
 
 loop-holds : tie.Need-loop-holds Inv-loop μ-loop
-loop-holds c = (omega arith, refl)
+loop-holds c = (omega arith, searched-start)
 
-shared-slice-read-lacks-still : tie.Need-shared-slice-read-lacks-still Inv-loop μ-loop
-shared-slice-read-lacks-still c = omega arith
+lacks-in-eight-requires : tie.Need-lacks-in-eight-requires Inv-loop μ-loop
+lacks-in-eight-requires c κs = omega arith
 
-lacks-still-requires : tie.Need-lacks-still-requires Inv-loop μ-loop
-lacks-still-requires c κs = search needs
+returns-2 : tie.Need-returns-2 Inv-loop μ-loop
+returns-2 c = sym (c .before .lacks-in-eight .ensures .found (not-true _ (c .if2 .taken)))
 
 add-i : tie.Need-add-i Inv-loop μ-loop
 add-i c = omega arith
@@ -32,10 +42,13 @@ loop-less : tie.Need-loop-less Inv-loop μ-loop
 loop-less c = omega arith
 
 loop-again : tie.Need-loop-again Inv-loop μ-loop
-loop-again c = let l = c .before .before .before .loop in (omega arith, l .inv .1 ∙ search-next (l .lacks) _ _ (l .i) (omega arith) (c .lacks-still .ensures))
+loop-again c = let l = c .before .before .before .loop in (omega arith, searched-both (l .inv .1) (c .before .lacks-in-eight .ensures) (not-false _ (c .if2 .left)) (omega arith))
 
-returns : tie.Need-returns Inv-loop μ-loop
-returns c = let l = c .before .loop in sym (l .inv .1 ∙ search-end (l .lacks) _ (l .i) (omega arith))
+lacks-in-eight-requires-2 : tie.Need-lacks-in-eight-requires-2 Inv-loop μ-loop
+lacks-in-eight-requires-2 c κs = omega arith
+
+returns-3 : tie.Need-returns-3 Inv-loop μ-loop
+returns-3 c = searched-end (c .before .before .loop .inv .1) (c .lacks-in-eight2 .ensures) (omega arith) (omega arith)
 
 pub lacks-apostrophe-spec : {M : Type 1} → statement M
 lacks-apostrophe-spec =
@@ -43,10 +56,14 @@ lacks-apostrophe-spec =
     (tie.spec
     Inv-loop
     μ-loop
+    lacks-singly-requires
+    returns
+    sub-last
     loop-holds
-    shared-slice-read-lacks-still
-    lacks-still-requires
+    lacks-in-eight-requires
+    returns-2
     add-i
     loop-less
     loop-again
-    returns)
+    lacks-in-eight-requires-2
+    returns-3)

@@ -1,6 +1,5 @@
 -- `string::size_from` meets its contract: an apostrophe that is not doubled closes the text; of any other byte the rest tells.
 use mathlib.Core.Path.{refl, sym, _∙_}
-use native.Mathlib.Omega.{arith}
 use borrow.Author.Tests.{eqb-false, not-true}
 use borrow.Author.Needs.{needs}
 use Rattle.string.specs.SequenceLaws.{closed-quoted}
