@@ -2,7 +2,6 @@
 mod sequence;
 
 ghost use mathlib.Core.Path.{_≡_};
-ghost use mathlib.Core.Bool.{true};
 ghost use lib.Dec.{eqb};
 ghost use lib.ListN.{length, getD};
 ghost use Prim.Native.Nat.{_+_, _<_};
@@ -36,6 +35,20 @@ fn is_simple(b: u8, quoted: bool) -> bool
     is_plain(b)
 }
 
+// The end of such bytes at the head of s. Most texts end there.
+fn past_simple(s: &[u8], quoted: bool) -> usize
+    ensures { λ r. ⌜ Reaches quoted (now (s .entry)) r ⌝ }
+{
+    let mut i = 0;
+    while i < s.len() {
+        if !is_simple(s[i], quoted) {
+            return i;
+        }
+        i += 1;
+    }
+    i
+}
+
 // The rest from the place `from` on. Of a quoted text: its size as below. Of any other string: 1 if it is valid, 0 if it is not.
 fn past_sequences(s: &[u8], quoted: bool, from: usize) -> usize
     requires { ⌜ Reaches quoted (now s) from ⌝ }
@@ -62,43 +75,29 @@ fn past_sequences(s: &[u8], quoted: bool, from: usize) -> usize
     if quoted { 0 } else { 1 }
 }
 
-// The size of a quoted text, as below, that is read up to the place i.
-fn size_from(s: &[u8], i: usize) -> usize
-    requires { ⌜ (Reaches true (now s) i) × (i < length (now s)) ⌝ }
-    ensures { λ r. ⌜ r ≡ quotedSize (now (s .entry)) ⌝ }
-{
-    if s[i] == b'\'' {
-        if !is_doubled(s, i) {
-            return i + 1;
-        }
-    }
-    past_sequences(s, true, i)
-}
-
-// What a Str text and a row's value may hold. Most are simple to their end, so their loop does nothing else.
+// What a Str text and a row's value may hold.
 pub fn is_valid(s: &[u8]) -> bool
     ensures { λ r. ⌜ r ≡ valid (now (s .entry)) ⌝ }
 {
-    let mut i = 0;
-    while i < s.len() {
-        if !is_simple(s[i], false) {
-            return past_sequences(s, false, i) == 1;
-        }
-        i += 1;
+    let i = past_simple(s, false);
+    if i == s.len() {
+        return true;
     }
-    true
+    past_sequences(s, false, i) == 1
 }
 
 // How many bytes a quoted text takes of s, which stands after its first mark; 0 if it is no text.
 pub fn quoted_size(s: &[u8]) -> usize
     ensures { λ r. ⌜ r ≡ quotedSize (now (s .entry)) ⌝ }
 {
-    let mut i = 0;
-    while i < s.len() {
-        if !is_simple(s[i], true) {
-            return size_from(s, i);
-        }
-        i += 1;
+    let i = past_simple(s, true);
+    if i == s.len() {
+        return 0;
     }
-    0
+    if s[i] == b'\'' {
+        if !is_doubled(s, i) {
+            return i + 1;
+        }
+    }
+    past_sequences(s, true, i)
 }

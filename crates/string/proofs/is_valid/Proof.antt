@@ -1,63 +1,24 @@
--- `string::is_valid` meets its contract: the loop keeps that the string is read up to i; a string that is read to its end is valid, of any other the
--- rest tells.
-use Prim.Native.Nat.{ℕ, _-_}
+-- `string::is_valid` meets its contract: a string that is read to its end is valid; of any other the rest tells.
 use mathlib.Core.Path.{sym, ap, _∙_}
-use mathlib.Core.Bool.{false}
 use native.Mathlib.Omega.{arith}
+use Prim.Native.Nat.{ℕ}
 use lib.Dec.{eqb}
-use lib.ListN.{length}
-use borrow.Author.Tests.{not-false}
 use borrow.Author.Needs.{needs}
-use Rattle.string.specs.SequenceWords.{Reaches}
-use Rattle.string.specs.SequenceLaws.{reaches-start, reaches-then, simple-passes, end-valid, one-tells}
+use Rattle.string.specs.SequenceLaws.{end-valid, one-tells}
 use Rattle.string.proofs.is_valid.Statement.{statement}
 use Rattle.string.proofs.is_valid.Tie as tie
 
-abbrev Inv-loop : tie.InvT-loop
-Inv-loop s i₀ i = Reaches false s i
+past-simple-requires : tie.Need-past-simple-requires
+past-simple-requires c κs = search needs
 
-abbrev μ-loop : tie.MeasureT-loop
-μ-loop s i₀ i = length s - i
+returns : tie.Need-returns
+returns c = sym (end-valid (c .before .past-simple .ensures) (omega arith))
 
-loop-holds : tie.Need-loop-holds Inv-loop μ-loop
-loop-holds c = reaches-start
+past-sequences-requires : tie.Need-past-sequences-requires
+past-sequences-requires c κs = search needs
 
-shared-slice-read-is-simple : tie.Need-shared-slice-read-is-simple Inv-loop μ-loop
-shared-slice-read-is-simple c = search needs
-
-is-simple-requires : tie.Need-is-simple-requires Inv-loop μ-loop
-is-simple-requires c κs = search needs
-
-past-sequences-requires : tie.Need-past-sequences-requires Inv-loop μ-loop
-past-sequences-requires c κs = c .before .before .before .before .loop .inv
-
-returns : tie.Need-returns Inv-loop μ-loop
-returns c = ap (λ (n : ℕ). eqb n 1) (c .past-sequences .ensures) ∙ one-tells _
-
-add-i : tie.Need-add-i Inv-loop μ-loop
-add-i c = search needs
-
-loop-less : tie.Need-loop-less Inv-loop μ-loop
-loop-less c = omega arith
-
-loop-again : tie.Need-loop-again Inv-loop μ-loop
-loop-again c = let p = simple-passes _ _ (c .before .before .before .loop-test .taken) _ (sym (c .before .is-simple .ensures) ∙ not-false _ (c .if1 .left)) in reaches-then (c .before .before .before .before .loop .inv) (p .0) (p .1)
-
-returns-2 : tie.Need-returns-2 Inv-loop μ-loop
-returns-2 c = sym (end-valid (c .before .loop .inv) (omega (arith, c .before .loop .inv .inside)))
+returns-2 : tie.Need-returns-2
+returns-2 c = ap (λ (n : ℕ). eqb n 1) (c .past-sequences .ensures) ∙ one-tells _
 
 pub is-valid-spec : {M : Type 1} → statement M
-is-valid-spec =
-    tie.close
-    (tie.spec
-    Inv-loop
-    μ-loop
-    loop-holds
-    shared-slice-read-is-simple
-    is-simple-requires
-    past-sequences-requires
-    returns
-    add-i
-    loop-less
-    loop-again
-    returns-2)
+is-valid-spec = tie.close (tie.spec past-simple-requires returns past-sequences-requires returns-2)
