@@ -1,5 +1,5 @@
 """The inputs of bench/run: filters, texts and rows of a bench's log, larger ones of the same kind, and the worst known."""
-import os, random, sys
+import os, random, struct, sys
 
 sys.path.insert(0, os.path.join(os.path.dirname(os.path.abspath(__file__)), '..', 'tools'))
 from generators.reading_edges import three_letter_names
@@ -215,3 +215,13 @@ def compared():
     return [('time filters', lowering(TIME_FILTERS)), ('mixed filters', lowering(MIXED_FILTERS)), ('32 KB trees', lowering(large(PLANNER.tree)))], [
         ('small texts, 6 columns', both(TEXTS)), ('small texts, 60 columns', both(TEXTS, MORE)),
         ('text of 2 KB, 6 columns', reading([' OR '.join('(%s)' % t for t in TEXTS * 3)], CELLS))]
+
+
+def write(path, cases):
+    """For the drivers. cases: (kind, list of four byte strings), and whether the other sides take part."""
+    with open(path, 'wb') as f:
+        for (kind, ones), versus in cases:
+            f.write(kind.encode() + bytes([versus]) + struct.pack('<I', len(ones)))
+            for parts in ones:
+                for p in parts:
+                    f.write(struct.pack('<I', len(p)) + p)

@@ -1,0 +1,151 @@
+/* Runs the same inputs with several builds of the library, one round of each after the other in one process.
+
+   builds time INPUTS ROUNDS LIBRARY..      a line for each input: 1 if all answer alike, else 0; then for each library the lower quartile of its
+                                            rounds, nanoseconds a pass
+   builds count INPUTS INPUT TIMES LIBRARY  only makes the calls, for callgrind to count
+
+   INPUTS is as bench/driver.c has it; each library is a shared object. */
+#define _GNU_SOURCE
+#include <dlfcn.h>
+#include <stdint.h>
+#include <stdio.h>
+#include <stdlib.h>
+#include <string.h>
+#include <time.h>
+
+enum { MOST = 128 };
+struct bytes { uint8_t *at; size_t n; };
+struct input { char kind; size_t count; struct bytes (*ones)[4]; };
+struct build {
+    int64_t (*to_sql)(const uint8_t *, size_t, const uint8_t *, size_t, uint8_t *, size_t);
+    int32_t (*read)(const uint8_t *, size_t, const uint8_t *, size_t);
+};
+
+static struct input inputs[MOST];
+static struct build builds[MOST];
+static size_t input_count, build_count;
+static uint8_t out[65536];
+
+static void fail(const char *what)
+{
+    fprintf(stderr, "builds: %s\n", what);
+    exit(2);
+}
+
+static uint32_t number(FILE *f)
+{
+    uint32_t n;
+    if (fread(&n, 4, 1, f) != 1)
+        fail("the inputs end early");
+    return n;
+}
+
+static void load_inputs(const char *path)
+{
+    FILE *f = fopen(path, "rb");
+    int c;
+    if (!f)
+        fail("no inputs");
+    while ((c = fgetc(f)) != EOF) {
+        if (input_count == MOST)
+            fail("too many inputs");
+        struct input *i = &inputs[input_count++];
+        i->kind = (char)c;
+        fgetc(f);
+        i->count = number(f);
+        i->ones = calloc(i->count, sizeof *i->ones);
+        for (size_t k = 0; k < 4 * i->count; k++) {
+            struct bytes *b = &i->ones[k / 4][k % 4];
+            b->n = number(f);
+            b->at = malloc(b->n + 1);
+            if (fread(b->at, 1, b->n, f) != b->n)
+                fail("the inputs end early");
+        }
+    }
+    fclose(f);
+}
+
+static void load_build(const char *path)
+{
+    void *so = dlopen(path, RTLD_NOW | RTLD_LOCAL);
+    if (!so || build_count == MOST)
+        fail(so ? "too many libraries" : dlerror());
+    struct build *b = &builds[build_count++];
+    *(void **)&b->to_sql = dlsym(so, "wenduulig_to_sql");
+    *(void **)&b->read = dlsym(so, "wenduulig_read");
+    if (!b->to_sql || !b->read)
+        fail("a library lacks a function");
+}
+
+/* The time of this thread alone. */
+static uint64_t clock_ns(void)
+{
+    struct timespec t;
+    clock_gettime(CLOCK_THREAD_CPUTIME_ID, &t);
+    return (uint64_t)t.tv_sec * 1000000000u + (uint64_t)t.tv_nsec;
+}
+
+static int64_t pass(const struct input *i, const struct build *b)
+{
+    int64_t sum = 0;
+    for (size_t k = 0; k < i->count; k++) {
+        const struct bytes *p = i->ones[k];
+        sum += i->kind == 'L' ? b->to_sql(p[0].at, p[0].n, p[1].at, p[1].n, out, sizeof out) : b->read(p[0].at, p[0].n, p[1].at, p[1].n);
+    }
+    return sum;
+}
+
+static double round_of(const struct input *i, const struct build *b, size_t times)
+{
+    uint64_t start = clock_ns();
+    for (size_t t = 0; t < times; t++)
+        pass(i, b);
+    return (double)(clock_ns() - start) / (double)times;
+}
+
+static int smaller(const void *a, const void *b)
+{
+    double x = *(const double *)a, y = *(const double *)b;
+    return x < y ? -1 : x > y;
+}
+
+static int alike(const struct input *i)
+{
+    for (size_t b = 1; b < build_count; b++)
+        if (pass(i, &builds[b]) != pass(i, &builds[0]))
+            return 0;
+    return 1;
+}
+
+static void measure(const struct input *i, size_t rounds)
+{
+    static double got[MOST][256];
+    size_t times = 1 + (size_t)(1e6 / (round_of(i, &builds[0], 1) + 1));
+    for (size_t r = 0; r < rounds; r++)
+        for (size_t b = 0; b < build_count; b++)
+            got[b][r] = round_of(i, &builds[b], times);
+    printf("%d", alike(i));
+    for (size_t b = 0; b < build_count; b++) {
+        qsort(got[b], rounds, sizeof(double), smaller);
+        printf(" %.1f", got[b][rounds / 4]);
+    }
+    printf("\n");
+}
+
+int main(int argc, char **argv)
+{
+    int timed = argc > 4 && !strcmp(argv[1], "time");
+    if (!timed && (argc != 6 || strcmp(argv[1], "count")))
+        fail("usage: builds time INPUTS ROUNDS LIBRARY.. | builds count INPUTS INPUT TIMES LIBRARY");
+    load_inputs(argv[2]);
+    for (int k = timed ? 4 : 5; k < argc; k++)
+        load_build(argv[k]);
+    size_t number = (size_t)atol(argv[3]);
+    if (timed ? number < 1 || number > 256 : number >= input_count)
+        fail("no such round or input");
+    for (size_t k = 0; timed && k < input_count; k++)
+        measure(&inputs[k], number);
+    for (long t = timed ? 0 : atol(argv[4]); t > 0; t--)
+        pass(&inputs[number], &builds[0]);
+    return 0;
+}
