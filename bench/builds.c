@@ -4,17 +4,12 @@
                                             rounds, nanoseconds a pass
    builds count INPUTS INPUT TIMES LIBRARY  only makes the calls, for callgrind to count
 
-   INPUTS is as bench/driver.c has it; each library is a shared object. */
-#define _GNU_SOURCE
+   inputs.h says what INPUTS has; each library is a shared object. */
+#include "inputs.h"
 #include <dlfcn.h>
-#include <stdint.h>
-#include <stdio.h>
-#include <stdlib.h>
 #include <string.h>
-#include <time.h>
 
 enum { MOST = 128 };
-struct bytes { uint8_t *at; size_t n; };
 struct input { char kind; size_t count; struct bytes (*ones)[4]; };
 struct build {
     int64_t (*to_sql)(const uint8_t *, size_t, const uint8_t *, size_t, uint8_t *, size_t);
@@ -25,20 +20,6 @@ static struct input inputs[MOST];
 static struct build builds[MOST];
 static size_t input_count, build_count;
 static uint8_t out[65536];
-
-static void fail(const char *what)
-{
-    fprintf(stderr, "builds: %s\n", what);
-    exit(2);
-}
-
-static uint32_t number(FILE *f)
-{
-    uint32_t n;
-    if (fread(&n, 4, 1, f) != 1)
-        fail("the inputs end early");
-    return n;
-}
 
 static void load_inputs(const char *path)
 {
@@ -54,13 +35,8 @@ static void load_inputs(const char *path)
         fgetc(f);
         i->count = number(f);
         i->ones = calloc(i->count, sizeof *i->ones);
-        for (size_t k = 0; k < 4 * i->count; k++) {
-            struct bytes *b = &i->ones[k / 4][k % 4];
-            b->n = number(f);
-            b->at = malloc(b->n + 1);
-            if (fread(b->at, 1, b->n, f) != b->n)
-                fail("the inputs end early");
-        }
+        for (size_t k = 0; k < 4 * i->count; k++)
+            i->ones[k / 4][k % 4] = part(f);
     }
     fclose(f);
 }
@@ -75,14 +51,6 @@ static void load_build(const char *path)
     *(void **)&b->read = dlsym(so, "wenduulig_read");
     if (!b->to_sql || !b->read)
         fail("a library lacks a function");
-}
-
-/* The time of this thread alone. */
-static uint64_t clock_ns(void)
-{
-    struct timespec t;
-    clock_gettime(CLOCK_THREAD_CPUTIME_ID, &t);
-    return (uint64_t)t.tv_sec * 1000000000u + (uint64_t)t.tv_nsec;
 }
 
 static int64_t pass(const struct input *i, const struct build *b)

@@ -3,15 +3,10 @@
    driver time INPUTS ROUNDS             a line for each input and side: input, side, answer, then nanoseconds a call, round by round
    driver count INPUTS INPUT SIDE TIMES  only makes the calls, for callgrind to count
 
-   INPUTS: for each input a letter (L lowering, R reading), a byte (1: also the other sides), a count of cases in four bytes; for each case four
-   byte strings after their lengths in four bytes: settings, tree, -, - or text, row, the SQL that makes the table, the query. */
-#define _GNU_SOURCE
+   inputs.h says what INPUTS has. */
+#include "inputs.h"
 #include <sqlite3.h>
-#include <stdint.h>
-#include <stdio.h>
-#include <stdlib.h>
 #include <string.h>
-#include <time.h>
 #include <wenduulig.h>
 
 void *rust_tree(const uint8_t *, size_t, const uint8_t *, size_t);
@@ -22,45 +17,12 @@ size_t rust_text(const void *, uint8_t *, size_t);
 
 enum { OURS, RUST, RUST_DECODE, RUST_COPY, PREPARE_STEP, STEP };
 static const char *side_names[] = {"ours", "rust", "rust_decode", "rust_copy", "prepare_step", "step"};
-struct bytes { uint8_t *at; size_t n; };
 struct one { struct bytes part[4]; void *tree; sqlite3 *base; sqlite3_stmt *ready; };
 struct input { char kind; int versus; size_t count, copies; struct one *ones; };
 
 static struct input *inputs;
 static size_t input_count;
 static uint8_t out[65536], other[65536];
-
-/* The time of this thread alone: another program on the same core does not count. */
-uint64_t clock_ns(void)
-{
-    struct timespec t;
-    clock_gettime(CLOCK_THREAD_CPUTIME_ID, &t);
-    return (uint64_t)t.tv_sec * 1000000000u + (uint64_t)t.tv_nsec;
-}
-
-static void fail(const char *what)
-{
-    fprintf(stderr, "driver: %s\n", what);
-    exit(2);
-}
-
-static uint32_t number(FILE *f)
-{
-    uint32_t n;
-    if (fread(&n, 4, 1, f) != 1)
-        fail("the inputs end early");
-    return n;
-}
-
-static struct bytes part(FILE *f)
-{
-    struct bytes b = {NULL, number(f)};
-    b.at = malloc(b.n + 1);
-    if (fread(b.at, 1, b.n, f) != b.n)
-        fail("the inputs end early");
-    b.at[b.n] = 0;
-    return b;
-}
 
 static void prepare(struct one *o)
 {
