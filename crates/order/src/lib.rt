@@ -1,4 +1,4 @@
-// The order of byte strings, byte by byte: of strings as they are, and of the values of strings that are written with each apostrophe doubled.
+// The order of byte strings: whether two are the same, and how the values of two stand, of which each may be written with its apostrophes doubled.
 ghost use mathlib.Core.Path.{_≡_};
 ghost use mathlib.Core.List.{_∷_, []};
 ghost use Prim.Native.Nat.{_≤_, _<_};
@@ -12,31 +12,6 @@ pub enum Ordering {
     Less,
     Equal,
     Greater,
-}
-
-// How a stands to b.
-pub fn compare(a: &[u8], b: &[u8]) -> Ordering
-    ensures { λ r. ⌜ r ≡ order (now (a .entry)) (now (b .entry)) ⌝ }
-{
-    let mut i = 0;
-    while i < a.len() {
-        if i == b.len() {
-            return Ordering::Greater;
-        }
-        let x = a[i];
-        let y = b[i];
-        if x < y {
-            return Ordering::Less;
-        }
-        if y < x {
-            return Ordering::Greater;
-        }
-        i += 1;
-    }
-    if i == b.len() {
-        return Ordering::Equal;
-    }
-    Ordering::Less
 }
 
 // Whether a is b.
