@@ -14,39 +14,47 @@ use Rattle.string.specs.QuoteLaws.{noMark}
 use Rattle.literal.specs.SearchWords.{Searched}
 
 -- one byte that is an apostrophe
-pub marked : (s : List ℕ) (k : ℕ) → k < length s → noMark (getD s k 0) ≡ false → all noMark s ≡ false
+one-found : (s : List ℕ) (k : ℕ) → k < length s → noMark (getD s k 0) ≡ false → all noMark s ≡ false
 unfolding all
-marked [] k h e = absurd (let v : ⊥ = omega arith in v)
-marked (x ∷ s) zero h e = simp e
-marked (x ∷ s) (suc k) h e = go (noMark x) (marked s k (omega arith) e)
+one-found [] k h e = absurd (let v : ⊥ = omega arith in v)
+one-found (x ∷ s) zero h e = simp e
+one-found (x ∷ s) (suc k) h e = go (noMark x) (one-found s k (omega arith) e)
   where
     go : (b : Bool) → all noMark s ≡ false → both b (all noMark s) ≡ false
     go true q = q
     go false q = refl
 
 -- none that is one
-pub unmarked : (s : List ℕ) → ((k : ℕ) → k < length s → noMark (getD s k 0) ≡ true) → all noMark s ≡ true
+none-found : (s : List ℕ) → ((k : ℕ) → k < length s → noMark (getD s k 0) ≡ true) → all noMark s ≡ true
 unfolding all
-unmarked [] f = refl
-unmarked (x ∷ s) f = simp (f 0 (omega arith)) (unmarked s (λ k h. f (suc k) (omega arith)))
+none-found [] f = refl
+none-found (x ∷ s) f = simp (f 0 (omega arith)) (none-found s (λ k h. f (suc k) (omega arith)))
 
 module _ {s : List ℕ} where
   pub searched-start : {i : ℕ} → Searched s i 0 true
   searched-start = record { found = λ e. absurd (false≢true (sym e)); lacks = λ e k h l. absurd (let v : ⊥ = omega arith in v) }
 
-  pub searched-next : (n : ℕ) {i j m : ℕ} {t r : Bool} → Searched s i n t → j ≡ i + n → m ≡ n + 1 → j < length s → r ≡ both t (noMark (getD s j 0)) → Searched s i m r
-  searched-next n {i} {j} {m} {t} {r} x p q h e = record { found = λ f. missing t refl (sym e ∙ f); lacks = λ f. told (both-true t (noMark (getD s j 0)) (sym e ∙ f)) }
+  pub searched-next : {i n : ℕ} {t r : Bool} → Searched s i n t → i + n < length s → r ≡ both (noMark (getD s (i + n) 0)) t → Searched s i (n + 1) r
+  searched-next {i} {n} {t} {r} x h e =
+      record {
+        found = λ f. missing (noMark (getD s (i + n) 0)) refl (sym e ∙ f);
+        lacks = λ f. told (both-true (noMark (getD s (i + n) 0)) t (sym e ∙ f));
+      }
     where
-      missing : (b : Bool) → t ≡ b → both b (noMark (getD s j 0)) ≡ false → all noMark s ≡ false
-      missing true y f = marked s j h f
-      missing false y f = x .found y
+      missing : (b : Bool) → noMark (getD s (i + n) 0) ≡ b → both b t ≡ false → all noMark s ≡ false
+      missing true y f = x .found f
+      missing false y f = one-found s (i + n) h y
 
-      told : (t ≡ true) × (noMark (getD s j 0) ≡ true) → (k : ℕ) → i ≤ k → k < i + m → noMark (getD s k 0) ≡ true
-      told y k g l = go (ltb k j) refl
+      told : (noMark (getD s (i + n) 0) ≡ true) × (t ≡ true) → (k : ℕ) → i ≤ k → k < i + (n + 1) → noMark (getD s k 0) ≡ true
+      told y k g l = go (ltb k (i + n)) refl
         where
-          go : (b : Bool) → ltb k j ≡ b → noMark (getD s k 0) ≡ true
-          go true f = let z = ltb-true k j f in x .lacks (y .0) k g (omega arith)
-          go false f = let z = ltb-false k j f in let w : k ≡ j = omega arith in ap (λ (a : ℕ). noMark (getD s a 0)) w ∙ y .1
+          go : (b : Bool) → ltb k (i + n) ≡ b → noMark (getD s k 0) ≡ true
+          go true f = x .lacks (y .1) k g (ltb-true k (i + n) f)
+          go false f = let z = ltb-false k (i + n) f in let w : k ≡ i + n = omega arith in ap (λ (a : ℕ). noMark (getD s a 0)) w ∙ y .0
+
+  -- a look at no more bytes tells the same
+  pub searched-told : {i n m : ℕ} {r : Bool} → Searched s i n r → m ≤ n → Searched s i m r
+  searched-told x h = record { found = x .found; lacks = λ f k g l. x .lacks f k g (omega arith) }
 
   -- two looks
   pub searched-both : {i n m : ℕ} {r : Bool} → Searched s 0 i true → Searched s i n r → r ≡ true → m ≡ i + n → Searched s 0 m true
@@ -62,7 +70,7 @@ module _ {s : List ℕ} where
     where
       go : (b : Bool) → r ≡ b → b ≡ all noMark s
       go false e = sym (y .found e)
-      go true e = sym (unmarked s told)
+      go true e = sym (none-found s told)
         where
           told : (k : ℕ) → k < length s → noMark (getD s k 0) ≡ true
           told k g = by (ltb k i) refl

@@ -48,24 +48,23 @@ pub fn put_quoted(s: &[u8], out: &mut [u8], at: usize) -> usize
 
 // Whether there is no apostrophe, with one byte more.
 fn lacks_still(lacks: bool, b: u8) -> bool
-    ensures { λ r. ⌜ r ≡ both lacks (noMark b) ⌝ }
+    ensures { λ r. ⌜ r ≡ both (noMark b) lacks ⌝ }
 {
     if b == b'\'' { false } else { lacks }
 }
 
-// No apostrophe is among the eight bytes from the place i on. All eight are read, which is compiled to one test.
+// No apostrophe is among the eight bytes from the place i on. The loop does not stop at one, so that it is compiled to one test of all eight.
 fn lacks_in_eight(s: &[u8], i: usize) -> bool
     requires { ⌜ i + 8 ≤ length (now s) ⌝ }
     ensures { λ r. ⌜ Searched (now (s .entry)) i 8 r ⌝ }
 {
-    let mut lacks = lacks_still(true, s[i]);
-    lacks = lacks_still(lacks, s[i + 1]);
-    lacks = lacks_still(lacks, s[i + 2]);
-    lacks = lacks_still(lacks, s[i + 3]);
-    lacks = lacks_still(lacks, s[i + 4]);
-    lacks = lacks_still(lacks, s[i + 5]);
-    lacks = lacks_still(lacks, s[i + 6]);
-    lacks_still(lacks, s[i + 7])
+    let mut lacks = true;
+    let mut k = 0;
+    while k < 8 {
+        lacks = lacks_still(lacks, s[i + k]);
+        k += 1;
+    }
+    lacks
 }
 
 // No apostrophe is in a text, looked at byte by byte.

@@ -4,12 +4,12 @@ use Prim.Native.Nat.{ℕ, suc, _+_, _-_, _*_, _/_, _%_, _≤_, _<_}
 use mathlib.Core.Path.{_≡_, refl, sym, ap, _∙_}
 use mathlib.Core.List.{List, [], _∷_, _++_}
 use mathlib.Core.Bool.{Bool, true, false}
-use mathlib.Core.Logic.{_⊎_, inl, inr, ⊎-elim}
+use mathlib.Core.Logic.{⊎-elim}
 use native.Mathlib.Omega.{arith}
 use lib.ListN.{length, getD, drop, drop-of-length-le}
 use lib.Seq.{drop-cons}
 use lib.Dec.{eqb, leb, ltb}
-use borrow.Author.Tests.{ltb-true, ltb-false, lt-ltb, le-ltb, le-leb, leb-true, eqb-true}
+use borrow.Author.Tests.{lt-ltb, le-ltb, le-leb, leb-true, eqb-true}
 use Rattle.prelude.specs.Choice.{pick, both, between, some}
 use Rattle.prelude.specs.ChoiceLaws.{both-true, between-true}
 use Rattle.charset.specs.Charset.{digit}
@@ -17,6 +17,7 @@ use Rattle.civil.specs.Civil.{leap, daysIn, validDate, validTime}
 use Rattle.order.specs.declared.Ordering.{Ordering}
 use Rattle.order.specs.declared.Ordering.the-variants.{Less, Equal, Greater}
 use Rattle.order.specs.Order.{order}
+use Rattle.order.specs.OrderLaws.{three}
 use Rattle.literal.specs.Literal as literal
 use Rattle.literal.specs.Literal.{firstEnd}
 use Rattle.time.specs.Ogc.{twoAt, areTwo, yearOf, beginsDate, goesOnTime, Width, ten, nineteen, isInstant, fields}
@@ -35,14 +36,6 @@ step-more a b r h = let k : b ≤ a = omega arith in rw (le-ltb a b k, lt-ltb b 
 
 step-same : (a b : ℕ) (r : Ordering) → a ≡ b → step a b r ≡ r
 step-same a b r e = let h : b ≤ a = omega arith in let k : a ≤ b = omega arith in rw (le-ltb a b h, le-ltb b a k)
-
-three : (a b : ℕ) → (a < b) ⊎ ((a ≡ b) ⊎ (b < a))
-three a b = go (ltb a b) (ltb b a) refl refl
-  where
-    go : (p q : Bool) → ltb a b ≡ p → ltb b a ≡ q → (a < b) ⊎ ((a ≡ b) ⊎ (b < a))
-    go true q e f = inl (ltb-true a b e)
-    go false true e f = inr (inr (ltb-true b a f))
-    go false false e f = let h = ltb-false a b e in let k = ltb-false b a f in inr (inl (omega arith))
 
 -- two numbers in turn are compared as one that orders as they do
 module _ (p q p' q' m m' : ℕ) (r : Ordering) (less : p < p' → m < m') (more : p' < p → m' < m) (next-less : p ≡ p' → q < q' → m < m')

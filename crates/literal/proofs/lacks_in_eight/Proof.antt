@@ -1,107 +1,53 @@
--- `literal::lacks_in_eight` meets its contract: eight times one byte more.
+-- `literal::lacks_in_eight` meets its contract: the loop keeps what the first k bytes tell.
+use Prim.Native.Nat.{_-_, _≤_}
 use native.Mathlib.Omega.{arith}
 use borrow.Author.Needs.{needs}
-use Rattle.literal.proofs.SearchLaws.{searched-start, searched-next}
+use Rattle.literal.specs.SearchWords.{Searched}
+use Rattle.literal.proofs.SearchLaws.{searched-start, searched-next, searched-told}
 use Rattle.literal.proofs.lacks_in_eight.Statement.{statement}
 use Rattle.literal.proofs.lacks_in_eight.Tie as tie
 
-shared-slice-read-lacks-still : tie.Need-shared-slice-read-lacks-still
-shared-slice-read-lacks-still c = omega arith
+abbrev Inv-loop : tie.InvT-loop
+Inv-loop s i lacks₀ k₀ lacks k = (k ≤ 8) × Searched s i k lacks
 
-lacks-still-requires : tie.Need-lacks-still-requires
-lacks-still-requires c κs = search needs
+abbrev μ-loop : tie.MeasureT-loop
+μ-loop s i lacks₀ k₀ lacks k = 8 - k
 
-add-lacks-still : tie.Need-add-lacks-still
+loop-holds : tie.Need-loop-holds Inv-loop μ-loop
+loop-holds c = (omega arith, searched-start)
+
+add-lacks-still : tie.Need-add-lacks-still Inv-loop μ-loop
 add-lacks-still c = omega arith
 
-shared-slice-read-lacks-still-2 : tie.Need-shared-slice-read-lacks-still-2
-shared-slice-read-lacks-still-2 c = omega arith
+shared-slice-read-lacks-still : tie.Need-shared-slice-read-lacks-still Inv-loop μ-loop
+shared-slice-read-lacks-still c = omega arith
 
-lacks-still-requires-2 : tie.Need-lacks-still-requires-2
-lacks-still-requires-2 c κs = search needs
+lacks-still-requires : tie.Need-lacks-still-requires Inv-loop μ-loop
+lacks-still-requires c κs = search needs
 
-add-lacks-still-2 : tie.Need-add-lacks-still-2
-add-lacks-still-2 c = omega arith
+add-k : tie.Need-add-k Inv-loop μ-loop
+add-k c = omega arith
 
-shared-slice-read-lacks-still-3 : tie.Need-shared-slice-read-lacks-still-3
-shared-slice-read-lacks-still-3 c = omega arith
+loop-less : tie.Need-loop-less Inv-loop μ-loop
+loop-less c = omega arith
 
-lacks-still-requires-3 : tie.Need-lacks-still-requires-3
-lacks-still-requires-3 c κs = search needs
+loop-again : tie.Need-loop-again Inv-loop μ-loop
+loop-again c = (omega arith, searched-next (c .before .before .before .loop .inv .1) (omega arith) (c .lacks-still .ensures))
 
-add-lacks-still-3 : tie.Need-add-lacks-still-3
-add-lacks-still-3 c = omega arith
-
-shared-slice-read-lacks-still-4 : tie.Need-shared-slice-read-lacks-still-4
-shared-slice-read-lacks-still-4 c = omega arith
-
-lacks-still-requires-4 : tie.Need-lacks-still-requires-4
-lacks-still-requires-4 c κs = search needs
-
-add-lacks-still-4 : tie.Need-add-lacks-still-4
-add-lacks-still-4 c = omega arith
-
-shared-slice-read-lacks-still-5 : tie.Need-shared-slice-read-lacks-still-5
-shared-slice-read-lacks-still-5 c = omega arith
-
-lacks-still-requires-5 : tie.Need-lacks-still-requires-5
-lacks-still-requires-5 c κs = search needs
-
-add-lacks-still-5 : tie.Need-add-lacks-still-5
-add-lacks-still-5 c = omega arith
-
-shared-slice-read-lacks-still-6 : tie.Need-shared-slice-read-lacks-still-6
-shared-slice-read-lacks-still-6 c = omega arith
-
-lacks-still-requires-6 : tie.Need-lacks-still-requires-6
-lacks-still-requires-6 c κs = search needs
-
-add-lacks-still-6 : tie.Need-add-lacks-still-6
-add-lacks-still-6 c = omega arith
-
-shared-slice-read-lacks-still-7 : tie.Need-shared-slice-read-lacks-still-7
-shared-slice-read-lacks-still-7 c = omega arith
-
-lacks-still-requires-7 : tie.Need-lacks-still-requires-7
-lacks-still-requires-7 c κs = search needs
-
-add-lacks-still-7 : tie.Need-add-lacks-still-7
-add-lacks-still-7 c = omega arith
-
-shared-slice-read-lacks-still-8 : tie.Need-shared-slice-read-lacks-still-8
-shared-slice-read-lacks-still-8 c = omega arith
-
-lacks-still-requires-8 : tie.Need-lacks-still-requires-8
-lacks-still-requires-8 c κs = search needs
-
-returns : tie.Need-returns
-returns c = searched-next 7 (searched-next 6 (searched-next 5 (searched-next 4 (searched-next 3 (searched-next 2 (searched-next 1 (searched-next 0 searched-start (omega arith) (omega arith) (omega arith) (c .before .before .before .before .before .before .before .before .before .before .before .before .before .before .lacks-still .ensures)) (omega arith) (omega arith) (omega arith) (c .before .before .before .before .before .before .before .before .before .before .before .before .lacks-still2 .ensures)) (omega arith) (omega arith) (omega arith) (c .before .before .before .before .before .before .before .before .before .before .lacks-still3 .ensures)) (omega arith) (omega arith) (omega arith) (c .before .before .before .before .before .before .before .before .lacks-still4 .ensures)) (omega arith) (omega arith) (omega arith) (c .before .before .before .before .before .before .lacks-still5 .ensures)) (omega arith) (omega arith) (omega arith) (c .before .before .before .before .lacks-still6 .ensures)) (omega arith) (omega arith) (omega arith) (c .before .before .lacks-still7 .ensures)) (omega arith) (omega arith) (omega arith) (c .lacks-still8 .ensures)
+returns : tie.Need-returns Inv-loop μ-loop
+returns c = searched-told (c .before .loop .inv .1) (omega arith)
 
 pub lacks-in-eight-spec : {M : Type 1} → statement M
 lacks-in-eight-spec =
     tie.close
     (tie.spec
+    Inv-loop
+    μ-loop
+    loop-holds
+    add-lacks-still
     shared-slice-read-lacks-still
     lacks-still-requires
-    add-lacks-still
-    shared-slice-read-lacks-still-2
-    lacks-still-requires-2
-    add-lacks-still-2
-    shared-slice-read-lacks-still-3
-    lacks-still-requires-3
-    add-lacks-still-3
-    shared-slice-read-lacks-still-4
-    lacks-still-requires-4
-    add-lacks-still-4
-    shared-slice-read-lacks-still-5
-    lacks-still-requires-5
-    add-lacks-still-5
-    shared-slice-read-lacks-still-6
-    lacks-still-requires-6
-    add-lacks-still-6
-    shared-slice-read-lacks-still-7
-    lacks-still-requires-7
-    add-lacks-still-7
-    shared-slice-read-lacks-still-8
-    lacks-still-requires-8
+    add-k
+    loop-less
+    loop-again
     returns)
