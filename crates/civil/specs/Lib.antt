@@ -1,1 +1,3 @@
 pub mod Civil
+pub mod Months
+pub mod MonthLaws

@@ -1,5 +1,5 @@
 ghost use mathlib.Core.Path.{_≡_};
-ghost use Prim.Native.Nat.{_%_};
+ghost use Prim.Native.Nat.{_%_, _≤_};
 ghost use Rattle.prelude.specs.Choice.{between};
 ghost use Rattle.civil.specs.Civil.{leap, daysIn, validDate, validTime};
 
@@ -17,28 +17,18 @@ fn is_leap(y: usize) -> bool
     false
 }
 
+// The days of a month, 1 to 12. But for February they take turns, 31 and 30, once from January and once more from August.
 fn days_in(y: usize, m: usize) -> usize
+    requires { ⌜ (1 ≤ m) × (m ≤ 12) ⌝ }
     ensures { λ r. ⌜ r ≡ daysIn y m ⌝ }
 {
-    if m == 2 {
-        if is_leap(y) {
-            return 29;
-        }
-        return 28;
+    if m != 2 {
+        return 30 + (m + m / 8) % 2;
     }
-    if m == 4 {
-        return 30;
+    if is_leap(y) {
+        return 29;
     }
-    if m == 6 {
-        return 30;
-    }
-    if m == 9 {
-        return 30;
-    }
-    if m == 11 {
-        return 30;
-    }
-    31
+    28
 }
 
 fn within(lo: usize, n: usize, hi: usize) -> bool

@@ -1,5 +1,7 @@
 -- `civil::valid_date` meets its contract: each test is a part of `validDate`.
 use Rattle.civil.specs.Civil.{validDate}
+use Rattle.prelude.specs.ChoiceLaws.{between-true}
+use mathlib.Core.Path.{sym, _∙_}
 use borrow.Author.Needs.{needs}
 use Rattle.civil.proofs.valid_date.Statement.{statement}
 use Rattle.civil.proofs.valid_date.Tie as tie
@@ -11,7 +13,7 @@ within-requires-2 : tie.Need-within-requires-2
 within-requires-2 c κs = search needs
 
 days-in-requires : tie.Need-days-in-requires
-days-in-requires c κs = search needs
+days-in-requires c κs = between-true 1 _ 12 (sym (c .before .within2 .ensures) ∙ c .if2 .taken)
 
 within-requires-3 : tie.Need-within-requires-3
 within-requires-3 c κs = search needs
