@@ -206,8 +206,10 @@ def spoilt(tree):
 def checked():
     """Trees that are refused with 7 after all records were read: what the check alone costs."""
     wrong = span(ENTERED, EXITED)
+    days = filled(lambda x: ('array', x), [('date', 2023, month, 28) for month in range(1, 13)], PLANNER.tree - 100)
     return [('a mixed filter', lowering([two('And', MIXED_FILTERS[1], wrong)])),
-            ('a 32 KB tree', lowering([two('And', large(PLANNER.tree - 100)[0], wrong)]))]
+            ('a 32 KB tree', lowering([two('And', large(PLANNER.tree - 100)[0], wrong)])),
+            ('32 KB of dates, every month', lowering([two('And', days, wrong)]))]
 
 
 def compared():

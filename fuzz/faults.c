@@ -69,6 +69,15 @@ static size_t run_of(const uint8_t *s, size_t n, uint8_t byte)
     return most;
 }
 
+/* A Date or Timestamp of the month and day: its kind, two bytes of year, these. */
+static int has_day(const uint8_t *t, size_t n, uint8_t month, uint8_t day)
+{
+    for (size_t i = 0; i + 6 <= n; i++)
+        if ((t[i] == 5 || t[i] == 6) && !t[i + 1] && t[i + 4] == month && t[i + 5] == day)
+            return 1;
+    return 0;
+}
+
 /* The true answer, but 9 only if the text with its apostrophes once is longer than the buffer. */
 static int64_t counted_once(const uint8_t *s, size_t sn, const uint8_t *t, size_t tn, uint8_t *out, size_t room)
 {
@@ -137,6 +146,12 @@ static int64_t faulty_to_sql(const uint8_t *s, size_t sn, const uint8_t *t, size
         return n == -6 && tn < 60000 ? true_to_sql(s, sn, without(t, tn, "TO"), tn, out, room) : n;
     case 16: /* 16 OF is a collation's name */
         return n == -1 && sn < 60000 ? true_to_sql(without(s, sn, "OF"), sn, t, tn, out, room) : n;
+    case 17: /* 17 July has 30 days */
+        return n >= 0 && has_day(t, tn, 7, 31) ? -6 : n;
+    case 18: /* 18 July has more than 31 days */
+        return n == -6 && tn < 60000 ? true_to_sql(s, sn, changed(t, tn, "\x07\x20", "\x07\x1f", 2), tn, out, room) : n;
+    case 19: /* 19 February has 30 days */
+        return n == -6 && tn < 60000 ? true_to_sql(s, sn, changed(t, tn, "\x02\x1e", "\x02\x1c", 2), tn, out, room) : n;
     case 30: /* 30 an apostrophe is written once */
         if (n < 0)
             return n;
