@@ -3,9 +3,10 @@
 
 usage: python3 tools/differences/sqlite.py
 
-Exits with 1 if an answer is not the one that stands beside the text here, if fewer than 47 texts were run, or if other numbers of keywords are
-read bare."""
+Exits with 1 if an answer is not the one that stands beside the text here, if fewer than 50 texts were run, if other numbers of keywords are
+read bare, or if it counts another day of the years 1 to 9999 wrong."""
 import collections
+import datetime
 import os
 import sqlite3
 import sys
@@ -16,7 +17,7 @@ from model.lowering import text as text_of
 from model.names import KEYWORDS
 from model.records import SHEET_SETTINGS
 
-TEXTS = 47
+TEXTS = 50
 ANDS_TAKEN = 28
 BARE = {'syntax error': 59, 1: 84, 0: 3, None: 1}    # of SQLite's 147 keywords
 CLOCK = ['CURRENT_DATE', 'CURRENT_TIME', 'CURRENT_TIMESTAMP']
@@ -88,6 +89,9 @@ CASES = [    # a text, a row, the declared type of its columns, and SQLite's ans
     ("'z' < 'é' AND '\uffff' < '\U00010000'", {}, "", 1),
     ("CAST(X'E9' AS TEXT) > 'z'", {}, "", 1),
     ("a = 'x\t'", {"a": "x\t"}, "TEXT", 1),
+    ("date('0300-03-01', '+0 days')", {}, "", '0300-02-29'),
+    ("date('0300-02-28', '+2 days')", {}, "", '0300-03-02'),
+    ("date('2023-02-31')", {}, "", '2023-02-31'),
 ]
 
 
@@ -137,10 +141,26 @@ def orders():
         sys.exit('these are not the orders of docs/DIFFERENCES.md')
 
 
+DAYS = """WITH RECURSIVE day(n) AS (VALUES(julianday('0001-01-01')) UNION ALL SELECT n + 1 FROM day WHERE n < julianday('9999-12-31'))
+          SELECT date(n) FROM day"""
+MISCOUNTED = [('0300-02-29', '0300-03-01')]
+
+
+def days():
+    """Where its days, counted from 0001-01-01 to 9999-12-31, are not those of Python's datetime. Exits with 1 if it is elsewhere."""
+    base = sqlite3.connect(':memory:')
+    found = [(text, datetime.date.fromordinal(n).isoformat()) for n, (text,) in enumerate(base.execute(DAYS), 1)]
+    differ = [pair for pair in found if pair[0] != pair[1]]
+    print('%d days, counted otherwise than by Python: %s' % (len(found), differ))
+    if differ != MISCOUNTED or found[-1] != ('9999-12-31',) * 2:
+        sys.exit('these are not the days of docs/DIFFERENCES.md')
+
+
 def main():
     print('SQLite', sqlite3.sqlite_version)
     keywords()
     orders()
+    days()
     row, differ = {'a': '1', 'b': '2', 'c': '3', 'd': '4'}, 0
     deep = [(ands_over_disjoint(count), row, 'TEXT') for count in (ANDS_TAKEN, ANDS_TAKEN + 1)]
     cases = CASES + [(*deep[0], 1), (*deep[1], 'error: parser stack overflow')]

@@ -1,3 +1,2 @@
 pub mod Civil
 pub mod Months
-pub mod MonthLaws

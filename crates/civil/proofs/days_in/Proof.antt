@@ -1,7 +1,7 @@
 -- `civil::days_in` meets its contract: a month other than February by the law of the calendar's table, February by the tests of `daysIn`.
 use native.Mathlib.Nat.{div-le-self}
 use Rattle.civil.specs.Civil.{daysIn}
-use Rattle.civil.specs.MonthLaws.{reckoned-is-days}
+use Rattle.civil.proofs.MonthsLaws.{reckoned-is-days}
 use borrow.Author.Tests.{eq-eqb, ne-eqb}
 use borrow.Author.Needs.{needs}
 use Rattle.civil.proofs.days_in.Statement.{statement}

@@ -1,4 +1,5 @@
--- The date rule and the arithmetic have the lengths of the calendar's table, month by month: one test, computed over the table.
+-- The date rule and the arithmetic have the lengths of the calendar's table, month by month. One test, computed over the table's twelve rows, holds
+-- both against each; the year then only decides about February.
 use Prim.Native.Nat.{ℕ, zero, suc, _≤_, _<_}
 use mathlib.Core.Path.{_≡_, refl, ap, sym, _∙_}
 use mathlib.Core.Bool.{Bool, true, false}

@@ -1,0 +1,2 @@
+-- What the proof of `days_in` uses.
+mod MonthsLaws
