@@ -48,7 +48,7 @@ def edge_value(r, most):
 
 def edge_day(r):
     year = r.choice((0, 1, 4, 100, 400, 1900, 1900, 2000, 2000, 2023, 2024, 2100, 9999, 10000, 65535))
-    return year, r.choice((0, *range(1, 13), 2, 2, 2, 13, 255)), r.choice((0, 1, 28, 29, 29, 30, 31, 32))
+    return year, r.choice((*range(14), 2, 2, 2, 255)), r.choice((0, 1, 28, 29, 29, 30, 31, 32))
 
 
 def edge_leaf(r):

@@ -69,7 +69,7 @@ static size_t run_of(const uint8_t *s, size_t n, uint8_t byte)
     return most;
 }
 
-/* A Date or Timestamp of the month and day: its kind, two bytes of year, these. */
+/* Whether a Date or Timestamp has the month and day: its kind and its year, two bytes each, then these. */
 static int has_day(const uint8_t *t, size_t n, uint8_t month, uint8_t day)
 {
     for (size_t i = 0; i + 6 <= n; i++)
@@ -148,7 +148,7 @@ static int64_t faulty_to_sql(const uint8_t *s, size_t sn, const uint8_t *t, size
         return n == -1 && sn < 60000 ? true_to_sql(without(s, sn, "OF"), sn, t, tn, out, room) : n;
     case 17: /* 17 July has 30 days */
         return n >= 0 && has_day(t, tn, 7, 31) ? -6 : n;
-    case 18: /* 18 July has more than 31 days */
+    case 18: /* 18 July has 32 days */
         return n == -6 && tn < 60000 ? true_to_sql(s, sn, changed(t, tn, "\x07\x20", "\x07\x1f", 2), tn, out, room) : n;
     case 19: /* 19 February has 30 days */
         return n == -6 && tn < 60000 ? true_to_sql(s, sn, changed(t, tn, "\x02\x1e", "\x02\x1c", 2), tn, out, room) : n;

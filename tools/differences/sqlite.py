@@ -4,7 +4,7 @@
 usage: python3 tools/differences/sqlite.py
 
 Exits with 1 if an answer is not the one that stands beside the text here, if fewer than 50 texts were run, if other numbers of keywords are
-read bare, or if it counts another day of the years 1 to 9999 wrong."""
+read bare, or if SQLite counts another day of the years 1 to 9999 wrong."""
 import collections
 import datetime
 import os
@@ -148,11 +148,14 @@ MISCOUNTED = [('0300-02-29', '0300-03-01')]
 
 def days():
     """Where its days, counted from 0001-01-01 to 9999-12-31, are not those of Python's datetime. Exits with 1 if it is elsewhere."""
-    base = sqlite3.connect(':memory:')
-    found = [(text, datetime.date.fromordinal(n).isoformat()) for n, (text,) in enumerate(base.execute(DAYS), 1)]
-    differ = [pair for pair in found if pair[0] != pair[1]]
-    print('%d days, counted otherwise than by Python: %s' % (len(found), differ))
-    if differ != MISCOUNTED or found[-1] != ('9999-12-31',) * 2:
+    base, count, differ = sqlite3.connect(':memory:'), 0, []
+    for text, in base.execute(DAYS):
+        count += 1
+        due = datetime.date.fromordinal(count).isoformat()
+        differ += [(text, due)] if text != due else []
+    base.close()
+    print('%d days, counted otherwise than by Python: %s' % (count, differ))
+    if (count, differ) != (datetime.date.max.toordinal(), MISCOUNTED):
         sys.exit('these are not the days of docs/DIFFERENCES.md')
 
 

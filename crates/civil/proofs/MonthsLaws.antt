@@ -1,5 +1,5 @@
--- The date rule and the arithmetic have the lengths of the calendar's table, month by month. One test, computed over the table's twelve rows, holds
--- both against each; the year then only decides about February.
+-- The date rule in a common year, and outside February the arithmetic, have the lengths of the calendar's table, month by month. One test, computed
+-- over the table's twelve rows, holds both against each; the year then only decides about February.
 use Prim.Native.Nat.{ℕ, zero, suc, _≤_, _<_}
 use mathlib.Core.Path.{_≡_, refl, ap, sym, _∙_}
 use mathlib.Core.Bool.{Bool, true, false}
@@ -12,17 +12,17 @@ use Rattle.civil.specs.Civil.{leap, daysIn}
 use Rattle.civil.specs.Months.{lengths, listed, reckoned}
 
 -- by the date rule the month after k others has n days in a common year
-abbrev ruled : ℕ → ℕ → Bool
-ruled k n = eqb (daysIn 1 (suc k)) n
+abbrev by-rule : ℕ → ℕ → Bool
+by-rule k n = eqb (daysIn 1 (suc k)) n
 
 -- and by the arithmetic, unless it is February
-abbrev counted : ℕ → ℕ → Bool
-counted k n = either (eqb (suc k) 2) (eqb (reckoned (suc k)) n)
+abbrev by-arithmetic : ℕ → ℕ → Bool
+by-arithmetic k n = either (eqb (suc k) 2) (eqb (reckoned (suc k)) n)
 
 -- the test passes in each row of the table
-right : (k : ℕ) → k < 12 → T (both (ruled k (getD lengths k 0)) (counted k (getD lengths k 0)))
+right : (k : ℕ) → k < 12 → T (both (by-rule k (getD lengths k 0)) (by-arithmetic k (getD lengths k 0)))
 unfolding daysIn leap some
-right k h = at (λ i n. both (ruled i n) (counted i n)) lengths tt k h
+right k h = at (λ i n. both (by-rule i n) (by-arithmetic i n)) lengths tt k h
 
 row-of : (k : ℕ) → getD lengths k 0 ≡ listed (suc k)
 row-of k = ap (λ (i : ℕ). getD lengths i 0) (sym (suc-sub-suc k 0 ∙ sub-zero k))
@@ -30,7 +30,7 @@ row-of k = ap (λ (i : ℕ). getD lengths i 0) (sym (suc-sub-suc k 0 ∙ sub-zer
 -- outside February the arithmetic has the table's length
 pub reckoned-is-listed : (m : ℕ) → 1 ≤ m → m ≤ 12 → eqb m 2 ≡ false → reckoned m ≡ listed m
 reckoned-is-listed zero l h e = absurd (not-suc-le-zero l)
-reckoned-is-listed (suc k) l h e = other (eqb (suc k) 2) e (both-right (ruled k (getD lengths k 0)) (counted k (getD lengths k 0)) (right k h)) ∙ row-of k
+reckoned-is-listed (suc k) l h e = other (eqb (suc k) 2) e (both-right (by-rule k (getD lengths k 0)) (by-arithmetic k (getD lengths k 0)) (right k h)) ∙ row-of k
   where
     other : (b : Bool) → b ≡ false → T (either b (eqb (reckoned (suc k)) (getD lengths k 0))) → reckoned (suc k) ≡ getD lengths k 0
     other true e t = cc
@@ -39,7 +39,7 @@ reckoned-is-listed (suc k) l h e = other (eqb (suc k) 2) e (both-right (ruled k 
 common-is-listed : (m : ℕ) → 1 ≤ m → m ≤ 12 → daysIn 1 m ≡ listed m
 common-is-listed zero l h = absurd (not-suc-le-zero l)
 common-is-listed (suc k) l h =
-    eqb→eq (daysIn 1 (suc k)) (getD lengths k 0) (both-left (ruled k (getD lengths k 0)) (counted k (getD lengths k 0)) (right k h)) ∙ row-of k
+    eqb→eq (daysIn 1 (suc k)) (getD lengths k 0) (both-left (by-rule k (getD lengths k 0)) (by-arithmetic k (getD lengths k 0)) (right k h)) ∙ row-of k
 
 leap-day : (february long : Bool) (n : ℕ) → pick february (pick long 29 28) n ≡ pick (both february long) 29 (pick february 28 n)
 leap-day true true n = refl

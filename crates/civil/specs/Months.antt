@@ -11,6 +11,6 @@ lengths = 31 ∷ 28 ∷ 31 ∷ 30 ∷ 31 ∷ 30 ∷ 31 ∷ 31 ∷ 30 ∷ 31 ∷ 
 abbrev pub listed : ℕ → ℕ
 listed m = getD lengths (m - 1) 0
 
--- its length by arithmetic, but for February: ÷ is a whole quotient
+-- its length by arithmetic, but for February; / is the whole quotient
 abbrev pub reckoned : ℕ → ℕ
 reckoned m = 30 + (m + m / 8) % 2

@@ -17,7 +17,8 @@ fn is_leap(y: usize) -> bool
     false
 }
 
-// The days of a month, 1 to 12. But for February they take turns, 31 and 30, once from January and once more from August.
+// The days of a month, 1 to 12. But for February they take turns, 31 and 30, from January and anew from August: odd months have 31 up to
+// July, even ones after it, where m / 8 is 1.
 fn days_in(y: usize, m: usize) -> usize
     requires { ⌜ (1 ≤ m) × (m ≤ 12) ⌝ }
     ensures { λ r. ⌜ r ≡ daysIn y m ⌝ }
