@@ -1,7 +1,7 @@
 -- The date rule in a common year, and outside February the arithmetic, have the lengths of the calendar's table, month by month. One test, computed
 -- over the table's twelve rows, holds both against each; the year then only decides about February.
-use Prim.Native.Nat.{ℕ, zero, suc, _≤_, _<_}
-use mathlib.Core.Path.{_≡_, refl, ap, sym, _∙_}
+use Prim.Native.Nat.{ℕ, zero, suc, _≤_}
+use mathlib.Core.Path.{_≡_, refl, ap, sym, subst, _∙_}
 use mathlib.Core.Bool.{Bool, true, false}
 use native.Mathlib.Nat.{not-suc-le-zero, suc-sub-suc, sub-zero}
 use lib.Dec.{T, eqb, eqb→eq}
@@ -11,35 +11,33 @@ use Rattle.prelude.specs.Table.{both-left, both-right, at}
 use Rattle.civil.specs.Civil.{leap, daysIn}
 use Rattle.civil.specs.Months.{lengths, listed, reckoned}
 
--- by the date rule the month after k others has n days in a common year
+-- by the date rule month m has n days in a common year
 abbrev by-rule : ℕ → ℕ → Bool
-by-rule k n = eqb (daysIn 1 (suc k)) n
+by-rule m n = eqb (daysIn 1 m) n
 
 -- and by the arithmetic, unless it is February
 abbrev by-arithmetic : ℕ → ℕ → Bool
-by-arithmetic k n = either (eqb (suc k) 2) (eqb (reckoned (suc k)) n)
+by-arithmetic m n = either (eqb m 2) (eqb (reckoned m) n)
 
 -- the test passes in each row of the table
-right : (k : ℕ) → k < 12 → T (both (by-rule k (getD lengths k 0)) (by-arithmetic k (getD lengths k 0)))
+right : (m : ℕ) → 1 ≤ m → m ≤ 12 → T (both (by-rule m (listed m)) (by-arithmetic m (listed m)))
 unfolding daysIn leap some
-right k h = at (λ i n. both (by-rule i n) (by-arithmetic i n)) lengths tt k h
-
-row-of : (k : ℕ) → getD lengths k 0 ≡ listed (suc k)
-row-of k = ap (λ (i : ℕ). getD lengths i 0) (sym (suc-sub-suc k 0 ∙ sub-zero k))
+right zero l h = absurd (not-suc-le-zero l)
+right (suc k) l h =
+    subst (λ (i : ℕ). T (both (by-rule (suc k) (getD lengths i 0)) (by-arithmetic (suc k) (getD lengths i 0))))
+    (sym (suc-sub-suc k 0 ∙ sub-zero k))
+    (at (λ i n. both (by-rule (suc i) n) (by-arithmetic (suc i) n)) lengths tt k h)
 
 -- outside February the arithmetic has the table's length
 pub reckoned-is-listed : (m : ℕ) → 1 ≤ m → m ≤ 12 → eqb m 2 ≡ false → reckoned m ≡ listed m
-reckoned-is-listed zero l h e = absurd (not-suc-le-zero l)
-reckoned-is-listed (suc k) l h e = other (eqb (suc k) 2) e (both-right (by-rule k (getD lengths k 0)) (by-arithmetic k (getD lengths k 0)) (right k h)) ∙ row-of k
+reckoned-is-listed m l h e = other (eqb m 2) e (both-right (by-rule m (listed m)) (by-arithmetic m (listed m)) (right m l h))
   where
-    other : (b : Bool) → b ≡ false → T (either b (eqb (reckoned (suc k)) (getD lengths k 0))) → reckoned (suc k) ≡ getD lengths k 0
+    other : (b : Bool) → b ≡ false → T (either b (eqb (reckoned m) (listed m))) → reckoned m ≡ listed m
     other true e t = cc
-    other false e t = eqb→eq (reckoned (suc k)) (getD lengths k 0) t
+    other false e t = eqb→eq (reckoned m) (listed m) t
 
 common-is-listed : (m : ℕ) → 1 ≤ m → m ≤ 12 → daysIn 1 m ≡ listed m
-common-is-listed zero l h = absurd (not-suc-le-zero l)
-common-is-listed (suc k) l h =
-    eqb→eq (daysIn 1 (suc k)) (getD lengths k 0) (both-left (by-rule k (getD lengths k 0)) (by-arithmetic k (getD lengths k 0)) (right k h)) ∙ row-of k
+common-is-listed m l h = eqb→eq (daysIn 1 m) (listed m) (both-left (by-rule m (listed m)) (by-arithmetic m (listed m)) (right m l h))
 
 leap-day : (february long : Bool) (n : ℕ) → pick february (pick long 29 28) n ≡ pick (both february long) 29 (pick february 28 n)
 leap-day true true n = refl
