@@ -11,8 +11,9 @@
 
 enum { MOST = 128 };
 struct input { char kind; size_t count; struct bytes (*ones)[4]; };
+typedef int64_t writer(const uint8_t *, size_t, const uint8_t *, size_t, uint8_t *, size_t);
 struct build {
-    int64_t (*to_sql)(const uint8_t *, size_t, const uint8_t *, size_t, uint8_t *, size_t);
+    writer *to_sql, *to_geopackage_sql;
     int32_t (*read)(const uint8_t *, size_t, const uint8_t *, size_t);
 };
 
@@ -41,6 +42,11 @@ static void load_inputs(const char *path)
     fclose(f);
 }
 
+static writer *writer_of(const struct input *i, const struct build *b)
+{
+    return i->kind == 'L' ? b->to_sql : b->to_geopackage_sql;
+}
+
 static void load_build(const char *path)
 {
     void *so = dlopen(path, RTLD_NOW | RTLD_LOCAL);
@@ -48,9 +54,11 @@ static void load_build(const char *path)
         fail(so ? "too many libraries" : dlerror());
     struct build *b = &builds[build_count++];
     *(void **)&b->to_sql = dlsym(so, "wenduulig_to_sql");
+    *(void **)&b->to_geopackage_sql = dlsym(so, "wenduulig_to_geopackage_sql");
     *(void **)&b->read = dlsym(so, "wenduulig_read");
-    if (!b->to_sql || !b->read)
-        fail("a library lacks a function");
+    for (size_t k = 0; k < input_count; k++)
+        if (inputs[k].kind == 'R' ? !b->read : !writer_of(&inputs[k], b))
+            fail("a library lacks a function that an input is for");
 }
 
 static int64_t pass(const struct input *i, const struct build *b)
@@ -58,7 +66,7 @@ static int64_t pass(const struct input *i, const struct build *b)
     int64_t sum = 0;
     for (size_t k = 0; k < i->count; k++) {
         const struct bytes *p = i->ones[k];
-        sum += i->kind == 'L' ? b->to_sql(p[0].at, p[0].n, p[1].at, p[1].n, out, sizeof out) : b->read(p[0].at, p[0].n, p[1].at, p[1].n);
+        sum += i->kind == 'R' ? b->read(p[0].at, p[0].n, p[1].at, p[1].n) : writer_of(i, b)(p[0].at, p[0].n, p[1].at, p[1].n, out, sizeof out);
     }
     return sum;
 }

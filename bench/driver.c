@@ -1,4 +1,4 @@
-/* Runs the library's two calls, the Rust's lowering and SQLite on the inputs that bench/run wrote: one process, one round of each after the other.
+/* Runs the library's three calls, the Rust's lowering and SQLite on the inputs that bench/run wrote: one process, one round of each after the other.
 
    driver time INPUTS ROUNDS             a line for each input and side: input, side, answer, then nanoseconds a call, round by round
    driver count INPUTS INPUT SIDE TIMES  only makes the calls, for callgrind to count
@@ -64,8 +64,8 @@ static void load(const char *path)
 static int64_t ours(char kind, const struct one *o)
 {
     const struct bytes *p = o->part;
-    if (kind == 'L')
-        return wenduulig_to_sql(p[0].at, p[0].n, p[1].at, p[1].n, out, sizeof out);
+    if (kind != 'R')
+        return (kind == 'L' ? wenduulig_to_sql : wenduulig_to_geopackage_sql)(p[0].at, p[0].n, p[1].at, p[1].n, out, sizeof out);
     return wenduulig_read(p[0].at, p[0].n, p[1].at, p[1].n);
 }
 

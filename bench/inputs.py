@@ -36,6 +36,17 @@ TIME_FILTERS = [
     two('TOverlaps', STAY, MONTH),
     two('TEquals', ENTERED, DAY)]
 
+NOON, MONDAY = ('timestamp', 2024, 2, 29, 12, 0, 0), span(('timestamp', 2024, 1, 1, 0, 0, 0), ('timestamp', 2024, 1, 1, 23, 59, 59))
+STAMP_FILTERS = [    # of the same kinds, about DATETIME columns
+    two('And', two('And', two('TAfter', STAY, MONDAY), two('Eq', LABEL, word('bolt'))), one('IsNotNull', ENTERED)),
+    two('TDisjoint', NOON, STAY),
+    two('TIntersects', STAY, span(NOON, OPEN)),
+    two('Or', two('TDuring', STAY, MONDAY), two('TMeets', STAY, MONDAY)),
+    one('Neg', two('TBefore', ENTERED, NOON)),
+    two('And', two('Gte', ENTERED, NOON), two('Lt', EXITED, ('timestamp', 2024, 3, 1, 0, 0, 0))),
+    two('TOverlaps', STAY, MONDAY),
+    two('TEquals', ENTERED, NOON)]
+
 MIXED_FILTERS = [
     two('Or', two('And', two('TDisjoint', ENTERED, MONTH), two('Lte', MASS, num(1250, 2))), two('IsInList', name('shelf'), ('array', [num(n) for n in range(1, 5)]))),
     two('And', two('And', two('Eq', name('road_class'), word('motorway')), two('IsBetween', name('depth'), ('array', [num(1000, 1), num(15055, 2)]))),
@@ -106,8 +117,8 @@ def table(cells):
     return 'CREATE TABLE t (%s); INSERT INTO t VALUES (%s);' % (', '.join('"%s" TEXT' % n for n, _ in cells), ', '.join(values))
 
 
-def lowering(trees):
-    return 'L', [(SETTINGS, encode(t), b'', b'') for t in trees]
+def lowering(trees, call='L'):
+    return call, [(SETTINGS, encode(t), b'', b'') for t in trees]
 
 
 def reading(texts, cells, ask=True):
@@ -210,6 +221,14 @@ def checked():
     return [('a mixed filter', lowering([two('And', MIXED_FILTERS[1], wrong)])),
             ('a 32 KB tree', lowering([two('And', large(PLANNER.tree - 100)[0], wrong)])),
             ('32 KB of dates, every month', lowering([two('And', days, wrong)]))]
+
+
+def stamped():
+    """Label, and the same trees by the first call, in which the Rust takes part, and by the second."""
+    listed = two('IsInList', ENTERED, ('array', [NOON] * 1800))
+    return [(label, lowering(trees), lowering(trees, 'G')) for label, trees in (
+        ('time filters with timestamps', STAMP_FILTERS), ('time filters, mostly dates', TIME_FILTERS), ('mixed filters, no timestamp', MIXED_FILTERS),
+        ('1,800 timestamps', [listed]))]
 
 
 def compared():

@@ -3,20 +3,27 @@ import random
 
 from damage import DAMAGE
 from lowering_cases import Lowerings
+from model.lowering import GEOPACKAGE, RUST
 from reading_cases import Readings
+
+WRITINGS = {'L': RUST, 'G': GEOPACKAGE}    # of the cases of the two calls that write; R is for reading
+
+DATETIME = 'timestamps against DATETIME values'    # of which SQLite is asked on columns that are declared so
 
 # ---- how often each kind comes, beside the others
 
 LOWERING = [
     ('accepted trees', 'accepted', 1200), ('larger trees', 'larger', 300), ('leaves at their limits', 'leaves', 700), ('stored trees', 'stored', 300),
     ('strings of any characters', 'texts', 700), ('strings of apostrophes', 'apostrophes', 80),
+    ('timestamps in every place', 'stamps', 700), ('timestamps, 65,535 bytes of text', 'stamps_limit', 40),
     ('stored trees, damaged', 'stored_damaged', 300), ('settings damaged', 'settings_damaged', 250),
     ('settings at their limits', 'settings_edges', 250),
     ('random bytes as a tree', 'random_bytes', 250), ('random records', 'random_records', 700), ('30 to 34 levels', 'deep', 200),
     ('tree of 32,768 bytes', 'tree_limit', 40), ('text of 65,535 bytes', 'text_limit', 40), ('doubled and unwritten ends', 'doubled_ends', 60),
     ('empty settings or tree', 'empty', 50), ('tree too long', 'too_long', 60), ('stored large trees', 'large', 10)]
 READING = [
-    ('texts in the grammar', 'grammar', 1000), ('texts of time filters', 'lowered', 600), ('texts, a token bent', 'tokens_bent', 500),
+    ('texts in the grammar', 'grammar', 1000), ('texts of time filters', 'lowered', 600), (DATETIME, 'stamped', 400),
+    ('texts, a token bent', 'tokens_bent', 500),
     ('rows bent', 'row_bent', 300), ('texts, bytes damaged', 'text_damaged', 400), ('rows, bytes damaged', 'row_damaged', 300),
     ('rows at their limits', 'row_edges', 300), ('random tokens', 'token_soup', 300), ('random bytes as text and row', 'random_bytes', 100),
     ('values of any characters', 'texts', 900), ('apostrophes in texts', 'marks', 300),
@@ -28,7 +35,7 @@ DAMAGED = [('trees, ' + how, how, 250) for how in DAMAGE]
 
 
 def kinds(r):
-    """Every kind with its maker and weight."""
+    """Every kind with its maker and weight; L stands for both calls that write."""
     low, read = Lowerings(r), Readings(r)
     out = [(label, 'L', getattr(low, name), weight) for label, name, weight in LOWERING]
     out += [(label, 'L', lambda how=how: low.damaged(how), weight) for label, how, weight in DAMAGED]
@@ -36,9 +43,9 @@ def kinds(r):
 
 
 def chunk(seed, number, size):
-    """So many cases: label, L or R, and the two inputs. The same for the same seed and number."""
+    """So many cases: label, L, G or R, and the two inputs. The same for the same seed and number. Which of the calls that write is asked is drawn."""
     r = random.Random('%s/%d' % (seed, number))
     every = kinds(r)
     for k in r.choices(range(len(every)), [w for *_, w in every], k=size):
         label, which, make, _ = every[k]
-        yield label, which, *make()
+        yield label, r.choice('LG') if which == 'L' else which, *make()

@@ -5,6 +5,7 @@
 #include <wenduulig.h>
 
 int64_t true_to_sql(const uint8_t *, size_t, const uint8_t *, size_t, uint8_t *, size_t);
+int64_t true_to_geopackage_sql(const uint8_t *, size_t, const uint8_t *, size_t, uint8_t *, size_t);
 int32_t true_read(const uint8_t *, size_t, const uint8_t *, size_t);
 
 static uint8_t copy[140000];
@@ -76,6 +77,44 @@ static int has_day(const uint8_t *t, size_t n, uint8_t month, uint8_t day)
         if ((t[i] == 5 || t[i] == 6) && !t[i + 1] && t[i + 4] == month && t[i + 5] == day)
             return 1;
     return 0;
+}
+
+/* The length of what stands at `s` in the form, in which 0 is any digit; 0 if something else stands there. */
+static size_t matches(const uint8_t *s, size_t n, const char *form)
+{
+    size_t size = strlen(form);
+    for (size_t i = 0; i < size && size <= n; i++)
+        if (form[i] == '0' ? s[i] < '0' || s[i] > '9' : s[i] != (uint8_t)form[i])
+            return 0;
+    return size <= n ? size : 0;
+}
+
+/* In the first n bytes of `out`, of which `room` are lent, `last` in the place of the last `cut` bytes of all that has the form; after `before` alone,
+   if there is something. The length then, or -9. */
+static int64_t replaced(uint8_t *out, int64_t n, size_t room, const char *before, const char *form, size_t cut, const char *last)
+{
+    size_t m = 0, size, b = strlen(before), l = strlen(last);
+    for (size_t i = 0; i < (size_t)n; i++) {
+        copy[m++] = out[i];
+        size = i + 1 >= b && !memcmp(out + i + 1 - b, before, b) ? matches(out + i + 1, (size_t)n - i - 1, form) : 0;
+        if (!size)
+            continue;
+        memcpy(copy + m, out + i + 1, size - cut);
+        memcpy(copy + m + size - cut, last, l);
+        m += size - cut + l;
+        i += size;
+    }
+    if (m > room)
+        return -9;
+    memcpy(out, copy, m);
+    return (int64_t)m;
+}
+
+/* Whether a record of the kind may stand in the tree: its number, after a length of less than 256. */
+static int has_kind(const uint8_t *t, size_t n, uint8_t kind)
+{
+    const uint8_t head[] = {0, 0, 0, kind, 0};
+    return memmem(t, n, head, sizeof head) != NULL;
 }
 
 /* The true answer, but 9 only if the text with its apostrophes once is longer than the buffer. */
@@ -175,9 +214,62 @@ static int64_t faulty_to_sql(const uint8_t *s, size_t sn, const uint8_t *t, size
     }
 }
 
+#define DAY "'0000-00-00'"
+#define CLOCK "0000-00-00T00:00:00"
+
+/* The length of the first call's text, or minus the refusal's number. */
+static int64_t first_length(const uint8_t *s, size_t sn, const uint8_t *t, size_t tn)
+{
+    static uint8_t whole[65536];
+    return true_to_sql(s, sn, t, tn, whole, sizeof whole);
+}
+
+static int64_t faulty_to_geopackage_sql(const uint8_t *s, size_t sn, const uint8_t *t, size_t tn, uint8_t *out, size_t room, int64_t n)
+{
+    switch (FAULT) {
+    case 50: /* 50 the second call writes .000Z after dates too */
+        return n < 0 ? n : replaced(out, n, room, "", DAY, 1, ".000Z'");
+    case 51: /* 51 the second call writes .00Z */
+        return n < 0 ? n : replaced(out, n, room, "", "'" CLOCK ".000Z'", 3, "Z'");
+    case 52: /* 52 the second call writes .000 without Z */
+        return n < 0 ? n : replaced(out, n, room, "", "'" CLOCK ".000Z'", 2, "'");
+    case 53: /* 53 the second call leaves the timestamps of a list without */
+        return n < 0 ? n : replaced(out, n, room, ", ", "'" CLOCK ".000Z'", 6, "'");
+    case 54: /* 54 the second call leaves them without if there is an Interval */
+        return n >= 0 && has_kind(t, tn, 13) ? true_to_sql(s, sn, t, tn, out, room) : n;
+    case 55: /* 55 the second call writes .000Z after texts like timestamps */
+        return n < 0 ? n : replaced(out, n, room, "'", CLOCK "'", 1, ".000Z'");
+    case 56: /* 56 the second call decides 9 by the first call's length */
+        return n == -9 && first_length(s, sn, t, tn) <= (int64_t)room ? true_to_sql(s, sn, t, tn, out, room) : n;
+    case 57: /* 57 the second call decides 8 by the first call's length */
+        return n == -8 && first_length(s, sn, t, tn) >= 0 ? -9 : n;
+    case 58: /* 58 the second call refuses a buffer of the text's exact length */
+        return n == (int64_t)room && n > 0 ? -9 : n;
+    case 59: /* 59 the second call leaves the first byte written after a 9 */
+        if (n == -9 && room)
+            out[0] ^= 1;
+        return n;
+    case 60: /* 60 the second call writes the byte after the text */
+        if (n >= 0 && n < (int64_t)room)
+            out[n] = 0;
+        return n;
+    default:
+        return n;
+    }
+}
+
 int64_t wenduulig_to_sql(const uint8_t *s, size_t sn, const uint8_t *t, size_t tn, uint8_t *out, size_t room)
 {
+    if (FAULT == 49) /* 49 the first call writes .000Z */
+        return true_to_geopackage_sql(s, sn, t, tn, out, room);
     return faulty_to_sql(s, sn, t, tn, out, room, true_to_sql(s, sn, t, tn, out, room));
+}
+
+int64_t wenduulig_to_geopackage_sql(const uint8_t *s, size_t sn, const uint8_t *t, size_t tn, uint8_t *out, size_t room)
+{
+    if (FAULT == 48) /* 48 the second call is the first */
+        return true_to_sql(s, sn, t, tn, out, room);
+    return faulty_to_geopackage_sql(s, sn, t, tn, out, room, true_to_geopackage_sql(s, sn, t, tn, out, room));
 }
 
 int32_t wenduulig_read(const uint8_t *t, size_t tn, const uint8_t *row, size_t rn)

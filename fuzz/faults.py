@@ -6,8 +6,8 @@ HERE = os.path.dirname(os.path.abspath(__file__))
 
 def build(archive, folder, number):
     real, path = os.path.join(folder, 'libtrue.a'), os.path.join(folder, 'fault%d.so' % number)
-    names = 'wenduulig_to_sql=true_to_sql', 'wenduulig_read=true_read'
-    subprocess.run(['objcopy', '--redefine-sym', names[0], '--redefine-sym', names[1], archive, real], check=True)
+    names = ['wenduulig_%s=true_%s' % (name, name) for name in ('to_sql', 'to_geopackage_sql', 'read')]
+    subprocess.run(['objcopy', *(word for name in names for word in ('--redefine-sym', name)), archive, real], check=True)
     subprocess.run(['gcc', '-D_GNU_SOURCE', '-DFAULT=%d' % number, '-O1', '-fPIC', '-shared', '-I', os.path.join(HERE, '..', 'include'), '-o', path,
                     os.path.join(HERE, 'faults.c'), real], check=True)
     return path

@@ -1,7 +1,8 @@
-"""The library's two calls on lent bytes that lie between pages which no program may touch, with marks beside them."""
+"""The library's three calls on lent bytes that lie between pages which no program may touch, with marks beside them."""
 import ctypes, mmap, random
 
 from model import c as c_numbers
+from model.lowering import GEOPACKAGE, RUST
 
 PAGE = mmap.PAGESIZE
 MARK = bytes(range(0x9d, 0xbd))
@@ -46,15 +47,16 @@ class Library:
     def __init__(self, path):
         c = ctypes.CDLL(path)
         slice_ = [ctypes.c_void_p, ctypes.c_size_t]
-        self.to_sql, self.reader = c.wenduulig_to_sql, c.wenduulig_read
-        self.to_sql.argtypes, self.to_sql.restype = slice_ * 3, ctypes.c_int64
+        self.writers, self.reader = {RUST: c.wenduulig_to_sql, GEOPACKAGE: c.wenduulig_to_geopackage_sql}, c.wenduulig_read
+        for writer in self.writers.values():
+            writer.argtypes, writer.restype = slice_ * 3, ctypes.c_int64
         self.reader.argtypes, self.reader.restype = slice_ * 2, ctypes.c_int32
         self.one, self.two, self.out = Lent(18), Lent(18), Lent(18)
 
-    def lower(self, settings, tree, out, at_end):
+    def lower(self, writing, settings, tree, out, at_end):
         """The answer, the bytes of `out` afterwards, and what was touched that should not have been."""
         a, b, c = self.one.place(settings, at_end), self.two.place(tree, at_end), self.out.place(out, at_end)
-        answer = self.to_sql(a, len(settings), b, len(tree), c, len(out))
+        answer = self.writers[writing](a, len(settings), b, len(tree), c, len(out))
         after, marked = self.out.now()
         touched = [what for what, kept in (('settings', self.one.kept()), ('tree', self.two.kept()), ('beside out', marked)) if not kept]
         return answer, after, touched
@@ -65,11 +67,11 @@ class Library:
         return answer, [what for what, kept in (('text', self.one.kept()), ('row', self.two.kept())) if not kept]
 
 
-def check_lowering(library, settings, tree, want, room, noise, at_end):
+def check_lowering(library, writing, settings, tree, want, room, noise, at_end):
     """Nothing, or what was expected and what came."""
     out = NOISE[noise:noise + room]
     right = c_numbers.left(want, out)
-    answer, after, touched = library.lower(settings, tree, out, at_end)
+    answer, after, touched = library.lower(writing, settings, tree, out, at_end)
     if (answer, after) == right and not touched:
         return None
     return right, (answer, after), touched

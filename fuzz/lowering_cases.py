@@ -3,7 +3,7 @@ import struct
 
 from damage import DAMAGE, INTERVAL, LARGE_TREES, LEAVES, NULL, SMALL_TREES, SPECIAL, bytes_changed, cut_or_lengthened, flipped
 from edges import any_text, edge_leaf, edge_name, edge_value
-from generators import filters, trees
+from generators import filters, stamps, trees
 from model import lowering, records
 from model.limits import FLAGS, PLANNER, STR
 from model.operators import DYADIC, INSTANT_OR_INTERVAL, MONADIC, NAMES, NUMBER, TEMPORAL
@@ -23,14 +23,14 @@ class Lowerings:
     """Settings and trees. Each method makes one kind; the answer is (settings, tree)."""
 
     def __init__(self, r):
-        self.r, self.m = r, filters.Maker(r, any_text)
+        self.r, self.m, self.stamped = r, filters.Maker(r, any_text), stamps.Maker(r, any_text)
 
     def settings(self):
         return settings_record(self.m.settings())
 
-    def tree(self):
+    def tree(self, maker=None):
         """One that is accepted, mostly: an operator at the root or any tree."""
-        r, m = self.r, self.m
+        r, m = self.r, maker or self.m
         depth, k = r.choice((0, 1, 1, 1, 2, 2, 3)), r.random()
         if k < .35:
             return m.node(r.choice(DYADIC), depth)
@@ -52,7 +52,7 @@ class Lowerings:
         return self.settings(), encode(t)
 
     def damaged(self, how):
-        return self.settings(), DAMAGE[how](self.r, encode(self.tree()))
+        return self.settings(), DAMAGE[how](self.r, encode(self.tree(self.r.choice((self.m, self.stamped)))))
 
     def stored(self):
         return self.r.choice(SMALL_TREES)
@@ -86,6 +86,19 @@ class Lowerings:
             return self.settings(), records.string(b"'" * r.choice((1, 2, 3, 64, 2048, 2049, STR - 1, STR, STR, STR + 1)), flags)
         last = "'" * (4032 - r.randrange(4)) + 'x' * r.randrange(3)
         return settings_record(SHEET_SETTINGS), encode(('array', [('str', 3, "'" * STR)] * 7 + [('str', 3, last)]))
+
+    def stamps(self):
+        return self.settings(), encode(self.tree(self.stamped))
+
+    def stamps_limit(self):
+        """Timestamps, written twice, with a text of 65,533 to 65,538 bytes by one of the two calls that write."""
+        r, want = self.r, PLANNER.text + self.r.choice((-2, -1, 0, 0, 1, 1, 2, 3))
+        writing, side = r.choice((lowering.RUST, lowering.GEOPACKAGE)), ('interval', ('id', 'a'), ('id', 'b'))
+        full = lambda count, size: ('dyadic', 'And', ('dyadic', 'TEquals', ('array', [stamps.STAMP] * count), side), ('str', 0, 'y' * size))
+        size = lambda tree: len(lowering.text(SHEET_SETTINGS, tree, writing))
+        each, least = size(full(3, 0)) - size(full(2, 0)), size(full(1, 0))
+        count = (want - least) // each - r.randrange(4)
+        return settings_record(SHEET_SETTINGS), encode(full(count, want - size(full(count, 0))))
 
     def settings_damaged(self):
         how = self.r.choice((flipped, bytes_changed, cut_or_lengthened))

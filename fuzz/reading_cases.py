@@ -1,7 +1,7 @@
 """Texts and rows: in the grammar, at the limits, and damaged."""
 from damage import bytes_changed, cut_or_lengthened, flipped
 from edges import any_text, edge_name, edge_text, edge_value
-from generators import reading_edges, readings, texts
+from generators import reading_edges, readings, stamps, texts
 from model import lowering, records
 from model.limits import ROW, SQL, VALUE
 from model.operators import INSTANT_OR_INTERVAL, RELATIONS, TEMPORAL
@@ -9,7 +9,7 @@ from model.records import SHEET_SETTINGS
 
 WORDS = [b'AND', b'OR', b'NOT', b'NULL', b'IS', b'TRUE', b'FALSE', b'(', b')', b'<', b'>', b'<=', b'>=', b'=', b'<>', b'!=', b'a', b'b', b'"a"',
          b"'x'", b"''", b'zz']
-EDGES = reading_edges.edges()
+EDGES, STAMPED = reading_edges.edges(), [*stamps.predicates(), *stamps.outside()]
 SMALL_READINGS, LARGE_READINGS = ([c for c in EDGES if (len(c[0]) + len(c[1]) < 2000) == small] for small in (True, False))
 
 
@@ -113,6 +113,13 @@ class Readings:
         r.shuffle(names)
         value = lambda: b'2024-01-0%d' % r.randint(1, 5) if r.random() < .9 else any_text(r).encode()
         return text, records.row([(n.encode(), None if r.random() < .2 else value()) for n in names])
+
+    def stamped(self):
+        """The text of a filter about timestamps by either call that writes, on a row of DATETIME values, or of instants of every width."""
+        r = self.r
+        tree = next(stamps.joined(r, 1)) if r.random() < .3 else r.choice(STAMPED)
+        text = lowering.text(SHEET_SETTINGS, tree, r.choice((lowering.RUST, lowering.GEOPACKAGE))).encode()
+        return text, records.row(stamps.cells(r, r.choice((stamps.VALUES, stamps.MIXED)), .1))
 
     def brackets(self):
         """62 to 66 brackets, with NOTs and tests between."""

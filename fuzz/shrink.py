@@ -1,6 +1,7 @@
 """Makes the inputs of a disagreement smaller, as long as the library and the expectation still part in the same way."""
 import multiprocessing, time
 
+from cases import WRITINGS
 from damage import NULL
 from generators.edits import records_of, replaced, resized
 from generators.trees import SETTINGS
@@ -12,7 +13,7 @@ SECONDS = 20
 
 def smaller(data, which, part):
     """Candidates, the smallest first: a record in the place of one that holds it, NULL for a record, runs of bytes left out."""
-    if which == 'L' and part == 1 and calls.check(SETTINGS, data) in (0, 7):
+    if which in WRITINGS and part == 1 and calls.check(SETTINGS, data) in (0, 7):
         found = list(records_of(data))
         for at, stop, above in found:
             for p, q, _ in found:
@@ -35,9 +36,9 @@ def again(library, which, a, b, lent):
     """What disagrees on these inputs; the buffer keeps its distance from the text's length."""
     if which == 'R':
         return lent, check_reading(library, a, b, c_numbers.read(a, b), *lent)
-    want = calls.heard(calls.lowered, a, b)
+    want = calls.heard(calls.lowered, a, b, WRITINGS[which])
     room = lent[0] if isinstance(want, int) else max(0, len(want) + lent[3]) if len(lent) > 3 else lent[0]
-    return (room, *lent[1:]), check_lowering(library, a, b, want, room, lent[1], lent[2])
+    return (room, *lent[1:]), check_lowering(library, WRITINGS[which], a, b, want, room, lent[1], lent[2])
 
 
 def signature(which, found):
@@ -47,8 +48,8 @@ def signature(which, found):
 
 def reduce(path, which, a, b, lent, found, pipe):
     library, until = Library(path), time.time() + SECONDS
-    if which == 'L':
-        want = calls.heard(calls.lowered, a, b)
+    if which in WRITINGS:
+        want = calls.heard(calls.lowered, a, b, WRITINGS[which])
         lent = (*lent, 0 if isinstance(want, int) else lent[0] - len(want))
     goal, best, moved = signature(which, found), (a, b, lent, found), True
     while moved and time.time() < until:

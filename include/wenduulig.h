@@ -5,8 +5,17 @@
  * The library is for x86-64 Linux.
  *
  * Settings, trees and rows are handed in as the records below. Any bytes may be handed in: what breaks a rule is refused
- * by a number and never read out of bounds. Both functions are proved to give the numbers and bytes below on all inputs
- * (crates/capi, crates/gpkg, crates/truth).
+ * by a number and never read out of bounds. The three functions are proved to give the numbers and bytes below on all
+ * inputs (crates/capi, crates/gpkg, crates/truth).
+ *
+ * Two of them write. They take the same arguments and refuse by the same rules: 1 to 7 the same inputs, 8 and 9 by the
+ * bytes of the text that the call writes. Their texts differ in nothing but the timestamps, wherever they stand:
+ *    wenduulig_to_sql              '2024-02-29T12:00:00'        the text of ogc-cql2, for columns that hold instants so
+ *    wenduulig_to_geopackage_sql   '2024-02-29T12:00:00.000Z'   for DATETIME columns as OGC GeoPackage stores them; the
+ *                                                               fields of a Timestamp are then UTC
+ * SQLite, and reading here, compare texts by their bytes, a shorter prefix first: '2024-02-29T12:00:00' lies below the same
+ * instant with .000Z. So take the call that writes instants as the columns hold them. A Date is '2024-02-29' in both texts,
+ * for DATE columns; an open end is '-2021-01-01' in both.
  *
  * Records. Length, 4 bytes; kind, 2 bytes; body. Numbers are little-endian; the length counts kind and body.
  *    0 Null, 1 Unbounded (..)   empty
@@ -14,7 +23,7 @@
  *    3 Num         mantissa m, 8 bytes, two's complement, |m| < 10^15; scale s, a byte, 0 to 9: m / 10^s
  *    4 Str         flags, a byte: 0 plain, 1 ignoring case, 2 accents, 3 both; 0 to 4,096 bytes of a text
  *    5 Date        year, 2 bytes, 1 to 9999; month, a byte; day, a byte: a day that the Gregorian calendar has
- *    6 Timestamp   a date; hour, 0 to 23, minute and second, 0 to 59, a byte each
+ *    6 Timestamp   a date; hour, 0 to 23, minute and second, 0 to 59, a byte each: whole seconds
  *    7 Spatial     SRID, 4 bytes, unsigned; 1 to 4,096 letters, digits, space , ( ) - .
  *    8 Id          a name
  *    9 Monadic     operator, 2 bytes; one record
@@ -198,15 +207,19 @@ enum wenduulig_refusal {
     WENDUULIG_MISSING_COLUMN = 13
 };
 
-/* Lowers the filter `tree` under `settings` into `out`.
+/* Lowers the filter `tree` under `settings` into `out`, with the text of ogc-cql2.
  * 0 or more: the length in bytes of the SQL text, which stands in the first bytes of `out` as UTF-8 (ASCII but for what is
  * in quotes), with no closing zero byte; the bytes past it are as lent.
  * -1 to -9: a refusal; all of `out` is as lent. */
 int64_t wenduulig_to_sql(const uint8_t *settings, size_t settings_len, const uint8_t *tree, size_t tree_len, uint8_t *out,
                          size_t out_len);
 
+/* The same, with each timestamp as a GeoPackage's DATETIME columns hold it: .000Z stands after its seconds. */
+int64_t wenduulig_to_geopackage_sql(const uint8_t *settings, size_t settings_len, const uint8_t *tree, size_t tree_len,
+                                    uint8_t *out, size_t out_len);
+
 /* Reads what `text` says of `row`: an enum wenduulig_truth, or -10 to -13 for a refusal.
- * The text need not come from wenduulig_to_sql; it has no closing zero byte. An empty row (row_len 0) has no columns.
+ * The text need not come from a call that writes; it has no closing zero byte. An empty row (row_len 0) has no columns.
  * Values compare by their bytes, which for UTF-8 is the order of the characters' numbers. */
 int32_t wenduulig_read(const uint8_t *text, size_t text_len, const uint8_t *row, size_t row_len);
 

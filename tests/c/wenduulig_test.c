@@ -1,5 +1,5 @@
-/* Tests of include/wenduulig.h: texts, truths, every refusal, and that lent bytes stay as they were.
- * Each part is handed over in memory of exactly its size, so that valgrind sees any access past its end. */
+/* Tests of include/wenduulig.h: texts, truths, every refusal, and that lent bytes stay as they were; all of lowering by both
+ * calls that write. Each part is handed over in memory of exactly its size, so that valgrind sees any access past its end. */
 #include <pthread.h>
 #include <stdio.h>
 #include <stdlib.h>
@@ -16,6 +16,13 @@ struct bytes {
     size_t n;
 };
 
+/* The calls that write, and what stands after a timestamp's seconds. */
+static const struct writing {
+    int64_t (*to_sql)(const uint8_t *, size_t, const uint8_t *, size_t, uint8_t *, size_t);
+    const char *name, *after;
+} first_call = {wenduulig_to_sql, "to_sql", ""}, second_call = {wenduulig_to_geopackage_sql, "to_geopackage_sql", ".000Z"};
+
+static const struct writing *writing = &first_call;
 static int passed, failed;
 
 static void check(int ok, const char *what)
@@ -25,7 +32,7 @@ static void check(int ok, const char *what)
         return;
     }
     failed++;
-    printf("FAILED: %s\n", what);
+    printf("FAILED (%s): %s\n", writing->name, what);
 }
 
 /* ---- making records ---- */
@@ -201,7 +208,7 @@ static int64_t lower(const struct bytes *settings, const struct bytes *tree, siz
     uint8_t *s = exact_copy(settings->at, settings->n);
     uint8_t *t = exact_copy(tree->at, tree->n);
     uint8_t *out = filled(out_len);
-    int64_t n = wenduulig_to_sql(s, settings->n, t, tree->n, out, out_len);
+    int64_t n = writing->to_sql(s, settings->n, t, tree->n, out, out_len);
     size_t used = n > 0 ? (size_t)n : 0;
     *clean = n >= -9 && used <= out_len && all_filled(out + used, out_len - used);
     *clean = *clean && memcmp(s, settings->at, settings->n) == 0 && memcmp(t, tree->at, tree->n) == 0;
@@ -270,6 +277,8 @@ static void test_texts(void)
     expect_text(200, "NOT(('2024-02-29' < '-2021-01-01') OR ('2024-02-29' > c))", "sheet K");
 }
 
+static char expected[400];
+
 /* A record of a kind that has a fixed body before an optional text. */
 static void put_fields(struct bytes *b, unsigned kind, const uint8_t *fields, size_t n, const char *rest)
 {
@@ -277,6 +286,12 @@ static void put_fields(struct bytes *b, unsigned kind, const uint8_t *fields, si
     put(b, fields, n);
     put_text(b, rest);
     end(b, start);
+}
+
+static void put_str(struct bytes *b, unsigned flags, const char *s)
+{
+    const uint8_t one = (uint8_t)flags;
+    put_fields(b, WENDUULIG_STR, &one, 1, s);
 }
 
 /* The kinds that the sheets above leave out, by the header's layout. */
@@ -297,10 +312,105 @@ static void test_kinds(void)
     put_id(&tree, "a");
     end(&tree, monadic);
     end(&tree, start);
-    expect_text(200,
-                "f(TRUE, -0.5, 'x y' COLLATE NC, '2024-01-02T03:04:05', ST_GeomFromText('POINT (1 2)', 4326), "
-                "a IS NOT NULL)",
-                "a Bool, a Num, a Str, a Timestamp, a Spatial and a Monadic in a Function");
+    snprintf(expected, sizeof expected,
+             "f(TRUE, -0.5, 'x y' COLLATE NC, '2024-01-02T03:04:05%s', ST_GeomFromText('POINT (1 2)', 4326), a IS NOT NULL)",
+             writing->after);
+    expect_text(200, expected, "a Bool, a Num, a Str, a Timestamp, a Spatial and a Monadic in a Function");
+}
+
+static void put_stamp(struct bytes *b)
+{
+    const uint8_t fields[] = {0xE8, 7, 2, 29, 12, 0, 0};
+    put_fields(b, WENDUULIG_TIMESTAMP, fields, sizeof fields, "");
+}
+
+/* TEquals([a, 2024-02-29T12:00:00], [.., the same]) in an Array with it, a Date, and a Str that looks like it. */
+static void make_stamps(struct bytes *b)
+{
+    b->n = 0;
+    size_t list = begin(b, WENDUULIG_ARRAY), equals = begin_op(b, WENDUULIG_DYADIC, WENDUULIG_T_EQUALS);
+    for (unsigned side = 0; side < 2; side++) {
+        size_t interval = begin(b, WENDUULIG_INTERVAL);
+        if (side == 0)
+            put_id(b, "a");
+        else
+            put_leaf(b, WENDUULIG_UNBOUNDED);
+        put_stamp(b);
+        end(b, interval);
+    }
+    end(b, equals);
+    put_stamp(b);
+    put_date(b, 2024, 2, 29);
+    put_str(b, 0, "2024-02-29T12:00:00");
+    put_str(b, 0, "2024-02-29T12:00:00.000Z");
+    end(b, list);
+}
+
+/* Only timestamps are written otherwise, in every place, and the room is that of the longer text. */
+static void test_timestamps(void)
+{
+    make_settings(&settings);
+    make_stamps(&tree);
+    snprintf(expected, sizeof expected,
+             "((a = '-2021-01-01') AND ('2024-02-29T12:00:00%s' = '2024-02-29T12:00:00%s'), '2024-02-29T12:00:00%s', '2024-02-29', "
+             "'2024-02-29T12:00:00', '2024-02-29T12:00:00.000Z')",
+             writing->after, writing->after, writing->after);
+    expect_text(strlen(expected), expected, "timestamps in an Interval and in an Array, into a buffer of exactly the length");
+    expect_text(300, expected, "the same into a longer one");
+    expect_refusal(strlen(expected) - 1, WENDUULIG_BUFFER_TOO_SHORT, "9: a buffer one byte short of it");
+    tree.n = 0;
+    put_stamp(&tree);
+    if (*writing->after)
+        expect_refusal(21, WENDUULIG_BUFFER_TOO_SHORT, "9: a buffer of the first call's length");
+}
+
+/* An Array of n timestamps and a name: 23 bytes each, 28 by the second call, the name's length and 2 more. */
+static void make_many_stamps(struct bytes *b, int n, const char *name)
+{
+    b->n = 0;
+    size_t start = begin(b, WENDUULIG_ARRAY);
+    for (int i = 0; i < n; i++)
+        put_stamp(b);
+    put_id(b, name);
+    end(b, start);
+}
+
+/* 8 and 9 count the text that the call writes. */
+static void test_timestamp_limits(void)
+{
+    int clean, second = *writing->after != 0;
+    make_settings(&settings);
+    make_many_stamps(&tree, 2340, "thirteen_long");
+    int64_t whole = second ? 65535 : 53835;
+    check(lower(&settings, &tree, 65535, &text, &clean) == whole && clean, "2,340 timestamps, 65,535 bytes by the second call");
+    expect_refusal((size_t)whole - 1, WENDUULIG_BUFFER_TOO_SHORT, "9: a buffer one byte short of it");
+    make_many_stamps(&tree, 2340, "fourteen_bytes");
+    if (second)
+        expect_refusal(65535, WENDUULIG_TEXT_TOO_LONG, "8: a byte more, which the first call takes");
+    else
+        check(lower(&settings, &tree, 65535, &text, &clean) == 53836 && clean, "a byte more, which the second call refuses with 8");
+}
+
+/* What each call's text says of an instant as a GeoPackage stores it, and without .000Z. */
+static void test_timestamp_truths(void)
+{
+    int32_t second = *writing->after != 0;
+    int clean;
+    make_settings(&settings);
+    tree.n = 0;
+    size_t start = begin_op(&tree, WENDUULIG_DYADIC, WENDUULIG_T_AFTER);
+    put_id(&tree, "a");
+    put_stamp(&tree);
+    end(&tree, start);
+    const char *const values[] = {"2024-02-29T11:59:59.999Z", "2024-02-29T12:00:00.000Z", "2024-02-29T12:00:00.001Z",
+                                  "2024-02-29T12:00:00"};
+    const int32_t truths[] = {0, !second, 1, 0};
+    for (size_t i = 0; i < sizeof values / sizeof *values; i++) {
+        lower(&settings, &tree, 100, &text, &clean);
+        row.n = 0;
+        put_column(&row, "a", values[i]);
+        check(read_row(text.at, text.n, &row) == truths[i], values[i]);
+    }
 }
 
 /* 1 to 3, by what stands in document 01's list. */
@@ -432,12 +542,6 @@ static void test_reading_refusals(void)
     check(read_row(text.at, text.n, &row) == -WENDUULIG_BAD_TEXT, "12: 65 brackets");
     expect_read("a = 'x' OR \"z\" IS NULL", -WENDUULIG_MISSING_COLUMN, "13: z is no column");
     expect_read("", -WENDUULIG_BAD_TEXT, "12: the empty text");
-}
-
-static void put_str(struct bytes *b, unsigned flags, const char *s)
-{
-    const uint8_t one = (uint8_t)flags;
-    put_fields(b, WENDUULIG_STR, &one, 1, s);
 }
 
 /* A text as a Str, as a value and in quotes: each with its SQL text. */
@@ -634,21 +738,31 @@ static void test_stack(void)
     pthread_attr_destroy(&attributes);
 }
 
-int main(void)
+static void test_lowering(const struct writing *call)
 {
+    writing = call;
     test_texts();
     test_kinds();
+    test_timestamps();
+    test_timestamp_limits();
+    test_timestamp_truths();
     test_outer_refusals();
     test_inner_refusals();
     test_length_refusals();
-    test_truths();
-    test_reading_refusals();
     test_strings();
-    test_quotes();
     test_string_limits();
     test_damage();
-    test_damaged_reading();
     test_stack();
+}
+
+int main(void)
+{
+    test_lowering(&first_call);
+    test_lowering(&second_call);
+    test_truths();
+    test_reading_refusals();
+    test_quotes();
+    test_damaged_reading();
     printf("%d passed, %d failed\n", passed, failed);
     return failed ? 1 : 0;
 }

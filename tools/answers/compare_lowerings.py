@@ -1,6 +1,7 @@
 #!/usr/bin/env python3
 """Compares the Rust's texts of accepted trees with the model's: 1,648 corners (every temporal operator over every kind of end, and the like), and
-random trees with each operator at the root.
+random trees with each operator at the root. The second call's texts are compared with the Rust's of the same trees with a string in the place of each
+timestamp, as a GeoPackage stores it.
 
 usage: python3 tools/answers/compare_lowerings.py ORACLE [COUNT] [SEED]
        ORACLE: the program that ../shared/oracle/build.py makes; COUNT: of random trees, 20,000; SEED: 1
@@ -12,19 +13,22 @@ import sys
 
 sys.path.insert(0, os.path.join(os.path.dirname(os.path.abspath(__file__)), '..'))
 from answers import counts, rust
+from answers.literals import as_stored
 from generators import filters
 from model import lowering
+from model.lowering import GEOPACKAGE, RUST
 from model.operators import DYADIC, MONADIC
 
 CORNERS = 1648
 SHOWN = 5
 
 
-def compared(oracle, cases):
+def compared(oracle, cases, writing=RUST):
     """Settings, tree and text where the Rust and the model agree, and how often they do not, of which some are shown."""
     agree, differ = [], 0
-    for (settings, tree), (letter, text) in zip(cases, rust.answers(oracle, cases)):
-        right = lowering.text(settings, tree).encode()
+    asked = cases if writing == RUST else [(settings, as_stored(tree)) for settings, tree in cases]
+    for (settings, tree), (letter, text) in zip(cases, rust.answers(oracle, asked)):
+        right = lowering.text(settings, tree, writing).encode()
         if (letter, text) == ('T', right):
             agree.append((settings, tree, text))
             continue
@@ -38,10 +42,13 @@ def random_and_corners(oracle, count, seed):
     """As `compared`; stops on a disagreement and on a count that is short."""
     cases = [*filters.corners(), *filters.accepted(count, seed)]
     agree, differ = compared(oracle, cases)
+    second, others = compared(oracle, cases, GEOPACKAGE)
     roots = {tree[:2] for _, tree, _ in agree if tree[0] in ('monadic', 'dyadic')}
     print('%d trees, %d agree, %d differ, %d operators at the root, %d bytes of text'
           % (len(cases), len(agree), differ, len(roots), sum(len(text) for *_, text in agree)))
-    counts.stop_if_wrong(differ, ('trees', len(agree), CORNERS + count * 99 // 100),
+    print('by the second call: %d agree, %d differ, %d longer than by the first'
+          % (len(second), others, sum(len(text) > len(first) for (*_, text), (*_, first) in zip(second, agree))))
+    counts.stop_if_wrong(differ + others, ('trees', len(agree), CORNERS + count * 99 // 100),
                          ('operators at the root', len(roots), len(MONADIC) + len(DYADIC)))
     return agree
 

@@ -2,6 +2,15 @@
 import os
 import sys
 
+SHOWN = 10
+
+
+def shown(what, differ):
+    """Prints some of what differs; how many that are."""
+    for one in differ[:SHOWN]:
+        print('differs: %s:' % what, *one)
+    return len(differ)
+
 
 def short(differ, counts):
     """What is wrong: answers that differ, and what there are fewer of than there must be. counts: (what, how many, how many there must be)."""

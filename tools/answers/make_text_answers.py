@@ -12,29 +12,21 @@ Writes nothing and exits with 1 if one of these differs, or if there are fewer c
 import collections
 import os
 import random
-import re
 import sys
 
 sys.path.insert(0, os.path.join(os.path.dirname(os.path.abspath(__file__)), '..'))
 from answers import counts, rust, sqlite, stored
+from answers.counts import shown
+from answers.literals import Literals, values_of, with_texts
 from generators import filters, text_cases, texts
 from model import calls, lowering
 from model.limits import FLAGS, PLANNER, STR
-from model.records import SHEET_SETTINGS, children, encode, settings_record, string
+from model.records import SHEET_SETTINGS, encode, settings_record, string
 from model.refusals import BUFFER, FIELD, TEXT_SIZE
-from model.strings import quoted
 
 RANDOM, SEED = 6000, 7
 SAMPLE, SMALL = 1200, 800    # of the random trees those that are stored, and how long their texts are at most
 CASES = {'trees': 3200, 'lowerings': 1600, 'readings': 8000}
-STAND_IN = 0xf0000    # the first of these characters
-SHOWN = 10
-
-
-def shown(what, differ):
-    for one in differ[:SHOWN]:
-        print('differs: %s:' % what, *one)
-    return len(differ)
 
 
 # ---- trees
@@ -57,35 +49,6 @@ def trees(oracle):
 
 
 # ---- lowerings
-
-
-def with_texts(tree, change):
-    """The tree with another text in each Str."""
-    if tree[0] == 'str':
-        return 'str', tree[1], change(tree[2])
-    return tuple(with_texts(x, change) if isinstance(x, tuple) else [with_texts(y, change) for y in x] if isinstance(x, list) else x for x in tree)
-
-
-def values_of(tree):
-    return [tree[2]] if tree[0] == 'str' else [value for child in children(tree) for value in values_of(child)]
-
-
-class Literals:
-    """A character of its own for each value of a Str; its literal, as SQLite reads it back."""
-
-    def __init__(self):
-        self.stand_ins = {}
-
-    def stand_in(self, value):
-        return self.stand_ins.setdefault(value, chr(STAND_IN + len(self.stand_ins)))
-
-    def wrong(self):
-        return [value for value in self.stand_ins if sqlite.value(quoted(value)) != value.encode()]
-
-    def put(self, text):
-        """The literals in the places of their characters."""
-        values = {one: value for value, one in self.stand_ins.items()}
-        return re.sub("'([%s-%s])'" % (chr(STAND_IN), max(values)), lambda found: quoted(values[found[1]]), text)
 
 
 def expected(oracle, cases):

@@ -6,14 +6,15 @@ from model import calls, reader
 MOST_COLUMNS = 2000    # of an SQLite table
 
 
-def truth(text, row):
-    """The text's truth on a table of TEXT columns that holds the row; None where SQLite does not take the text or the row, or the text is no UTF-8."""
+def truth(text, row, declared='TEXT'):
+    """The text's truth on a table that holds the row, its columns declared so; None where SQLite does not take the text or the row, or the text is no
+    UTF-8."""
     cells = calls.heard(reader.columns, row)
     if isinstance(cells, int) or not cells or len(cells) > MOST_COLUMNS or b'\0' in text:
         return None
     base = sqlite3.connect(':memory:')
     try:
-        base.execute('CREATE TABLE t (%s)' % ', '.join('"%s" TEXT' % name.decode() for name in cells))
+        base.execute('CREATE TABLE t (%s)' % ', '.join('"%s" %s' % (name.decode(), declared) for name in cells))
         base.execute('INSERT INTO t VALUES (%s)' % ', '.join('?' * len(cells)), [None if v is None else v.decode() for v in cells.values()])
         found = base.execute('SELECT ' + text.decode() + ' FROM t').fetchall()
     except (sqlite3.Error, sqlite3.Warning, ValueError):

@@ -7,8 +7,8 @@ from model.c import TRUTH
 from model.refusals import ABSENT, BUFFER, FIELD, FRAME, GRAMMAR, KIND, PLACE, READING_SIZE, ROW, TEXT_SIZE
 
 CRATES = os.path.join(os.path.dirname(os.path.abspath(__file__)), '..', '..', 'crates')
-REPLAYED = ('operators', 'trees', 'keyword_trees', 'text_trees', 'leaves', 'lowerings', 'text_lowerings', 'readings', 'keyword_readings',
-            'text_readings')    # in the order of the program's lines
+REPLAYED = ('operators', 'trees', 'keyword_trees', 'text_trees', 'leaves', 'lowerings', 'text_lowerings', 'geopackage_lowerings', 'readings',
+            'keyword_readings', 'text_readings', 'geopackage_readings')    # in the order of the program's lines
 checking = False    # set by make_all.py
 
 

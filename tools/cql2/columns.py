@@ -1,5 +1,9 @@
-"""What is known of a table's columns: the family of values that each is declared for, whether it may be NULL, and its reference system."""
+"""What is known of a table's columns: the family of values that each is declared for, the forms of its instants, whether it may be NULL, and its
+reference system."""
+import functools
 import re
+
+from .writing import RUST
 
 NUMBER, TEXT, DATE, DATETIME, TIMESTAMP, BOOLEAN, GEOMETRY, UNKNOWN = 'number', 'text', 'date', 'DATETIME', 'timestamp', 'boolean', 'geometry', 'unknown'
 TEXTS = {TEXT, DATE, DATETIME, TIMESTAMP}    # SQLite holds and compares all of these as texts
@@ -29,15 +33,31 @@ class Column:
         self.fraction = any(word in (declared or '').upper() for word in ('REAL', 'FLOA', 'DOUB'))
 
 
+STORED = '2026-03-01T12:00:00.000Z'    # an instant of a DATETIME column, as GeoPackage has it
+
+
+def form(text):
+    """The form of an instant: 0 for each digit."""
+    return re.sub('[0-9]', '0', text)
+
+
+def declared_form(column):
+    """Of the instants that a column is declared for, where it is known: an example, by its form."""
+    return {form(STORED): STORED} if column.family == DATETIME else {}
+
+
 class NoTable:
-    """Where there is no GeoPackage at hand: any column may hold anything."""
+    """Where there is no GeoPackage at hand: any column may hold anything. `srid` is that of written geometries, `writing` that of timestamps."""
     open, spatialite = False, False
 
-    def __init__(self, srid):
-        self.srid = srid
+    def __init__(self, srid, writing=RUST):
+        self.srid, self.writing = srid, writing
 
     def column(self, name):
         return Column()
+
+    def forms(self, name):
+        return {}
 
     def has_null(self, name):
         return True
@@ -53,16 +73,21 @@ class NoTable:
 
 
 class Table:
-    """A GeoPackage's table; `srid` is that of written geometries."""
+    """A GeoPackage's table; `srid` and `writing` as above."""
     open = True
 
-    def __init__(self, package, name, spatialite, srid):
-        self.package, self.name, self.spatialite, self.srid = package, name, spatialite, srid
+    def __init__(self, package, name, spatialite, srid, writing):
+        self.package, self.name, self.spatialite, self.srid, self.writing = package, name, spatialite, srid, writing
+        self.forms = functools.lru_cache(None)(self.forms)    # asked for each place of a filter
         systems = package.geometries(name)
         self.columns = {column.lower(): Column(declared, nullable, systems.get(column.lower())) for column, declared, nullable in package.declared(name)}
 
     def column(self, name):
         return self.columns.get(name.lower(), Column())
+
+    def forms(self, name):
+        """Of the instants that the column holds an example of each form; where it holds none, of those that it is declared for."""
+        return self.package.forms(self.name, name) or declared_form(self.column(name))
 
     def has_null(self, name):
         return self.column(name).nullable and self.package.has_null(self.name, name)

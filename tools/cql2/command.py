@@ -9,13 +9,19 @@ from .encode import KNOWN, Encoder
 from .errors import BadInput, Parted, guarded, some, told
 from .geopackage import GeoPackage
 from .reading import is_text_encoding, read_filter
+from .writing import GEOPACKAGE, LINES, RUST
 
 ABOUT = 'Shows the SQL text of a CQL2-JSON filter, lowered by the proved program, and with a GeoPackage the rows that it picks.'
 MORE = '''examples:
   ./filter '{"op": "=", "args": [{"property": "label"}, "cup"]}'
   ./filter filters/during.json
   ./filter filters/during.json --geopackage target/demo/stays.gpkg
+  ./filter filters/late_shift.json --geopackage target/demo/stays.gpkg --writing rust
   cat filters/during.json | ./filter - --geopackage target/demo/stays.gpkg --table stays
+
+timestamps:
+  With --geopackage they are written as GeoPackage defines DATETIME, 2026-03-16T14:00:00.000Z, else as ogc-cql2 does, 2026-03-16T14:00:00;
+  --writing takes the other. They are compared as texts, so that what is written must have the form of what the column holds.
 
 operators:
   and or not  = <> < > <= >=  isNull like between in  casei accenti  + - * / div % ^
@@ -26,7 +32,8 @@ operators:
 
 warnings:
   Where the text is known to do something else than the filter says, or SQLite cannot run it, a line on standard error names the place
-  in the filter, what will happen and the way out (docs/DIFFERENCES.md has each). With a GeoPackage its columns' types are looked at too.
+  in the filter, what will happen and the way out (docs/DIFFERENCES.md has each). With a GeoPackage its columns' types are looked at too, and
+  how they hold instants.
 
 exit status:
   0  done
@@ -55,6 +62,12 @@ def function_name(text):
     return text
 
 
+def writing_name(text):
+    if text not in LINES:
+        raise argparse.ArgumentTypeError('%s or %s is due' % (RUST, GEOPACKAGE))
+    return text
+
+
 class Parser(argparse.ArgumentParser):
     def error(self, message):
         """One line, as for every other error."""
@@ -67,6 +80,8 @@ def parser():
     p.add_argument('filter', metavar='FILTER', help='a file, the JSON itself, or - for standard input')
     p.add_argument('-g', '--geopackage', metavar='FILE', help='run the text on this GeoPackage and show the rows')
     p.add_argument('-t', '--table', metavar='NAME', help='its table (may be left out if there is only one)')
+    p.add_argument('--writing', metavar='{%s,%s}' % (RUST, GEOPACKAGE), type=writing_name,
+                   help='how timestamps are written: with their seconds last, or .000Z behind them (default: geopackage with --geopackage, else rust)')
     p.add_argument('--rows', metavar='N', type=whole(0, 10 ** 9), default=40, help='show at most N rows (default 40; 0: all)')
     p.add_argument('--spatialite', action='store_true', help='load SpatiaLite, for the s_ operators')
     p.add_argument('--strict', action='store_true', help='refuse a filter that has a warning')
@@ -146,11 +161,12 @@ def run(arguments):
     name = package.table(options.table) if package else None
     proved.build(['lower'])
     settings = records.settings(options.precision, *collations)
-    sql = lowering.lower(settings, tree)
+    writing = options.writing or (GEOPACKAGE if package else RUST)
+    sql = lowering.lower(settings, tree, writing)
     if package:
         check_columns(tree, package, name)
     scratch = prepare.Scratch(tree, collations)
-    where = Table(package, name, options.spatialite, options.srid) if package else NoTable(options.srid)
+    where = Table(package, name, options.spatialite, options.srid, writing) if package else NoTable(options.srid, writing)
     found = warnings_of(value, tree, sql, settings, scratch, where)
     # on a GeoPackage what SQLite cannot run ends the command, and is said once
     ending = [one for one in found if one.cannot] if package and scratch.error(sql) and not options.strict else []
@@ -159,7 +175,7 @@ def run(arguments):
     if ending:
         raise BadInput('SQLite cannot run this text: %s; %s' % (scratch.error(sql), ending[0].instead), ending[0].place)
     if package:
-        print()
+        print(LINES[writing], end='\n\n')
         show_rows(package, name, sql, options.rows)
 
 

@@ -103,6 +103,14 @@ class GeoPackage:
     def has_null(self, table, column):
         return bool(self.ask('SELECT 1 FROM %s WHERE %s IS NULL LIMIT 1' % (quoted(table), quoted(column))))
 
+    def forms(self, table, column):
+        """Of the values that begin as a date does: the forms that they have, some if there are many, each with the least value of it."""
+        form, day = 'c', '-'.join('[0-9]' * n for n in (4, 2, 2))
+        for digit in '123456789':
+            form = "replace(%s, '%s', '0')" % (form, digit)
+        return dict(self.ask("SELECT %s, min(c) FROM (SELECT %s AS c FROM %s) WHERE typeof(c) = 'text' AND c GLOB '%s*' GROUP BY 1 LIMIT 100"
+                             % (form, quoted(column), quoted(table), day)))
+
     def collation(self, table, column):
         """The name of the collation by which SQLite compares the column: the program that it makes of a comparison has it."""
         for _, code, _, _, _, told, *_ in self.ask("EXPLAIN SELECT 1 FROM %s WHERE +%s = 'x'" % (quoted(table), quoted(column))):

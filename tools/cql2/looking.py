@@ -2,10 +2,11 @@
 import collections
 import re
 
-from .columns import BOOLEAN, DATE, DATETIME, GEOMETRY, NUMBER, NUMBERS, TEXT, TEXTS, TIMESTAMP, UNKNOWN
+from .columns import BOOLEAN, DATE, DATETIME, GEOMETRY, NUMBER, NUMBERS, STORED, TEXT, TEXTS, TIMESTAMP, UNKNOWN, form
 from .encode import KNOWN
 from .geopackage import without_accents
 from .reading import Number
+from .writing import AFTER, GEOPACKAGE, RUST
 
 # A part of the filter: its value, its place, and what it lies in, the outermost first.
 Part = collections.namedtuple('Part', 'value place above')
@@ -39,9 +40,14 @@ def property_of(value):
 
 
 def instant(value):
-    """A written instant as the text has it; None for all else."""
+    """A written instant as the text has it, without what stands behind its seconds; None for all else."""
     found = isinstance(value, dict) and (value.get('date') or value.get('timestamp'))
     return found[:19] if found else None
+
+
+def written(value, writing):
+    """A written instant as the text has it in this writing."""
+    return instant(value) + (AFTER[writing] if 'timestamp' in value else '')
 
 
 def end_of(value):
@@ -143,9 +149,11 @@ def operands(part):
 
 
 def family(value, table):
-    """The family of values that an operand has."""
-    if property_of(value):
-        return table.column(property_of(value)).family
+    """The family of values that an operand has. A column that is declared DATE and holds longer instants is none of dates."""
+    name = property_of(value)
+    if name:
+        declared = table.column(name).family
+        return DATETIME if declared == DATE and any(len(one) > len('YYYY-MM-DD') for one in table.forms(name)) else declared
     if isinstance(value, bool):
         return BOOLEAN
     if isinstance(value, Number) or operator(value) in ARITHMETIC:
@@ -172,17 +180,44 @@ def date_and_timestamp(part, table):
         yield next(place for kind, _, place in found if kind in (TIMESTAMP, DATETIME)), {}
 
 
-def datetime_column(part, table):
-    """Such a column's value is longer than its own instant as written, so that it is never equal to it and always above: >= and < are right."""
-    found, name = operands(part), operator(part.value)
-    columns = [property_of(x) for x, _ in found if property_of(x) and family(x, table) == DATETIME]
-    first = bool(found and instant(found[0][0]))
-    if name in (('<=', '>') if first else ('>=', '<', 't_before')):
-        return
+# By how a value lies to its own instant as written: the operators that are right all the same, with the column first and with the written one first.
+RIGHT = {'above': (('>=', '<', 't_before'), ('<=', '>', 't_after')), 'below': (('<=', '>', 't_after'), ('>=', '<', 't_before')), 'above or below': ((), ())}
+
+
+def lies(one, other):
+    """How a value of one form lies to its own instant as written in another: of two that begin alike the longer one is above, but one with an offset
+    from UTC has another time of day."""
+    if re.search('[+-]00(:?00)?$', one[10:]):
+        return 'above or below'
+    return 'above' if one.startswith(other) else 'below' if other.startswith(one) else 'above or below'
+
+
+def one_form(value, forms, writing):
+    """The way to write an instant as a column holds it."""
+    stored = {form(STORED): GEOPACKAGE, form(STORED)[:19]: RUST}
+    if set(forms) == {form(STORED)[:10]}:
+        return 'write a date'
+    if len(forms) > 1 or not set(forms) & set(stored):
+        return 'have the column hold them in one form, as ' + STORED
+    other = stored[min(forms)]
+    return ', and '.join(['write a timestamp'] * ('date' in value) + ['take --writing ' + other] * (writing != other))
+
+
+def other_form(part, table):
+    """A written instant beside a column that holds instants of another form; where instants of two forms are written that is told."""
+    found, name = operands(part) if not any(date_and_timestamp(part, table)) else [], operator(part.value)
+    columns = [property_of(x) for x, _ in found if property_of(x) and family(x, table) in (DATETIME, TEXT, UNKNOWN)]
     for x, place in found:
-        if columns and instant(x):
-            yield place, {'column': columns[0]}
-            return
+        for column in columns if instant(x) else ():
+            text, forms = written(x, table.writing), table.forms(column)
+            others = {one: example for one, example in forms.items() if one != form(text)}
+            ways = {lies(one, form(text)) for one in others}
+            how = min(ways) if len(ways) == 1 else 'above or below'
+            right = RIGHT[how][bool(instant(found[0][0]))]
+            if others and name not in right:
+                yield place, {'written': text, 'column': column, 'example': max(others.values()), 'lies': how,
+                              'instead': one_form(x, forms, table.writing) + ('; %s and %s are right as they are' % right[:2] if right else '')}
+                return
 
 
 def number_as_text(part, table):

@@ -4,6 +4,7 @@ import re
 from . import proved, records
 from .encode import RULES
 from .errors import BadInput, Refused
+from .writing import ARGUMENTS, RUST
 
 WORDS = {
     2: 'the filter is longer than 32,768 bytes as records (it has %d)',
@@ -17,10 +18,10 @@ def refusal_of(line):
     return int(told.group(1)) if told else None
 
 
-def lower(settings, tree):
-    """The SQL text, or Refused."""
+def lower(settings, tree, writing=RUST):
+    """The SQL text, or Refused; both writings are refused alike, but for the length of the text."""
     data = tree.encode()
-    line = proved.run('lower', [(settings, data)])[0]
+    line = proved.run('lower', [(settings, data)], ARGUMENTS[writing])[0]
     number = refusal_of(line)
     if number is None:
         return line

@@ -75,11 +75,11 @@ def tick(started, ended):
     print('\r\033[K', end='', file=sys.stderr, flush=True)
 
 
-def run(name, cases):
-    """A line of answer for each case, which is a pair of byte strings."""
+def run(name, cases, words=()):
+    """A line of answer for each case, which is a pair of byte strings. words: the program's arguments."""
     data = b''.join(struct.pack('<I', len(part)) + part for case in cases for part in case)
     try:
-        done = subprocess.run([path_of(name)], input=data, stdout=subprocess.PIPE)
+        done = subprocess.run([path_of(name), *words], input=data, stdout=subprocess.PIPE)
     except OSError as e:
         raise BadInput('cannot run %s: %s' % (path_of(name), e.strerror))
     lines = done.stdout.decode('utf-8').split('\n')

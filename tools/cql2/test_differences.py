@@ -1,5 +1,6 @@
 """Tests of docs/DIFFERENCES.md: each tree of its first tables is lowered by the proved program and by the Rust, each text run on SQLite, and each row stands
 in the document as it is run here."""
+import itertools
 import os
 import sqlite3
 import struct
@@ -8,6 +9,7 @@ import unittest
 from . import lowering, proved, records, rust
 from .geopackage import collation, without_accents
 from .records import Node, dyadic, monadic
+from .writing import ARGUMENTS, GEOPACKAGE, RUST
 
 SETTINGS = records.settings(7, 'NC', 'NA', 'NCA')
 NULL, OPEN = Node(records.NULL, '$'), Node(records.UNBOUNDED, '$')
@@ -43,6 +45,10 @@ def two(op, x, y):
 
 def date(*fields):
     return Node(records.DATE, '$', struct.pack('<HBB', *fields))
+
+
+def stamp(*fields):
+    return Node(records.TIMESTAMP, '$', struct.pack('<HBBBBB', *fields))
 
 
 def nested(count, inner):
@@ -144,11 +150,27 @@ OTHER = [
      "NOT((a < '2024-12-01') OR (a > '2024-01-01'))", {'a': '2024-06-01'}, 0, None, None),
 ]
 
+# The first cell of the row; the tree; its text by each call.
+NOON, MIDNIGHT = stamp(2024, 2, 29, 12, 0, 0), stamp(2024, 2, 29, 0, 0, 0)
+BY_CALL = [
+    ('Timestamp 2024-02-29 12:00:00', NOON, "'2024-02-29T12:00:00'", "'2024-02-29T12:00:00.000Z'"),
+    ('Date 2024-02-29', date(2024, 2, 29), "'2024-02-29'", "'2024-02-29'"),
+    ('Unbounded', OPEN, "'-2021-01-01'", "'-2021-01-01'"),
+    ('Str `2024-02-29T12:00:00`', text('2024-02-29T12:00:00'), "'2024-02-29T12:00:00'", "'2024-02-29T12:00:00'"),
+]
+# A value; the instant that it is compared with; how the value lies to it as each call writes it, by the first word of the row's cells.
+LIES = [
+    ('2024-02-29T12:00:00.000Z', NOON, 'above', 'equal'), ('2024-02-29T12:00:00', NOON, 'equal', 'below'), ('2024-02-29T12:00:00Z', NOON, 'above', 'above'),
+    ('2024-02-29T12:00:00.000000Z', NOON, 'above', 'below'), ('2024-02-29 12:00:00', NOON, 'below', 'below'), ('2024-02-29', MIDNIGHT, 'below', 'below'),
+]
+
 # The first cell of the row; a text; the column a as declared; its value; what SQLite makes of the text.
 DECLARED = [
     ("a column declared DATE, `entry < '9999'`", "a < '9999'", 'DATE', '2024-01-01', 0),
-    ('a written instant against a column declared DATETIME', "a = '2026-03-01T12:00:00'", 'DATETIME', '2026-03-01T12:00:00.000Z', 0),
-    ('a written instant against a column declared DATETIME', "a > '2026-03-01T12:00:00'", 'DATETIME', '2026-03-01T12:00:00.000Z', 1),
+    ('a written instant beside instants of another form', "a = '2026-03-01T12:00:00'", 'DATETIME', '2026-03-01T12:00:00.000Z', 0),
+    ('a written instant beside instants of another form', "a > '2026-03-01T12:00:00'", 'DATETIME', '2026-03-01T12:00:00.000Z', 1),
+    ('a written instant beside instants of another form', "a = '2026-03-01T12:00:00.000Z'", 'DATETIME', '2026-03-01T12:00:00', 0),
+    ('a written instant beside instants of another form', "a < '2026-03-01T12:00:00.000Z'", 'DATETIME', '2026-03-01T12:00:00', 1),
     ('a date beside a timestamp', "a = '2026-03-01T00:00:00'", 'DATE', '2026-03-01', 0),
     ('a date beside a timestamp', "a < '2026-03-01T00:00:00'", 'DATE', '2026-03-01', 1),
     ('a column of another declared type', "a < '2024-02-29'", 'INTEGER', 20260301, 1),
@@ -186,8 +208,8 @@ class Differences(unittest.TestCase):
         self.assertEqual(len(found), 1, first)
         return ' | '.join(found[0])
 
-    def lower(self, trees):
-        return proved.run('lower', [(SETTINGS, tree.encode()) for tree in trees])
+    def lower(self, trees, writing=RUST):
+        return proved.run('lower', [(SETTINGS, tree.encode()) for tree in trees], ARGUMENTS[writing])
 
     def test_refused_here(self):
         for (first, _, (_, words), number), line in zip(REFUSED, self.lower(case[1] for case in REFUSED)):
@@ -215,6 +237,28 @@ class Differences(unittest.TestCase):
     def test_apostrophes_of_the_rust(self):
         told = rust.answers([(SETTINGS, case[1].encode()) for case in APOSTROPHES])
         self.assertEqual(told, [('T', case[2]) for case in APOSTROPHES])
+
+    def test_timestamps_by_call(self):
+        trees = [case[1] for case in BY_CALL]
+        for (first, _, *due), *lines in zip(BY_CALL, self.lower(trees), self.lower(trees, GEOPACKAGE)):
+            with self.subTest(first):
+                self.assertEqual(lines, due)
+                for cell, words in zip(self.row(first).split(' | ')[1:], due):
+                    self.assertTrue(cell.startswith('`%s`' % words), cell)
+
+    @unittest.skipUnless(rust.program(), rust.MISSING)
+    def test_timestamps_of_the_rust(self):
+        told = rust.answers([(SETTINGS, case[1].encode()) for case in BY_CALL])
+        self.assertEqual(told, [('T', case[2]) for case in BY_CALL])
+
+    def test_values_beside_timestamps(self):
+        signs = {'Lt': 'below', 'Eq': 'equal', 'Gt': 'above'}
+        for (value, tree, *lies), (operator, word) in itertools.product(LIES, signs.items()):
+            cells = self.row('`%s`%s' % (value, ', against midnight' if tree is MIDNIGHT else '')).strip(' |').split(' | ')[1:]
+            for writing, due, cell in zip((RUST, GEOPACKAGE), lies, cells):
+                [words] = self.lower([two(operator, A, tree)], writing)
+                self.assertEqual([asked(words, {'a': value}, kind) for kind in ('DATETIME', 'TEXT')], [due == word] * 2, (value, words))
+                self.assertTrue(cell.startswith(due), cell)
 
     def test_texts(self):
         for (first, _, words, *_), line in zip(OTHER, self.lower(case[1] for case in OTHER)):

@@ -187,6 +187,19 @@ class Errors(unittest.TestCase):
                 line = self.line(run('-', '--function', 'lower', data=data.encode()), 1)
                 self.assertEqual(line[:len('refused (%d)%s: %s' % (number, where, words))], 'refused (%d)%s: %s' % (number, where, words))
 
+    def test_refusals_of_the_second_call(self):
+        """By the same numbers, at the same places, in the same words."""
+        for data, *_ in REFUSED:
+            data = (data if isinstance(data, str) else json.dumps(data)).encode()
+            first, second = (self.line(run('-', '--function', 'lower', '--writing', word, data=data), 1) for word in ('rust', 'geopackage'))
+            self.assertEqual(first, second)
+
+    def test_a_text_that_is_too_long_by_the_second_call_alone(self):
+        stamp = {'timestamp': '2026-03-01T12:00:00Z'}
+        data = json.dumps(op('in', A, [stamp] * 2400)).encode()
+        self.assertEqual(len(run('-', data=data).stdout), 2400 * 23 + 6)
+        self.assertEqual(self.line(run('-', '--writing', 'geopackage', data=data), 1), 'refused (8): the SQL text would be longer than 65,535 bytes')
+
     def test_function_names(self):
         keyword = 'the function %s is a keyword of SQLite: give it another name where it is registered, or use another function'
         for name, words in (('a b', NAME_RULE), ('x' * 300, NAME_RULE), ('Not', keyword % 'Not'), ('replace', keyword % 'replace')):
@@ -221,6 +234,8 @@ class Errors(unittest.TestCase):
                          'argument --precision: a whole number from 0 to 15 is due (see ./filter --help)')
         self.assertEqual(self.line(run('true', '--srid', '-1'), 2),
                          'argument --srid: a whole number from 0 to 4294967295 is due (see ./filter --help)')
+        self.assertEqual(self.line(run('true', '--writing', 'gpkg'), 2),
+                         'argument --writing: rust or geopackage is due (see ./filter --help)')
         self.assertEqual(self.line(run('true', '--colour'), 2), 'unrecognized arguments: --colour (see ./filter --help)')
         self.assertTrue(self.line(run('true', '--ci', 'a b'), 2).startswith('a collation of the settings: a name has'))
 

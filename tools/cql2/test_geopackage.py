@@ -1,4 +1,5 @@
 """Tests on real GeoPackages: the rows that filters pick against a Python evaluation by hand, the table, and the error lines about files."""
+import datetime
 import json
 import os
 import sqlite3
@@ -9,7 +10,7 @@ import unittest
 
 from demo import log
 
-from . import checking, geopackage, proved, spatialite, table
+from . import checking, geopackage, proved, spatialite, table, writing
 from .errors import Disagreement
 from .test_errors import run
 from .test_texts import interval, op, sql_of
@@ -118,17 +119,52 @@ class Rows(unittest.TestCase):
     def test_table(self):
         done = run(json.dumps(op('=', {'property': 'fid'}, 1)), '--geopackage', self.path, '--table', 'stays')
         self.assertEqual(done.stdout.decode(), '''fid = 1
+writing geopackage: timestamps end in .000Z, as GeoPackage defines DATETIME (--writing rust leaves it out)
 
-fid  label  tray    entry       exit        place
----  -----  ------  ----------  ----------  -----------------
-  1  bolt   middle  2026-03-04  2026-03-05  POINT (1.07 0.37)
+fid  label  tray    entry       exit        place              seen
+---  -----  ------  ----------  ----------  -----------------  ------------------------
+  1  bolt   middle  2026-03-04  2026-03-05  POINT (1.07 0.37)  %s
 1 of 200 rows
-''')
+''' % self.package.select('stays', 'fid = 1').fetchone()[6])
+
+    def test_writings(self):
+        """By the first call the row of 14:00 itself is picked too; without a GeoPackage that call is taken."""
+        for words, after, count in ((['-g', self.path], '.000Z', 2), (['-g', self.path, '--writing', 'geopackage'], '.000Z', 2),
+                                    (['-g', self.path, '--writing', 'rust'], '', 3), ([], '', None), (['--writing', 'geopackage'], '.000Z', None)):
+            done = run(os.path.join(proved.ROOT, 'filters', 'late_shift.json'), *words)
+            lines = done.stdout.decode().splitlines()
+            self.assertEqual(lines[0], "(seen > '2026-03-16T14:00:00%s') AND (seen < '2026-03-16T22:00:00%s')" % (after, after))
+            if count is None:
+                self.assertEqual((len(lines), done.stderr), (1, b''))
+                continue
+            self.assertEqual(lines[1], writing.LINES[writing.GEOPACKAGE if after else writing.RUST])
+            self.assertEqual((lines[2], lines[-1]), ('', '%d of 200 rows' % count))
+            self.assertEqual(done.stderr.decode().count('filter: warning at $.args[0].args[1]: '), 0 if after else 1)
+
+    def test_values_to_the_millisecond(self):
+        """The log has 24-byte values, and the second call's texts pick them by their instants."""
+        rows = self.package.select('stays', 'seen IS NOT NULL').fetchall()
+        self.assertTrue(all(len(row[6]) == 24 for row in rows) and {'000', '001', '999'} <= {row[6][20:23] for row in rows})
+        instant = lambda row: datetime.datetime.strptime(row[6], '%Y-%m-%dT%H:%M:%S.%fZ')
+        noon = {'timestamp': '2026-03-18T14:00:00Z'}
+        at = datetime.datetime(2026, 3, 18, 14)
+        for name, right in (('=', at.__eq__), ('<>', at.__ne__), ('<', at.__gt__), ('>', at.__lt__), ('<=', at.__ge__), ('>=', at.__le__),
+                            ('t_after', at.__lt__), ('t_before', at.__gt__), ('t_equals', at.__eq__), ('t_disjoint', at.__ne__), ('t_intersects', at.__eq__)):
+            sql = sql_of(op(name, {'property': 'seen'}, noon), writing.GEOPACKAGE)
+            self.assertEqual([row[0] for row in self.package.select('stays', sql)], [row[0] for row in rows if right(instant(row))], sql)
+            self.assertEqual(sum(checking.check(self.package, 'stays', sql).values()), 200)
+
+    def test_the_demo_names_the_row_that_is_wrong(self):
+        done = subprocess.run([os.path.join(proved.ROOT, 'demo')], capture_output=True, text=True)
+        self.assertEqual((done.returncode, done.stderr), (0, ''))
+        self.assertIn("\n   Row 173 is wrong: it was seen at 2026-03-16T14:00:00.000Z, which is 14:00 and not after it. As a text that lies above "
+                      "'2026-03-16T14:00:00', which it begins with.\n", done.stdout)
+        self.assertIn('\nDone: 1200 answers of the proved reader held against SQLite, all the same.\n', done.stdout)
 
     def test_rows_that_are_not_shown_are_counted(self):
         lines = run('true', '--geopackage', self.path, '--rows', '3').stdout.decode().splitlines()
         self.assertEqual(lines[-2:], ['… 197 more (--rows 0 shows all)', '200 of 200 rows'])
-        self.assertEqual(len(run('true', '--geopackage', self.path, '--rows', '0').stdout.decode().splitlines()), 205)
+        self.assertEqual(len(run('true', '--geopackage', self.path, '--rows', '0').stdout.decode().splitlines()), 206)
 
     def test_cells(self):
         self.assertEqual([table.cell(x) for x in (None, 7, 1.5, b'abc', log.point(0.5, 2), 'x' * 40, 'a\nb\x1b', '漢' * 20)],
@@ -180,7 +216,7 @@ fid  label  tray    entry       exit        place
     def test_texts_that_sqlite_cannot_run(self):
         cannot, fid = 'filter: %sSQLite cannot run this text: ', {'property': 'fid'}
         self.assertEqual(self.line(json.dumps(op('isNull', {'property': 'zz'})), '-g', self.path),
-                         'filter: $.args[0].property: the table "stays" has no column zz; it has fid, label, tray, entry, exit, place')
+                         'filter: $.args[0].property: the table "stays" has no column zz; it has fid, label, tray, entry, exit, place, seen')
         self.assertEqual(self.line(json.dumps(op('s_intersects', LABEL, {'bbox': [1, 2, 3, 4]})), '-g', self.path),
                          cannot % '' + 'spatial functions need SpatiaLite (--spatialite)')
         self.assertEqual(self.line(json.dumps(op('=', fid, op('^', 2, 3))), '-g', self.path), cannot % '$.args[1]: ' + 'unrecognized token: "^"; '

@@ -13,6 +13,7 @@ from .encode import Encoder
 from .errors import Refused
 from .reading import read_filter
 from .test_texts import SETTINGS, op
+from .writing import ARGUMENTS
 
 
 class Maker:
@@ -100,12 +101,13 @@ class Random(unittest.TestCase):
     def test_texts_and_refusals(self):
         settings = records.settings(*SETTINGS)
         trees = list(self.trees())
-        tally = {}
-        for (data, tree), line in zip(trees, proved.run('lower', [(settings, tree.encode()) for _, tree in trees])):
-            due = calls.heard(calls.lowered, settings, tree.encode())
-            self.assertEqual(line, due.decode() if isinstance(due, bytes) else 'refused %d' % due, data)
-            tally[lowering.refusal_of(line)] = tally.get(lowering.refusal_of(line), 0) + 1
-        self.assertTrue(all(tally.get(n, 0) > 20 for n in (None, 6, 7)), tally)
+        for writing, words in ARGUMENTS.items():
+            tally = {}
+            for (data, tree), line in zip(trees, proved.run('lower', [(settings, tree.encode()) for _, tree in trees], words)):
+                due = calls.heard(calls.lowered, settings, tree.encode(), writing)
+                self.assertEqual(line, due.decode() if isinstance(due, bytes) else 'refused %d' % due, data)
+                tally[lowering.refusal_of(line)] = tally.get(lowering.refusal_of(line), 0) + 1
+            self.assertTrue(all(tally.get(n, 0) > 20 for n in (None, 6, 7)), tally)
 
     def test_places(self):
         """What the place names is at fault: with true or a plain value put there, the refusal is gone or stands later."""

@@ -1,25 +1,24 @@
 """Random filters about time, texts and numbers on random rows: where SQLite picks other rows than CQL2 does, evaluated here without any text, there is a
 warning; and most filters have none."""
+import itertools
 import json
 import random
+import re
 import sqlite3
 import unittest
 
+from answers.instants import FORMULAS
+
 from . import differences, lowering, prepare, proved, records, test_random
-from .columns import Column, NoTable
+from .columns import Column, NoTable, form
 from .geopackage import collation, without_accents
 from .reading import read_filter
 from .test_texts import SETTINGS, op, tree_of
+from .writing import ARGUMENTS, GEOPACKAGE
 
 DAYS = ['2024-01-0%d' % k for k in range(1, 6)]
 BELOW, ABOVE = '', '~'    # open ends, as texts that sort before and after all instants
-RELATIONS = {
-    't_after': lambda a, b, c, d: a > d, 't_before': lambda a, b, c, d: b < c, 't_contains': lambda a, b, c, d: a < c and b > d,
-    't_disjoint': lambda a, b, c, d: b < c or a > d, 't_during': lambda a, b, c, d: a > c and b < d, 't_equals': lambda a, b, c, d: a == c and b == d,
-    't_finishedBy': lambda a, b, c, d: a < c and b == d, 't_finishes': lambda a, b, c, d: a > c and b == d,
-    't_intersects': lambda a, b, c, d: not (b < c or a > d), 't_meets': lambda a, b, c, d: b == c, 't_metBy': lambda a, b, c, d: a == d,
-    't_overlappedBy': lambda a, b, c, d: a > c and a < d and b > d, 't_overlaps': lambda a, b, c, d: a < c and b > c and b < d,
-    't_startedBy': lambda a, b, c, d: a == c and b > d, 't_starts': lambda a, b, c, d: a == c and b < d}
+RELATIONS = {'t_' + name[1].lower() + name[2:]: formula for name, formula in FORMULAS.items()}
 INSTANTS = ('t_after', 't_before', 't_disjoint', 't_equals', 't_intersects')
 COMPARED = {'=': lambda x, y: x == y, '<>': lambda x, y: x != y, '<': lambda x, y: x < y, '>': lambda x, y: x > y, '<=': lambda x, y: x <= y,
             '>=': lambda x, y: x >= y}
@@ -142,14 +141,17 @@ def by_time(data, value):
 
 
 class Typed(NoTable):
-    """A table whose columns are all declared alike."""
+    """A table whose columns are all declared alike, and hold instants of one form."""
 
-    def __init__(self, declared):
-        super().__init__(4326)
-        self.declared = declared
+    def __init__(self, declared, value, writing):
+        super().__init__(4326, writing)
+        self.declared, self.value = declared, value
 
     def column(self, name):
         return Column(self.declared)
+
+    def forms(self, name):
+        return {form(self.value): self.value}
 
 
 def timed(x, value):
@@ -161,7 +163,8 @@ def timed(x, value):
 
 class Silence(unittest.TestCase):
     def test_columns_of_dates_and_times(self):
-        """Every operator between a column and written instants around its values, in both orders: another answer than by time has a warning."""
+        """Every operator between a column and written instants around its values, in both orders and writings: another answer than by time has a warning,
+        and of timestamps there is none where the column holds them as they are written."""
         literals = [{'date': '2024-01-02'}, {'timestamp': '2024-01-02T00:00:00Z'}, {'timestamp': '2024-01-02T12:00:00Z'}]
         intervals = [{'interval': ['2024-01-02', '2024-01-03']}, {'interval': ['2024-01-02T00:00:00Z', '2024-01-02T12:00:00Z']},
                      {'interval': ['2024-01-02', '2024-01-02T12:00:00Z']}]
@@ -169,17 +172,20 @@ class Silence(unittest.TestCase):
         filters = [op(name, *pair) for name in COMPARED for x in literals for pair in ((column, x), (x, column))]
         filters += [op(name, *pair) for name in INSTANTS for x in literals + intervals for pair in ((column, x), (x, column))]
         filters += [op(name, *pair) for name in RELATIONS for x in intervals for pair in ((both, x), (x, both))]
-        texts = proved.run('lower', [(records.settings(*SETTINGS), tree_of(data).encode()) for data in filters])
-        values = {'DATE': ['2024-01-01', '2024-01-02', '2024-01-03'],
-                  'DATETIME': ['2024-01-%sZ' % x for x in ('01T23:59:59.999', '02T00:00:00.000', '02T00:00:00.500', '02T12:00:00.000', '02T12:00:00.001')]}
-        tally = {True: 0, False: 0}
-        for declared, found in values.items():
-            for data, text in zip(filters, texts):
-                same = all(self.one(text, declared, value) == by_time(data, value) for value in found)
-                warned = bool(differences.find(read_filter(json.dumps(data).encode()), Typed(declared)))
+        stored = ['2024-01-%sZ' % x for x in ('01T23:59:59.999', '02T00:00:00.000', '02T00:00:00.500', '02T12:00:00.000', '02T12:00:00.001')]
+        seconds = ['2024-01-01T23:59:59', '2024-01-02T00:00:00', '2024-01-02T12:00:00', '2024-01-02T12:00:01']
+        holding = [('DATE', ['2024-01-01', '2024-01-02', '2024-01-03']), ('DATETIME', stored), ('TEXT', stored), ('DATETIME', seconds), ('TEXT', seconds)]
+        for writing, words in ARGUMENTS.items():
+            texts = proved.run('lower', [(records.settings(*SETTINGS), tree_of(data).encode()) for data in filters], words)
+            tally = {True: 0, False: 0}
+            for (declared, values), (data, text) in itertools.product(holding, zip(filters, texts)):
+                same = all(self.one(text, declared, value) == by_time(data, value) for value in values)
+                warned = bool(differences.find(read_filter(json.dumps(data).encode()), Typed(declared, values[0], writing)))
                 self.assertTrue(same or warned, (declared, text))
+                as_written = values is (stored if writing == GEOPACKAGE else seconds) and not re.search(r"'[0-9-]{10}'", text)
+                self.assertFalse(warned and as_written, (declared, text))
                 tally[warned] += 1
-        self.assertTrue(min(tally.values()) > 30, tally)
+            self.assertTrue(min(tally.values()) > 30, tally)
 
     def one(self, text, declared, value):
         connection = sqlite3.connect(':memory:')

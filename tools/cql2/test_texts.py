@@ -4,6 +4,7 @@
   ORACLE=FILE python3 -m unittest discover -s tools     those of the command and of the programs; FILE is the oracle program"""
 import json
 import os
+import re
 import sys
 import unittest
 
@@ -15,6 +16,7 @@ from model.records import encode
 from . import lowering, proved, records, rust
 from .encode import KNOWN, Encoder
 from .reading import read_filter
+from .writing import GEOPACKAGE, RUST
 
 SETTINGS = (7, 'CQL2_CI', 'CQL2_AI', 'CQL2_CI_AI')
 A, B, C, D = ({'property': name} for name in 'abcd')
@@ -155,8 +157,16 @@ def tree_of(data, functions=('f',)):
     return Encoder(7, 4326, functions).filter(read_filter(data if isinstance(data, bytes) else json.dumps(data).encode()))
 
 
-def sql_of(data):
-    return lowering.lower(records.settings(*SETTINGS), tree_of(data))
+def sql_of(data, writing=RUST):
+    return lowering.lower(records.settings(*SETTINGS), tree_of(data), writing)
+
+
+STAMP = re.compile(r"'(\d{4}-\d\d-\d\dT\d\d:\d\d:\d\d)'")
+
+
+def as_stored(text):
+    """The text with .000Z in each timestamp; no Str of the cases here looks like one."""
+    return STAMP.sub(r"'\1.000Z'", text)
 
 
 class Texts(unittest.TestCase):
@@ -176,6 +186,22 @@ class Texts(unittest.TestCase):
         for data, text in [*self.cases(), *APOSTROPHES]:
             with self.subTest(data):
                 self.assertEqual(sql_of(data), text)
+
+    def test_texts_of_the_second_call(self):
+        """By hand and by the model: only timestamps are others, and some cases have one."""
+        longer = 0
+        for data, text in [*self.cases(), *APOSTROPHES]:
+            with self.subTest(data):
+                due = as_stored(text)
+                self.assertEqual(sql_of(data, GEOPACKAGE), due)
+                self.assertEqual(model.text(SETTINGS, checker.tree_of(tree_of(data).encode()), GEOPACKAGE), due)
+                longer += due != text
+        self.assertGreater(longer, 5)
+
+    def test_texts_that_look_like_timestamps(self):
+        for text in ('2024-01-01T00:00:00', '2024-01-01T00:00:00Z', '2024-01-01T00:00:00.000Z'):
+            for writing in (RUST, GEOPACKAGE):
+                self.assertEqual(sql_of(op('=', A, text), writing), "a = '%s'" % text)
 
     def test_every_operator_is_there(self):
         used = set()

@@ -1,7 +1,9 @@
 """Tests of the warnings: each of the table is given at its place, stands in docs/DIFFERENCES.md, and is run: SQLite picks other rows than CQL2 does, or
 cannot run the text; the way out has no warning and picks the right rows. Filters that are fine have none."""
+import itertools
 import json
 import os
+import re
 import sqlite3
 import subprocess
 import tempfile
@@ -9,14 +11,17 @@ import unittest
 
 from demo import log
 
-from . import differences, geopackage, proved, spatialite
+from . import columns, differences, geopackage, proved, records, spatialite
+from .reading import read_filter
 from .test_errors import run
 from .test_geopackage import COLLATIONS, PICKS
-from .test_texts import A, B, C, D, DAY, interval, op, point
+from .test_texts import A, B, C, D, DAY, SETTINGS, interval, op, point, tree_of
+from .writing import ARGUMENTS
 
 TEXT, INTEGER, DATE = 'TEXT', 'INTEGER', 'DATE'
 F = {'property': 'fid'}
 UTF_16 = 'a GeoPackage whose texts are UTF-16'
+FORM = 'a written instant beside instants of another form'
 
 
 def casei(x):
@@ -29,6 +34,10 @@ def accenti(x):
 
 def stamp(text):
     return {'timestamp': text}
+
+
+NOON = stamp('2026-03-01T12:00:00Z')
+SHORT, LONG = '2026-03-01T12:00:00', '2026-03-01T12:00:00.000Z'
 
 
 def there(*columns):
@@ -50,14 +59,14 @@ CASES = [
     ('NOT TAfter(a, [b, c]), b NULL', op('isNull', op('t_disjoint', A, interval(B, C))), ['$.args[0]'], [TEXT] * 3, [['2', None, None]], [1], [], None),
     ('an interval whose end lies before its start', op('t_disjoint', A, interval('2024-12-01', '2024-01-01')), ['$.args[1].interval'], [TEXT],
      [['2024-06-01']], [], [1], op('t_disjoint', A, interval('2024-01-01', '2024-12-01'))),
-    ('a written instant against a column declared DATETIME', op('=', A, stamp('2026-03-01T12:00:00Z')), ['$.args[1]'], ['DATETIME'],
-     [['2026-03-01T12:00:00.000Z']], [1], [], op('and', op('>=', A, stamp('2026-03-01T12:00:00Z')), op('<', A, stamp('2026-03-01T12:00:01Z')))),
-    ('a written instant against a column declared DATETIME', op('t_after', A, {'date': '2026-03-01'}), ['$.args[1]'], ['DATETIME'],
-     [['2026-03-01T00:00:00.000Z']], [], [1], op('>=', A, stamp('2026-03-01T00:00:01Z'))),
+    (FORM, op('t_after', A, {'date': '2026-03-01'}), ['$.args[1]'], ['DATETIME'], [['2026-03-01T00:00:00.000Z']], [], [1],
+     op('t_after', A, stamp('2026-03-01T00:00:00Z'))),
+    (FORM, op('in', A, [NOON]), ['$.args[1][0]'], ['DATETIME'], [['2026-03-01T12:00:00Z'], ['2026-03-01T12:00:00.000Z']], [1, 2], [2], None),
     ('a date beside a timestamp', op('t_equals', A, stamp('2026-03-01T00:00:00Z')), ['$.args[1]'], [DATE], [['2026-03-01']], [1], [],
      op('t_equals', A, {'date': '2026-03-01'})),
     ('a date beside a timestamp', op('t_during', interval(A, B), interval('2026-03-01', '2026-03-02T12:00:00Z')), ['$.args[1].interval[1]'], [TEXT] * 2,
-     [['2026-03-01T00:00:00', '2026-03-02T11:00:00']], [], [1], op('t_during', interval(A, B), interval('2026-03-01T00:00:00Z', '2026-03-02T12:00:00Z'))),
+     [['2026-03-01T00:00:00.000Z', '2026-03-02T11:00:00.000Z']], [], [1],
+     op('t_during', interval(A, B), interval('2026-03-01T00:00:00Z', '2026-03-02T12:00:00Z'))),
     ("a column declared DATE, `entry < '9999'`", op('<', A, '9999'), ['$.args[1]'], [DATE], [['2026-03-01']], [1], [], op('<', A, {'date': '9999-12-31'})),
     ('a column of another declared type', op('t_after', A, DAY), ['$.args[0]'], [INTEGER], [[20260301]], None, [], None),
     ('a column of another declared type', op('<', A, 10), ['$.args[0]'], [TEXT], [['9']], None, [], None),
@@ -98,6 +107,26 @@ CASES = [
     ('IN(a, [b, 2]) (sheet F)', op('in', A, [B, 2]), ['$.args[1][0]'], [INTEGER] * 2, [[1, 1]], [1], 'row value misused', op('or', op('=', A, B), op('=', A, 2))),
 ]
 
+# Columns a that hold noon in one form or several, as declared and with their values: by each writing how a value lies to its own instant as written,
+# and what the warning says of the way out.
+RIGHT = {'equal': None, 'above': (('>=', '<', 't_before'), ('<=', '>', 't_after')), 'below': (('<=', '>', 't_after'), ('>=', '<', 't_before')),
+         'above or below': ((), ())}    # the operators (the column first, then the written instant first) that are right on every row and have no warning
+ONE_FORM, TO_RUST, TO_GEOPACKAGE = 'have the column hold them in one form', 'take --writing rust', 'take --writing geopackage'
+FORMS = [
+    ('DATETIME', [LONG], {'rust': ('above', TO_GEOPACKAGE), 'geopackage': ('equal', '')}),
+    ('TEXT', [LONG], {'rust': ('above', TO_GEOPACKAGE), 'geopackage': ('equal', '')}),
+    ('DATE', [LONG], {'rust': ('above', TO_GEOPACKAGE), 'geopackage': ('equal', '')}),
+    ('DATETIME', [SHORT], {'rust': ('equal', ''), 'geopackage': ('below', TO_RUST)}),
+    ('', [SHORT], {'rust': ('equal', ''), 'geopackage': ('below', TO_RUST)}),
+    ('TEXT', [SHORT, LONG], {'rust': ('above', ONE_FORM), 'geopackage': ('below', ONE_FORM)}),
+    ('TEXT', ['2026-03-01T12:00:00Z'], {'rust': ('above', ONE_FORM), 'geopackage': ('above or below', ONE_FORM)}),
+    ('TEXT', ['2026-03-01T12:00:00+00:00'], {'rust': ('above or below', ONE_FORM), 'geopackage': ('above or below', ONE_FORM)}),
+    ('TEXT', ['2026-03-01T12:00Z', LONG], {'rust': ('above or below', ONE_FORM), 'geopackage': ('above or below', ONE_FORM)}),
+    ('TEXT', ['2026-03-01 12:00:00'], {'rust': ('above or below', ONE_FORM), 'geopackage': ('above or below', ONE_FORM)}),
+    ('TEXT', ['2026-03-01T12:00'], {'rust': ('below', ONE_FORM), 'geopackage': ('below', ONE_FORM)}),
+]
+AROUND = ['2026-03-01T11:59:59', '2026-03-01T12:00:01']    # in the forms of each column too
+
 FINE = [    # a filter, and the columns as declared; no warning with them, nor without a table
     (op('=', A, 1), [INTEGER]), (op('=', A, 'x'), [TEXT]), (op('<', A, DAY), [DATE]), (op('and', op('=', A, 'x'), op('isNull', B)), [TEXT, DATE]),
     (op('t_intersects', A, interval('..', '2024-01-01')), [DATE]), (op('t_equals', interval(A, '..'), interval(B, '..')), [DATE] * 2),
@@ -116,6 +145,12 @@ FINE = [    # a filter, and the columns as declared; no warning with them, nor w
     (op('or', op('=', A, 'Flügel'), op('<', A, "''")), [TEXT]), (op('like', A, "%ü'%"), [TEXT]), (op('like', A, '🔩_'), [TEXT]),
     (op('=', casei(A), casei('FLÜGEL')), [TEXT]), (op('=', casei(A), 'flügel'), [TEXT]), (op('in', A, ["'", 'é']), [TEXT]),
 ]
+
+
+def seconds(value):
+    """An instant without what stands behind its seconds."""
+    found = re.match('[^Z.+]*', value)[0].replace(' ', 'T')
+    return found + ':00' if len(found) == 16 else found
 
 
 class Warnings(unittest.TestCase):
@@ -182,6 +217,27 @@ class Warnings(unittest.TestCase):
         for case in CASES:
             with self.subTest(case[1]):
                 self.check(*case)
+
+    def test_both_writings(self):
+        """A timestamp beside instants of each form: where SQLite's rows are not those of time there is a warning, and it has the right words."""
+        order = dict(zip(('=', '<>', '<', '>', '<=', '>=', 't_after', 't_before'),
+                         (str.__eq__, str.__ne__, str.__lt__, str.__gt__, str.__le__, str.__ge__, str.__gt__, str.__lt__)))
+        filters = [(name, first, op(name, *[A, NOON][::-1 if first else 1])) for name in order for first in (0, 1)]
+        trees = [(records.settings(*SETTINGS), tree_of(data).encode()) for *_, data in filters]
+        for (kind, forms, by_writing), word in itertools.product(FORMS, ARGUMENTS):
+            values = [*forms, *(x + form[19:] for x in AROUND for form in forms if len(form) > 18)]
+            path, (lies, way) = self.package([kind], [[value] for value in values]), by_writing[word]
+            where = columns.Table(geopackage.GeoPackage(path, COLLATIONS), 't', False, 4326, word)
+            for (name, first, data), text in zip(filters, proved.run('lower', trees, ARGUMENTS[word])):
+                lines = [differences.line(one) for one in differences.find(read_filter(json.dumps(data).encode()), where)]
+                due = [k for k, value in enumerate(values, 1) if order[name](*[seconds(value), SHORT][::-1 if first else 1])]
+                right = RIGHT[lies] and RIGHT[lies][first]
+                silent = right is None or name in right
+                says = 'not equal to it but %s it; %s' % (lies, way) + ('; %s and %s are right as they are' % right[:2] if right and way != ONE_FORM else '')
+                self.assertEqual(silent, not lines, (word, text, values, lines))
+                self.assertTrue(self.picked(path, text) == due or not silent, (word, text, values))
+                self.assertTrue(silent or len(lines) == 1 and says in lines[0], lines)
+            where.package.connection.close()
 
     def test_a_file_of_utf_16(self):
         """Its texts are ordered by the bytes that it holds, and equal as ever."""

@@ -1,4 +1,5 @@
-"""A log of stays on a bench as a GeoPackage: which object came to which tray, when it came, when it left and where it lay, as the camera saw it."""
+"""A log of stays on a bench as a GeoPackage: which object came to which tray, when it came, when it left, where it lay and when the camera first saw
+it."""
 import datetime
 import os
 import random
@@ -26,7 +27,8 @@ CREATE TABLE gpkg_geometry_columns (
   CONSTRAINT fk_gc_tn FOREIGN KEY (table_name) REFERENCES gpkg_contents (table_name),
   CONSTRAINT fk_gc_srs FOREIGN KEY (srs_id) REFERENCES gpkg_spatial_ref_sys (srs_id));
 CREATE TABLE stays (
-  fid INTEGER PRIMARY KEY AUTOINCREMENT NOT NULL, label TEXT(16) NOT NULL, tray TEXT(16), entry DATE, exit DATE, place POINT);
+  fid INTEGER PRIMARY KEY AUTOINCREMENT NOT NULL, label TEXT(16) NOT NULL, tray TEXT(16), entry DATE, exit DATE, place POINT,
+  seen DATETIME);
 '''
 SYSTEMS = [('Undefined Cartesian SRS', -1, 'NONE', -1, UNDEFINED, 'undefined Cartesian coordinate reference system'),
            ('Undefined geographic SRS', 0, 'NONE', 0, UNDEFINED, 'undefined geographic coordinate reference system'),
@@ -43,9 +45,18 @@ def point(x, y):
     return b'GP\0\1' + struct.pack('<i', BENCH) + struct.pack('<BIdd', 1, 1, x, y)
 
 
+def clock(pick):
+    """A time of day to the millisecond, in two shifts from 6 to 22. At 14:00, when they change, the camera starts anew, and sees at that instant what came
+    meanwhile."""
+    if pick.random() < 0.2:
+        return '14:00:00.000'
+    hour, minute, second = pick.randrange(6, 22), pick.randrange(60), pick.randrange(60)
+    return '%02d:%02d:%02d.%03d' % (hour, minute, second, pick.choice((0, 1, 999, pick.randrange(1000))))
+
+
 def stays(count, seed):
-    """The rows of a log, the same each time. A stay that is still open has no exit; one that began unseen has no entry."""
-    pick = random.Random(seed)
+    """The rows of a log, the same each time. A stay that is still open has no exit; one that began unseen has no entry, and was not seen."""
+    pick, times = random.Random(seed), random.Random('%d, times of day' % seed)
     first = datetime.date(2026, 3, 1)
     rows = []
     for _ in range(count):
@@ -54,7 +65,8 @@ def stays(count, seed):
         unseen, still_open = pick.random() < 0.04, pick.random() < 0.12
         rows.append((pick.choice(LABELS), pick.choice(('left', 'middle', 'right', None)),
                      None if unseen else came.isoformat(), None if still_open else left.isoformat(),
-                     point(round(pick.uniform(0, WIDTH), 2), round(pick.uniform(0, DEPTH), 2))))
+                     point(round(pick.uniform(0, WIDTH), 2), round(pick.uniform(0, DEPTH), 2)),
+                     None if unseen else '%sT%sZ' % (came.isoformat(), clock(times))))
     return rows
 
 
@@ -81,5 +93,5 @@ def write(path, count, seed):
                            'VALUES (?, ?, ?, ?, ?, ?, ?, ?, ?)',
                            ('stays', 'features', 'stays', 'Stays of objects on the bench', 0, 0, WIDTH, DEPTH, BENCH))
         connection.execute('INSERT INTO gpkg_geometry_columns VALUES (?, ?, ?, ?, 0, 0)', ('stays', 'place', 'POINT', BENCH))
-        connection.executemany('INSERT INTO stays (label, tray, entry, exit, place) VALUES (?, ?, ?, ?, ?)', stays(count, seed))
+        connection.executemany('INSERT INTO stays (label, tray, entry, exit, place, seen) VALUES (?, ?, ?, ?, ?, ?)', stays(count, seed))
     connection.close()

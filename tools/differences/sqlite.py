@@ -3,21 +3,23 @@
 
 usage: python3 tools/differences/sqlite.py
 
-Exits with 1 if an answer is not the one that stands beside the text here, if fewer than 50 texts were run, if other numbers of keywords are
-read bare, or if SQLite counts another day of the years 1 to 9999 wrong."""
+Exits with 1 if an answer is not the one that stands beside the text here, or reading has another truth of one about instants, if fewer than 144 texts
+were run, if other numbers of keywords are read bare, or if SQLite counts another day of the years 1 to 9999 wrong."""
 import collections
 import datetime
+import itertools
 import os
 import sqlite3
 import sys
 
 sys.path.insert(0, os.path.join(os.path.dirname(os.path.abspath(__file__)), '..'))
 from answers import counts
-from model.lowering import text as text_of
+from model import calls
+from model.lowering import GEOPACKAGE, RUST, text as text_of
 from model.names import KEYWORDS
-from model.records import SHEET_SETTINGS
+from model.records import SHEET_SETTINGS, row as row_of
 
-TEXTS = 50
+TEXTS = 144
 ANDS_TAKEN = 28
 BARE = {'syntax error': 59, 1: 84, 0: 3, None: 1}    # of SQLite's 147 keywords
 CLOCK = ['CURRENT_DATE', 'CURRENT_TIME', 'CURRENT_TIMESTAMP']
@@ -92,7 +94,18 @@ CASES = [    # a text, a row, the declared type of its columns, and SQLite's ans
     ("date('0300-03-01', '+0 days')", {}, "", '0300-02-29'),
     ("date('0300-02-28', '+2 days')", {}, "", '0300-03-02'),
     ("date('2023-02-31')", {}, "", '2023-02-31'),
+    ("typeof(a)", {"a": "2024-02-29T12:00:00.000Z"}, "DATETIME", 'text'),
+    ("typeof(a)", {"a": "2024-02-29"}, "DATETIME", 'text'),
+    ("typeof(a)", {"a": "2024"}, "DATETIME", 'integer'),
+    ("a < '0001-01-01T00:00:00.000Z'", {"a": "2024"}, "DATETIME", 1),
 ]
+NOON, MIDNIGHT, DAY = ('timestamp', 2024, 2, 29, 12, 0, 0), ('timestamp', 2024, 2, 29, 0, 0, 0), ('date', 2024, 2, 29)
+INSTANTS = [    # a value, a written instant, and by each writing how the value lies to it: -1 below, 0 equal, 1 above
+    ('2024-02-29T12:00:00.000Z', NOON, 1, 0), ('2024-02-29T12:00:00.001Z', NOON, 1, 1), ('2024-02-29T12:00:00.999Z', NOON, 1, 1),
+    ('2024-02-29T11:59:59.999Z', NOON, -1, -1), ('2024-02-29T12:00:01.000Z', NOON, 1, 1), ('2024-02-29T12:00:00', NOON, 0, -1),
+    ('2024-02-29T12:00:00Z', NOON, 1, 1), ('2024-02-29T12:00:00.000000Z', NOON, 1, -1), ('2024-02-29 12:00:00', NOON, -1, -1),
+    ('2024-02-29 23:59:59', NOON, -1, -1), ('2024-02-29', MIDNIGHT, -1, -1), ('2024-02-29T00:00:00.000Z', MIDNIGHT, 1, 0),
+    ('2024-02-29T00:00:00', DAY, 1, 1), ('2024-02-29T00:00:00.000Z', DAY, 1, 1), ('2024-02-29', DAY, 0, 0)]
 
 
 def ands_over_disjoint(count):
@@ -102,6 +115,22 @@ def ands_over_disjoint(count):
     for _ in range(count):
         tree = ('dyadic', 'And', ('bool', 1), tree)
     return text_of(SHEET_SETTINGS, tree)
+
+
+def instants():
+    """Each value against each writing's text on a DATETIME and a TEXT column, and by the model's reading: how many texts were run, how many differ."""
+    run = differ = 0
+    for (value, tree, *lies), operator in itertools.product(INSTANTS, ('Lt', 'Eq', 'Gt')):
+        for writing, due in zip((RUST, GEOPACKAGE), lies):
+            text = text_of(SHEET_SETTINGS, ('dyadic', operator, ('id', 'a'), tree), writing)
+            right = due == ('Lt', 'Eq', 'Gt').index(operator) - 1
+            said = [bool(ask(text, {'a': value}, kind)) for kind in ('DATETIME', 'TEXT')]
+            said.append(calls.read(text.encode(), row_of([(b'a', value.encode())])) == 'true')
+            run, differ = run + 1, differ + (said != [right] * 3)
+            if said != [right] * 3:
+                print('differs: %s of %s: %s, and not %s' % (text, value, said, right))
+    print('instants: %d texts on DATETIME and TEXT columns, %d differ' % (run, differ))
+    return run, differ
 
 
 def of_keyword(word):
@@ -164,7 +193,7 @@ def main():
     keywords()
     orders()
     days()
-    row, differ = {'a': '1', 'b': '2', 'c': '3', 'd': '4'}, 0
+    row, (run, differ) = {'a': '1', 'b': '2', 'c': '3', 'd': '4'}, instants()
     deep = [(ands_over_disjoint(count), row, 'TEXT') for count in (ANDS_TAKEN, ANDS_TAKEN + 1)]
     cases = CASES + [(*deep[0], 1), (*deep[1], 'error: parser stack overflow')]
     for expression, row, kind, due in cases:
@@ -173,8 +202,8 @@ def main():
         if said != due:
             differ += 1
             print('differs: %r, and not %r' % (said, due))
-    print('%d texts, %d differ' % (len(cases), differ))
-    counts.stop_if_wrong(differ, ('texts', len(cases), TEXTS))
+    print('%d texts, %d differ' % (len(cases) + run, differ))
+    counts.stop_if_wrong(differ, ('texts', len(cases) + run, TEXTS))
 
 
 if __name__ == '__main__':

@@ -32,6 +32,10 @@ class Maker:
         year, month = self.r.choice([1, 4, 1900, 2000, 2021, 2024, 9999]), self.r.randint(1, 12)
         return year, month, self.r.randint(1, calendar.monthrange(year, month)[1])
 
+    def stamp(self):
+        r = self.r
+        return ('timestamp',) + self.day() + (r.choice([0, 9, 23]), r.choice([0, 7, 59]), r.choice([0, 30, 59]))
+
     def leaf(self):
         r, k = self.r, self.r.randrange(11)
         if k < 2:
@@ -47,7 +51,7 @@ class Maker:
         if k == 6:
             return ('date',) + self.day()
         if k == 7:
-            return ('timestamp',) + self.day() + (r.choice([0, 9, 23]), r.choice([0, 7, 59]), r.choice([0, 30, 59]))
+            return self.stamp()
         if k == 8:
             return ('spatial', r.choice([0, 4326, 2 ** 32 - 1]), r.choice(['POINT (1 2)', 'LINESTRING(0 0,1.5 -2)', 'a']))
         return ('id', self.name())
@@ -98,9 +102,9 @@ class Maker:
         return Settings(self.r.randrange(PRECISION + 1), self.name(), self.name(), self.name())
 
 
-def accepted(count, seed, some_text=plain_text):
+def accepted(count, seed, some_text=plain_text, kind=Maker):
     """Settings and tree, `count` times but for those past a limit: each operator at the root in turn, then as many of any kind, and so on."""
-    maker = Maker(random.Random(seed), some_text)
+    maker = kind(random.Random(seed), some_text)
     roots = [('monadic', name) for name in MONADIC] + [('dyadic', name) for name in DYADIC]
     for k in range(count):
         turn, depth = k % (2 * len(roots)), maker.r.choice([1, 1, 2, 3, 4, 6])

@@ -6,7 +6,8 @@ TRUTH = {'true': 1, 'false': 0, 'unknown': 2}
 
 
 def to_sql(answer, room):
-    """With a buffer of so many bytes, where with one of any length the text as bytes or the refusal's number is `answer`."""
+    """Of either call that writes: with a buffer of so many bytes, where with one of any length the text as bytes or the refusal's number is
+    `answer`."""
     answer = calls.fitted(answer, room)
     return -answer if isinstance(answer, int) else len(answer)
 

@@ -1,6 +1,8 @@
-"""Both calls as a caller hears them (document 01, "What a caller hears"): a text, a truth, or the number of the first refusal in its order."""
+"""The calls as a caller hears them (document 01, "What a caller hears"; document 02, slip 4, for the second that writes): a text, a truth, or the
+number of the first refusal in its order."""
 from . import checker, lowering, reader
 from .limits import PLANNER, ROW, SQL
+from .lowering import GEOPACKAGE, RUST
 from .refusals import BUFFER, READING_SIZE, TEXT_SIZE, TREE_SIZE, Refused, require
 
 TRUTHS = {True: 'true', False: 'false', None: 'unknown'}
@@ -13,10 +15,10 @@ def accepted(settings, tree, limit=PLANNER):
     return found, checker.tree_of(tree, limit)
 
 
-def lowered(settings, tree, limit=PLANNER):
+def lowered(settings, tree, writing=RUST, limit=PLANNER):
     """The text, or refusal 1 to 8."""
     found, root = accepted(settings, tree, limit)
-    text = lowering.Writer(found, limit.text + 1).text(root).encode()
+    text = lowering.Writer(found, limit.text + 1, writing).text(root).encode()
     require(len(text) <= limit.text, TEXT_SIZE)
     return text
 
@@ -40,9 +42,14 @@ def fitted(answer, room):
     return BUFFER if isinstance(answer, bytes) and len(answer) > room else answer
 
 
-def to_sql(settings, tree, room):
+def to_sql(settings, tree, room, writing=RUST):
     """The text as bytes, or the number of a refusal of 1 to 9, for a buffer of `room` bytes."""
-    return fitted(heard(lowered, settings, tree), room)
+    return fitted(heard(lowered, settings, tree, writing), room)
+
+
+def to_geopackage_sql(settings, tree, room):
+    """The same of the second call, which writes timestamps as a GeoPackage stores them."""
+    return to_sql(settings, tree, room, GEOPACKAGE)
 
 
 def reading(text, row):

@@ -1,5 +1,5 @@
 """The SQL text of an accepted tree: `to_sql_impl`, the fifteen `t_…_sql`, `reduce_precision` and `qstr_to_sql` of src/ds/gpkg.rs as document 01
-has them ("Atoms and the four ends", "The lowering")."""
+has them ("Atoms and the four ends", "The lowering"); one lowering for both writings of a timestamp (document 02, slip 4)."""
 import sys
 
 from . import operators
@@ -7,6 +7,8 @@ from .operators import SPELLING
 from .records import Settings
 from .strings import quoted
 
+RUST, GEOPACKAGE = 'rust', 'geopackage'    # the writings: the Rust's text; timestamps as a GeoPackage stores them
+AFTER_SECONDS = {RUST: '', GEOPACKAGE: '.000Z'}
 LITERALS = 'bool', 'num', 'str', 'date', 'timestamp', 'spatial'
 OPEN_END = quoted('-2021-01-01')
 COMPARED = {    # of two intervals: the ends' comparisons, all of which hold
@@ -16,8 +18,8 @@ COMPARED = {    # of two intervals: the ends' comparisons, all of which hold
     'TStartedBy': ((0, '=', 2), (1, '>', 3)), 'TStarts': ((0, '=', 2), (1, '<', 3))}
 
 
-def text(settings, tree):
-    return Writer(settings).text(tree)
+def text(settings, tree, writing=RUST):
+    return Writer(settings, writing=writing).text(tree)
 
 
 def is_literal(tree):
@@ -36,8 +38,8 @@ class Writer:
     """One method for each kind. Of a text longer than `most` characters, each a byte or more, no more than that is kept, at each node: ends that are
     written twice at each of 30 levels would fill the memory."""
 
-    def __init__(self, settings, most=sys.maxsize):
-        self.settings, self.most = Settings(*settings), most
+    def __init__(self, settings, most=sys.maxsize, writing=RUST):
+        self.settings, self.most, self.writing = Settings(*settings), most, writing
 
     def text(self, tree):
         return getattr(self, tree[0])(*tree[1:])[:self.most]
@@ -65,7 +67,7 @@ class Writer:
         return quoted('%04d-%02d-%02d' % fields)
 
     def timestamp(self, *fields):
-        return quoted('%04d-%02d-%02dT%02d:%02d:%02d' % fields)
+        return quoted('%04d-%02d-%02dT%02d:%02d:%02d' % fields + AFTER_SECONDS[self.writing])
 
     def spatial(self, srid, value):
         return "ST_GeomFromText('%s', %d)" % (value, srid)

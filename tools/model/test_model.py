@@ -26,6 +26,22 @@ TEXTS = [    # sheets A to M
     (('timestamp', 2024, 2, 29, 1, 2, 3), "'2024-02-29T01:02:03'"), (('dyadic', 'TDisjoint', A, B), 'a != b'),
     (('dyadic', 'AEquals', ('array', []), ('array', [])), '() = ()'), (('num', 0, 9), '0'), (('str', 0, "O'Ring"), "'O''Ring'"),
     (('str', 0, "'"), "''''"), (('str', 0, ''), "''"), (('str', 3, "''"), "'''''' COLLATE NCA"), (('str', 1, 'Flügel'), "'Flügel' COLLATE NC")]
+STAMP, DAY = ('timestamp', 2024, 1, 1, 0, 0, 0), ('date', 2024, 1, 1)
+WRITTEN, LONGER = "'2024-01-01T00:00:00'", "'2024-01-01T00:00:00.000Z'"
+LIKE_STAMPS = '2024-01-01T00:00:00', '2024-01-01T00:00:00.000Z', "'2024-01-01T00:00:00'"
+STAMPS = [    # timestamps in every place of a tree; each % is one as it is written
+    (STAMP, '%'), (('dyadic', 'Eq', A, STAMP), 'a = %'), (('dyadic', 'IsInList', A, ('array', [STAMP, STAMP])), 'a IN (%, %)'),
+    (('dyadic', 'IsInList', A, ('array', [B, STAMP])), 'a IN ((b, %))'), (('dyadic', 'IsBetween', STAMP, ('array', [STAMP, STAMP])), '% BETWEEN % AND %'),
+    (('dyadic', 'IsLike', STAMP, STAMP), '% LIKE (%)'), (('monadic', 'Neg', STAMP), 'NOT %'), (('monadic', 'IsNull', STAMP), '% IS NULL'),
+    (('monadic', 'CaseI', STAMP), '% COLLATE NC'), (('function', 'f', [A, STAMP, ('array', [STAMP])]), 'f(a, %, (%))'),
+    (('dyadic', 'AEquals', ('array', [STAMP]), A), '(%) = a'), (('dyadic', 'SWithin', G, STAMP), 'ST_Within(ST_ReducePrecision(g, 1E-7), %)'),
+    (('dyadic', 'TAfter', A, STAMP), 'a > %'), (('dyadic', 'TDisjoint', STAMP, STAMP), '% != %'),
+    (('dyadic', 'TAfter', ('interval', STAMP, B), ('interval', C, STAMP)), '"b" IS NOT NULL AND "c" NOT NULL AND (% > %)'),
+    (('dyadic', 'TIntersects', A, ('interval', STAMP, STAMP)), 'NOT((a < %) OR (a > %))'),
+    (('dyadic', 'TEquals', STAMP, ('interval', OPEN, STAMP)), "(% = '-2021-01-01') AND (% = %)"),
+    (('dyadic', 'TDuring', ('interval', ('function', 'f', [STAMP]), DAY), ('interval', NULL, STAMP)), "(f(%) > NULL) AND ('2024-01-01' < %)"),
+    (DAY, "'2024-01-01'"), (OPEN, "'-2021-01-01'"), (X, "'x'"), (('spatial', 4326, 'POINT (1 2)'), "ST_GeomFromText('POINT (1 2)', 4326)"),
+    *((('str', 0, text), strings.quoted(text)) for text in LIKE_STAMPS)]
 TABLE_3_7 = [    # of the Unicode standard: well-formed UTF-8 byte sequences
     rb'[\x00-\x7f]', rb'[\xc2-\xdf][\x80-\xbf]', rb'\xe0[\xa0-\xbf][\x80-\xbf]', rb'[\xe1-\xec][\x80-\xbf]{2}', rb'\xed[\x80-\x9f][\x80-\xbf]',
     rb'[\xee-\xef][\x80-\xbf]{2}', rb'\xf0[\x90-\xbf][\x80-\xbf]{2}', rb'[\xf1-\xf3][\x80-\xbf]{3}', rb'\xf4[\x80-\x8f][\x80-\xbf]{2}']
@@ -59,6 +75,18 @@ class Lowering(unittest.TestCase):
             self.assertEqual(calls.to_sql(SETTINGS, encode(tree), len(written)), written)
             self.assertEqual(calls.to_sql(SETTINGS, encode(tree), len(written) - 1), 9)
 
+    def test_both_writings(self):
+        """They differ in what stands after a timestamp's seconds, and in nothing else."""
+        for tree, form in STAMPS:
+            for call, writing, stamp in ((calls.to_sql, lowering.RUST, WRITTEN), (calls.to_geopackage_sql, lowering.GEOPACKAGE, LONGER)):
+                written = form.replace('%', stamp)
+                self.assertEqual(lowering.text(SHEET_SETTINGS, tree, writing), written)
+                self.assertEqual(call(SETTINGS, encode(tree), len(written)), written.encode())
+                self.assertEqual(call(SETTINGS, encode(tree), len(written) - 1), 9)
+        for tree, text in TEXTS:
+            if tree[0] != 'timestamp':
+                self.assertEqual(calls.to_geopackage_sql(SETTINGS, encode(tree), 200), text.encode())
+
     def test_bytes(self):
         self.assertEqual(SETTINGS.hex(), '0d0000006400' '07' '024e43' '024e41' '034e4341')
         for tree, written in BYTES:
@@ -71,7 +99,9 @@ class Lowering(unittest.TestCase):
 
 class Refusals(unittest.TestCase):
     def refused(self, number, tree, settings=SETTINGS, room=100000):
-        self.assertEqual(calls.to_sql(settings, tree, room), number)
+        """By both calls that write."""
+        for call in (calls.to_sql, calls.to_geopackage_sql):
+            self.assertEqual(call(settings, tree, room), number)
 
     def test_each(self):
         a, b = ident(b'a'), ident(b'b')
@@ -120,6 +150,15 @@ class Refusals(unittest.TestCase):
         self.refused(9, records.string(b"'" * 4096), room=8193)
         for last, number in (("'" * 4031 + 'x', 9), ("'" * 4032, 8)):
             self.refused(number, encode(('array', [('str', 3, "'" * 4096)] * 7 + [('str', 3, last)])), room=65534)
+
+    def test_limits_count_the_writing(self):
+        """2,340 timestamps and a name: 65,535 and 65,536 bytes in the second writing, 53,835 and 53,836 in the first."""
+        for name, number in (('thirteen_long', 9), ('fourteen_bytes', 8)):
+            tree = encode(('array', [STAMP] * 2340 + [('id', name)]))
+            self.assertEqual(calls.to_geopackage_sql(SETTINGS, tree, 65534), number)
+            self.assertEqual(len(calls.to_sql(SETTINGS, tree, 65534)), 53822 + len(name))
+            self.assertEqual(calls.to_sql(SETTINGS, tree, 53821 + len(name)), 9)
+        self.assertEqual(calls.to_geopackage_sql(SETTINGS, encode(STAMP), len(WRITTEN)), 9)
 
     def test_a_long_text(self):
         tree = A

@@ -3,7 +3,7 @@
 The long parts are there because a program must answer, and go on with the next case, also where a part passes every limit and its own buffer."""
 from answers.stored import framed
 from model.operators import NUMBER
-from model.records import SHEET_SETTINGS, dyadic, ident, interval, null, row, settings_record, string
+from model.records import SHEET_SETTINGS, date, dyadic, ident, interval, null, row, settings_record, string, timestamp
 
 SETTINGS, NULL = settings_record(SHEET_SETTINGS), null()
 A, B, C = map(ident, (b'a', b'b', b'c'))
@@ -22,6 +22,14 @@ LOWER = [
     ((SETTINGS, dyadic(NUMBER['Eq'], A, string(b"O'Ring 5 mm"))), "a = 'O''Ring 5 mm'"),
     ((SETTINGS, string('Flügel'.encode(), 3)), "'Flügel' COLLATE NCA"),
     ((SETTINGS, string('Flügel'.encode('latin-1'))), 'refused 6'),
+]
+STAMP = timestamp(2024, 2, 29, 12, 0, 0)
+STAMPED = [    # with the texts of both writing calls
+    ((SETTINGS, dyadic(NUMBER['TAfter'], A, STAMP)), "a > '2024-02-29T12:00:00'", "a > '2024-02-29T12:00:00.000Z'"),
+    ((SETTINGS, dyadic(NUMBER['TIntersects'], A, interval(STAMP, date(2024, 3, 1)))),
+     "NOT((a < '2024-02-29T12:00:00') OR (a > '2024-03-01'))", "NOT((a < '2024-02-29T12:00:00.000Z') OR (a > '2024-03-01'))"),
+    ((SETTINGS, string(b'2024-02-29T12:00:00')), "'2024-02-29T12:00:00'", "'2024-02-29T12:00:00'"),
+    ((SETTINGS, timestamp(2023, 2, 29, 12, 0, 0)), 'refused 6', 'refused 6'),
 ]
 READ = [
     ((TEXT_J, ROW_N), 'unknown'),

@@ -11,15 +11,16 @@ import unittest
 sys.path.insert(0, os.path.join(os.path.dirname(os.path.abspath(__file__)), '..'))
 from answers.stored import framed
 from cql2 import proved
-from generators import filters, readings, text_cases, texts, trees
+from cql2.writing import ARGUMENTS as WORDS
+from generators import filters, readings, stamps, text_cases, texts, trees
 from model import calls
 from model.limits import PLANNER
 from model.records import encode, row as row_of, settings_record
-from programs.cases import LOWER, NULL, READ, ROW_N, SETTINGS, SHEET_J, TEXT_J
+from programs.cases import LOWER, NULL, READ, ROW_N, SETTINGS, SHEET_J, STAMPED, TEXT_J
 
 
-def answers(name, data):
-    return subprocess.run([proved.path_of(name)], input=data, capture_output=True, check=True, timeout=60).stdout.decode().split('\n')[:-1]
+def answers(name, data, *words):
+    return subprocess.run([proved.path_of(name), *words], input=data, capture_output=True, check=True, timeout=60).stdout.decode().split('\n')[:-1]
 
 
 class Programs(unittest.TestCase):
@@ -30,6 +31,17 @@ class Programs(unittest.TestCase):
     def test_no_input_no_answer(self):
         for name in ('lower', 'read'):
             self.assertEqual(answers(name, b''), [])
+
+    def test_both_writings(self):
+        data = b''.join(framed(*parts) for parts, *_ in STAMPED)
+        self.assertEqual(answers('lower', data), [line for _, line, _ in STAMPED])
+        self.assertEqual(answers('lower', data, 'geopackage'), [line for *_, line in STAMPED])
+        self.assertEqual(answers('lower', b''.join(framed(*parts) for parts, _ in LOWER), 'geopackage'), [line for _, line in LOWER])
+
+    def test_other_arguments(self):
+        for words in (['rust'], ['geopackage', 'geopackage'], [''], ['GEOPACKAGE'], ['--help']):
+            done = subprocess.run([proved.path_of('lower'), *words], input=framed(SETTINGS, NULL), capture_output=True, timeout=60)
+            self.assertEqual((done.stdout, done.stderr), (b'', b'usage: lower [geopackage]\n'), words)
 
     def test_each_cut_of_a_case_is_told(self):
         for name, case in (('lower', framed(SETTINGS, SHEET_J)), ('read', framed(TEXT_J, ROW_N))):
@@ -65,14 +77,15 @@ class Programs(unittest.TestCase):
             self.assertEqual(told, [line for _, line in cases])
 
     def test_lowerings_of_the_model(self):
-        made = [*filters.accepted(2000, 7), *filters.accepted(2000, 8, texts.random_text)]
+        made = [*filters.accepted(2000, 7), *filters.accepted(2000, 8, texts.random_text), *filters.accepted(2000, 9, texts.random_text, stamps.Maker)]
         cases = [(settings_record(settings), encode(tree)) for settings, tree in made] + list(trees.mutations(2000, 7))
-        told = answers('lower', b''.join(framed(*case) for case in cases))
-        for case, line in zip(cases, told):
-            want = calls.to_sql(*case, PLANNER.text)
-            self.assertEqual(line, want.decode() if isinstance(want, bytes) else 'refused %d' % want, case)
-        self.assertEqual(len(told), len(cases))
-        self.assertTrue(set(told) >= {'refused 3', 'refused 5', 'refused 6', 'refused 7'})
+        for writing, words in WORDS.items():
+            told = answers('lower', b''.join(framed(*case) for case in cases), *words)
+            for case, line in zip(cases, told):
+                want = calls.to_sql(*case, PLANNER.text, writing)
+                self.assertEqual(line, want.decode() if isinstance(want, bytes) else 'refused %d' % want, case)
+            self.assertEqual(len(told), len(cases))
+            self.assertTrue(set(told) >= {'refused 3', 'refused 5', 'refused 6', 'refused 7'})
 
     def test_readings_of_the_model(self):
         r = random.Random(7)

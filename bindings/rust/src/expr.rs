@@ -133,7 +133,7 @@ pub struct Date {
     pub day: u8,
 }
 
-/// A day and a time, as civil fields.
+/// A day and a time, as civil fields: for [`to_geopackage_sql`](crate::to_geopackage_sql) those of UTC.
 #[derive(Clone, Copy, Debug, PartialEq, Eq, Hash, PartialOrd, Ord)]
 pub struct Timestamp {
     /// The day.
@@ -186,7 +186,7 @@ impl E {
         E::Date(Date { year, month, day })
     }
 
-    /// A day and a time of day, as civil fields.
+    /// A day and a time of day, as civil fields: for [`to_geopackage_sql`](crate::to_geopackage_sql) those of UTC.
     pub fn timestamp(year: u16, month: u8, day: u8, hour: u8, minute: u8, second: u8) -> E {
         E::Timestamp(Timestamp { date: Date { year, month, day }, hour, minute, second })
     }

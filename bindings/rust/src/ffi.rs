@@ -1,4 +1,4 @@
-//! The two C functions of include/wenduulig.h, and nothing else: the only unsafe code of this crate.
+//! The three C functions of include/wenduulig.h, and nothing else: the only unsafe code of this crate.
 #![allow(unsafe_code)]
 
 extern "C" {
@@ -10,16 +10,38 @@ extern "C" {
         out: *mut u8,
         out_len: usize,
     ) -> i64;
+    fn wenduulig_to_geopackage_sql(
+        settings: *const u8,
+        settings_len: usize,
+        tree: *const u8,
+        tree_len: usize,
+        out: *mut u8,
+        out_len: usize,
+    ) -> i64;
     fn wenduulig_read(text: *const u8, text_len: usize, row: *const u8, row_len: usize) -> i32;
 }
 
+/// A function that writes.
+type Writer = unsafe extern "C" fn(*const u8, usize, *const u8, usize, *mut u8, usize) -> i64;
+
+/// How timestamps are written: which of the two functions is called.
+#[derive(Clone, Copy)]
+pub(crate) enum Writing {
+    /// The text of ogc-cql2.
+    Rust,
+    /// As a GeoPackage stores them.
+    GeoPackage,
+}
+
 /// The text's length, or minus the refusal's number.
-pub(crate) fn to_sql(settings: &[u8], tree: &[u8], out: &mut [u8]) -> i64 {
+pub(crate) fn lower(writing: Writing, settings: &[u8], tree: &[u8], out: &mut [u8]) -> i64 {
+    let writer: Writer = match writing {
+        Writing::Rust => wenduulig_to_sql,
+        Writing::GeoPackage => wenduulig_to_geopackage_sql,
+    };
     // SAFETY: each pointer is a slice's, not null and valid for its length; `out` is lent exclusively, so it overlaps
-    // neither of the others; the function keeps no pointer.
-    unsafe {
-        wenduulig_to_sql(settings.as_ptr(), settings.len(), tree.as_ptr(), tree.len(), out.as_mut_ptr(), out.len())
-    }
+    // neither of the others; neither function keeps a pointer.
+    unsafe { writer(settings.as_ptr(), settings.len(), tree.as_ptr(), tree.len(), out.as_mut_ptr(), out.len()) }
 }
 
 /// 1 true, 0 false, 2 unknown, or minus the refusal's number.

@@ -1,12 +1,17 @@
-//! Lowers CQL2 filters to SQL text for a GeoPackage, byte for byte that of ogc-cql2 but for apostrophes in strings, which
-//! are doubled as SQLite reads them, and reads what a time filter's text says of a row.
+//! Lowers CQL2 filters to SQL text for a GeoPackage, by one call byte for byte that of ogc-cql2 but for apostrophes in
+//! strings, which are doubled as SQLite reads them, by another with timestamps as a GeoPackage stores them; and reads what a
+//! time filter's text says of a row.
 //!
-//! Both jobs are done by functions that are proved to meet document 01's rules on all inputs (crates/capi of this
+//! All three are done by functions that are proved to meet the papers' rules on all inputs (crates/capi of this
 //! repository, linked as `libcapi.a`, for x86-64 Linux); this crate builds their bytes from Rust types and refuses nothing
 //! itself, except where an `f64` fits no [`Num`]. The layout of the bytes stands in include/wenduulig.h.
 //!
+//! Two calls write, and their texts differ in timestamps alone: [`to_sql`] has those of ogc-cql2, `'2024-02-29T12:00:00'`;
+//! [`to_geopackage_sql`] those of a GeoPackage's DATETIME columns, `'2024-02-29T12:00:00.000Z'`, the fields being UTC. Texts
+//! compare byte by byte, so take the call that writes instants as the columns hold them.
+//!
 //! ```
-//! use wenduulig::{read, to_sql, Op, Refusal, Row, Settings, E};
+//! use wenduulig::{read, to_geopackage_sql, to_sql, Op, Refusal, Row, Settings, E};
 //!
 //! // Stays that do not touch the day `a`: TDisjoint(a, [b, c]).
 //! let filter = E::dyadic(Op::TDisjoint, E::id("a"), E::interval(E::id("b"), E::id("c")));
@@ -22,6 +27,14 @@
 //! let label = to_sql(&Settings::default(), &E::dyadic(Op::Eq, E::id("label"), E::str("O'Ring für 5 mm")))?;
 //! assert_eq!(label, "label = 'O''Ring für 5 mm'");
 //! assert_eq!(read(&label, &Row::new().with("label", "O'Ring für 5 mm"))?, Some(true));
+//!
+//! // After noon, of a DATETIME column. The first call's text is shorter, and so lies below noon as the column has it.
+//! let after = E::dyadic(Op::TAfter, E::id("seen"), E::timestamp(2024, 2, 29, 12, 0, 0));
+//! let sql = to_geopackage_sql(&Settings::default(), &after)?;
+//! assert_eq!(sql, "seen > '2024-02-29T12:00:00.000Z'");
+//! let noon = Row::new().with("seen", "2024-02-29T12:00:00.000Z");
+//! assert_eq!(read(&sql, &noon)?, Some(false));
+//! assert_eq!(read(&to_sql(&Settings::default(), &after)?, &noon)?, Some(true)); // though noon is not after noon
 //!
 //! // What breaks a rule is refused, with its number and words.
 //! let refused = to_sql(&Settings::default(), &E::date(1900, 2, 29)).unwrap_err();
@@ -42,6 +55,8 @@ mod row;
 mod settings;
 mod walks;
 
+use ffi::Writing;
+
 pub use expr::{Call, Date, Num, QString, Timestamp, E, G};
 pub use op::Op;
 pub use refusal::Refusal;
@@ -54,7 +69,7 @@ pub const TEXT_MAX: usize = 65_535;
 /// Most texts are shorter; a longer one is lowered anew into [`TEXT_MAX`] bytes.
 const FIRST_TRY: usize = 1024;
 
-/// The SQL text of a filter.
+/// The SQL text of a filter, byte for byte that of ogc-cql2 but for doubled apostrophes.
 ///
 /// # Errors
 /// The first refusal of 1 to 8 that document 01's order gives.
@@ -67,15 +82,7 @@ pub fn to_sql(settings: &Settings, filter: &E) -> Result<String, Refusal> {
 /// # Errors
 /// The first refusal of 1 to 8 that document 01's order gives. Any bytes may be handed in.
 pub fn to_sql_bytes(settings: &[u8], tree: &[u8]) -> Result<String, Refusal> {
-    let mut first = [0; FIRST_TRY];
-    match to_sql_into(settings, tree, &mut first) {
-        Err(Refusal::BufferTooShort) => {
-            let mut out = vec![0; TEXT_MAX];
-            let n = to_sql_into(settings, tree, &mut out)?;
-            Ok(string(&out[..n]))
-        }
-        answer => Ok(string(&first[..answer?])),
-    }
+    lower(Writing::Rust, settings, tree)
 }
 
 /// Lowers into a buffer of the caller's and answers the text's length. Bytes past the text, and after a refusal all bytes,
@@ -84,7 +91,48 @@ pub fn to_sql_bytes(settings: &[u8], tree: &[u8]) -> Result<String, Refusal> {
 /// # Errors
 /// The first refusal of 1 to 9 that document 01's order gives.
 pub fn to_sql_into(settings: &[u8], tree: &[u8], out: &mut [u8]) -> Result<usize, Refusal> {
-    let answer = ffi::to_sql(settings, tree, out);
+    lower_into(Writing::Rust, settings, tree, out)
+}
+
+/// The SQL text of a filter with timestamps as a GeoPackage stores them in DATETIME columns: `.000Z` stands after their
+/// seconds, the fields being UTC. All else is as [`to_sql`] writes it.
+///
+/// # Errors
+/// Those of [`to_sql`]; 8 counts the longer text.
+pub fn to_geopackage_sql(settings: &Settings, filter: &E) -> Result<String, Refusal> {
+    to_geopackage_sql_bytes(&settings.encode(), &filter.encode())
+}
+
+/// The same of records, as [`to_sql_bytes`].
+///
+/// # Errors
+/// Those of [`to_sql_bytes`]; 8 counts the longer text.
+pub fn to_geopackage_sql_bytes(settings: &[u8], tree: &[u8]) -> Result<String, Refusal> {
+    lower(Writing::GeoPackage, settings, tree)
+}
+
+/// The same into a buffer of the caller's, as [`to_sql_into`].
+///
+/// # Errors
+/// Those of [`to_sql_into`]; 8 and 9 count the longer text.
+pub fn to_geopackage_sql_into(settings: &[u8], tree: &[u8], out: &mut [u8]) -> Result<usize, Refusal> {
+    lower_into(Writing::GeoPackage, settings, tree, out)
+}
+
+fn lower(writing: Writing, settings: &[u8], tree: &[u8]) -> Result<String, Refusal> {
+    let mut first = [0; FIRST_TRY];
+    match lower_into(writing, settings, tree, &mut first) {
+        Err(Refusal::BufferTooShort) => {
+            let mut out = vec![0; TEXT_MAX];
+            let n = lower_into(writing, settings, tree, &mut out)?;
+            Ok(string(&out[..n]))
+        }
+        answer => Ok(string(&first[..answer?])),
+    }
+}
+
+fn lower_into(writing: Writing, settings: &[u8], tree: &[u8], out: &mut [u8]) -> Result<usize, Refusal> {
+    let answer = ffi::lower(writing, settings, tree, out);
     usize::try_from(answer).map_err(|_| refusal(answer))
 }
 

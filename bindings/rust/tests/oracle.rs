@@ -10,7 +10,7 @@ use std::fs;
 use std::io::Write;
 use std::path::{Path, PathBuf};
 use std::process::Command;
-use wenduulig::{to_sql, Op, Settings, E};
+use wenduulig::{to_geopackage_sql, to_sql, Op, Settings, E};
 
 /// The oracle's program. A test that needs it and has none fails: without it these tests are not to be run.
 fn oracle() -> PathBuf {
@@ -22,8 +22,10 @@ fn oracle() -> PathBuf {
 
 /// What the oracle answers: a text, or a letter for a panic (P), an error (E) or bytes that it cannot decode (D).
 fn answers(program: &Path, cases: &[(Settings, E)]) -> Vec<(u8, String)> {
+    // The tests of this file run at once, each on a thread of its name.
+    let name = std::thread::current().name().unwrap_or("main").to_owned();
     let folder = Path::new(env!("CARGO_TARGET_TMPDIR"));
-    let (asked, told) = (folder.join("cases.bin"), folder.join("answers.bin"));
+    let (asked, told) = (folder.join(format!("{name}.cases")), folder.join(format!("{name}.answers")));
     let mut bytes = Vec::new();
     for part in cases.iter().flat_map(|(s, e)| [s.encode(), e.encode()]) {
         bytes.extend_from_slice(&u32::try_from(part.len()).expect("a small record").to_le_bytes());
@@ -115,6 +117,41 @@ fn random_trees_against_the_rust() {
     writeln!(std::io::stderr(), "compared with the Rust: {compared} texts, none differs").ok();
     assert_eq!(compared, cases.len());
     expect_all(&seen);
+}
+
+/// The tree with a string in the place of each timestamp, as a GeoPackage stores it: the Rust's text of this tree is the
+/// second call's of the other.
+fn stored(e: &E) -> E {
+    match e {
+        E::Timestamp(t) => {
+            let (d, clock) = (t.date, format!("{:02}:{:02}:{:02}.000Z", t.hour, t.minute, t.second));
+            E::str(format!("{:04}-{:02}-{:02}T{clock}", d.year, d.month, d.day))
+        }
+        E::Monadic(op, x) => E::monadic(*op, stored(x)),
+        E::Dyadic(op, x, y) => E::dyadic(*op, stored(x), stored(y)),
+        E::Interval(x, y) => E::interval(stored(x), stored(y)),
+        E::Function(x) => E::function(x.name.clone(), x.params.iter().map(stored).collect()),
+        E::Array(x) => E::Array(x.iter().map(stored).collect()),
+        leaf => leaf.clone(),
+    }
+}
+
+#[test]
+#[ignore = "WENDUULIG_ORACLE must name the oracle's program"]
+fn geopackage_texts_against_the_rust() {
+    let program = oracle();
+    let cases = cases(6000);
+    let with_strings: Vec<(Settings, E)> = cases.iter().map(|(s, e)| (s.clone(), stored(e))).collect();
+    let told = answers(&program, &with_strings);
+    assert_eq!(told.len(), cases.len());
+    let mut stamped = 0;
+    for (((settings, e), (_, other)), (letter, want)) in cases.iter().zip(&with_strings).zip(told) {
+        let text = to_geopackage_sql(settings, e).unwrap_or_else(|r| panic!("{r}: {settings:?} {e:?}"));
+        assert_eq!((letter, &text), (b'T', &want), "{settings:?} {e:?}");
+        stamped += usize::from(e != other);
+    }
+    writeln!(std::io::stderr(), "compared with the Rust: {stamped} trees with timestamps, none differs").ok();
+    assert!(stamped > 1000, "{stamped}");
 }
 
 /// The Rust's own names and order of the operators.

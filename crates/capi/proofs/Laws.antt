@@ -12,15 +12,19 @@ use mir.Val.{SFits, toZ, ofZ}
 use mir.Facts.{toZ-pos, toZ-ofZ}
 use borrow.Author.Tests.{lt-ltb, ltb-false}
 use Rattle.prelude.specs.Choice.{pick}
-use Rattle.refusal.specs.declared.Refusal.the-variants.{TextTooLong, BufferTooShort}
+use Rattle.refusal.specs.declared.Refusal.{Refusal}
+use Rattle.refusal.specs.declared.Refusal.the-variants.{BadSettings, TreeTooLong, BadFrame, TooDeep, BadKindOrOperator, BadField, BadOperand, TextTooLong, BufferTooShort, InputTooLong, BadRow, BadText, MissingColumn}
+use Rattle.refusal.specs.Number.{numberOf}
+use Rattle.literal.specs.declared.Writing.{Writing}
 use Rattle.tree.specs.Tree.{Tree, Settings}
 use Rattle.tree.specs.Parse.{Read, refused, got, also}
 use Rattle.tree.specs.Accepted.{accepted}
 use Rattle.gpkg.specs.Text.{text}
-use Rattle.gpkg.specs.Lowered.{answer, fitted, lowering}
 use Rattle.gpkg.specs.declared.Lowered.{Lowered}
 use Rattle.gpkg.specs.declared.Lowered.the-variants.{Text, Refused}
-use Rattle.capi.specs.Numbers.{minus}
+use Rattle.gpkg.specs.Lowered.{Heard, answer, fitted, heard, lowering}
+use Rattle.capi.specs.LengthWords.{lengthOf}
+use Rattle.capi.specs.Numbers.{minus, loweringNumber}
 
 -- 0 less n
 zero-less : (n : ℕ) → pos 0 -ℤ pos n ≡ minus n
@@ -53,31 +57,53 @@ module _ {z : ℤ} {n : ℕ} (e : z ≡ minus n) (h : n < 256) where
   pub back64 : toZ w64 (ofZ w64 (toZ w32 (ofZ w32 z))) ≡ minus n
   back64 = toZ-ofZ wide-fits ∙ back32
 
--- the length that an answer tells
-abbrev told : Lowered → ℕ
-told (Text n) = n
-told (Refused r) = 0
-
-fitted-short : (room : ℕ) (x : List ℕ) → told (answer (fitted room x)) ≤ 65535
+fitted-short : (room : ℕ) (x : List ℕ) → lengthOf (answer (fitted room x)) ≤ 65535
 unfolding fitted answer
 fitted-short room x = go (ltb 65535 (length x)) refl (ltb room (length x))
   where
-    go : (a : Bool) → ltb 65535 (length x) ≡ a → (b : Bool) → told (answer (pick a (refused TextTooLong) (pick b (refused BufferTooShort) (got x)))) ≤ 65535
+    go : (a : Bool) → ltb 65535 (length x) ≡ a → (b : Bool) → lengthOf (answer (pick a (refused TextTooLong) (pick b (refused BufferTooShort) (got x)))) ≤ 65535
     go true e b = omega arith
     go false e true = omega arith
     go false e false = ltb-false 65535 (length x) e
 
 -- no text that lowering answers is longer than 65,535 bytes
-pub short : (settings tree : List ℕ) (room n : ℕ) → answer (lowering settings tree room) ≡ Text n → n ≤ 65535
+short : (w : Writing) (settings tree : List ℕ) (room : ℕ) → lengthOf (answer (lowering w settings tree room)) ≤ 65535
 unfolding lowering answer also
-short settings tree room n e = subst (λ (r : Lowered). told r ≤ 65535) e (go (accepted settings tree))
+short w settings tree room = go (accepted settings tree)
   where
-    go : (p : Read (Settings × Tree)) → told (answer (also p (λ (p : Settings × Tree). fitted room (text (p .0) (p .1))))) ≤ 65535
+    go : (p : Read (Settings × Tree)) → lengthOf (answer (also p (λ (p : Settings × Tree). fitted room (text w (p .0) (p .1))))) ≤ 65535
     go (refused r) = omega arith
-    go (got p) = fitted-short room (text (p .0) (p .1))
+    go (got p) = fitted-short room (text w (p .0) (p .1))
 
 pub length-fits : (n : ℕ) → n ≤ 65535 → SFits w64 (pos n)
 length-fits n h = record { sfits = omega arith }
 
 pub length-back : (n : ℕ) → n ≤ 65535 → toZ w64 n ≡ pos n
 length-back n h = toZ-pos w64 {n = n} (omega arith)
+
+-- so the answer of each writing call is short
+pub short-answer : (w : Writing) (settings tree : List ℕ) (room : ℕ) {found : Lowered} → found ≡ answer (lowering w settings tree room) → lengthOf found ≤ 65535
+short-answer w settings tree room e = subst (λ (l : Lowered). lengthOf l ≤ 65535) (sym e) (short w settings tree room)
+
+number-below : (r : Refusal) → numberOf r < 256
+number-below BadSettings = omega arith
+number-below TreeTooLong = omega arith
+number-below BadFrame = omega arith
+number-below TooDeep = omega arith
+number-below BadKindOrOperator = omega arith
+number-below BadField = omega arith
+number-below BadOperand = omega arith
+number-below TextTooLong = omega arith
+number-below BufferTooShort = omega arith
+number-below InputTooLong = omega arith
+number-below BadRow = omega arith
+number-below BadText = omega arith
+number-below MissingColumn = omega arith
+
+number-fits : (l : Lowered) → lengthOf l ≤ 65535 → SFits w64 (loweringNumber (heard l))
+number-fits (Text n) h = length-fits n h
+number-fits (Refused r) h = fits64 (numberOf r) (number-below r)
+
+-- the number of an answer, read back from an i64, is that of what is heard
+pub said-back : (l : Lowered) {z : ℤ} {said : Heard} → z ≡ loweringNumber (heard l) → heard l ≡ said → lengthOf l ≤ 65535 → toZ w64 (ofZ w64 z) ≡ loweringNumber said
+said-back l e f h = ap (λ (z : ℤ). toZ w64 (ofZ w64 z)) e ∙ toZ-ofZ (number-fits l h) ∙ ap loweringNumber f

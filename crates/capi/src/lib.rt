@@ -1,10 +1,12 @@
 // Lowering and reading for callers in C: each answer as one number, never the same for two answers.
 ghost use mathlib.Core.Path.{_≡_};
-ghost use Prim.Native.Nat.{_<_};
+ghost use Prim.Native.Nat.{_<_, _≤_};
 ghost use lib.ListN.{length};
 ghost use Rattle.refusal.specs.Number.{numberOf};
-ghost use Rattle.gpkg.specs.Lowered.{leaves, lowering, said};
+ghost use Rattle.literal.specs.declared.Writing.the-variants.{Rust, GeoPackage};
+ghost use Rattle.gpkg.specs.Lowered.{heard, leaves, lengthLimit, lowering, said};
 ghost use Rattle.truth.specs.Reading as reading;
+ghost use Rattle.capi.specs.LengthWords.{lengthOf};
 ghost use Rattle.capi.specs.Numbers.{minus, loweringNumber, readingNumber};
 use gpkg::Lowered;
 use refusal::Refusal;
@@ -17,16 +19,33 @@ fn negative(r: Refusal) -> i32
     -(refusal::number(r) as i32)
 }
 
-// The text's length, or minus the number of a refusal, 1 to 9; every byte of `out` is as `gpkg::to_sql` leaves it.
-#[no_mangle]
-pub extern "C" fn wenduulig_to_sql(settings: &[u8], tree: &[u8], out: &mut [u8]) -> i64
-    ensures says { λ r. ⌜ r ≡ loweringNumber (said (lowering (now (settings .entry)) (now (tree .entry)) (length (now (out .entry))))) ⌝ }
-    ensures bytes { λ r. ⌜ now (out .exit) ≡ leaves (now (out .entry)) (lowering (now (settings .entry)) (now (tree .entry)) (length (now (out .entry)))) ⌝ }
+// The text's length, or minus the number of a refusal.
+fn number(lowered: Lowered) -> i64
+    requires { ⌜ lengthOf lowered ≤ lengthLimit ⌝ }
+    ensures { λ r. ⌜ r ≡ loweringNumber (heard lowered) ⌝ }
 {
-    match gpkg::to_sql(settings, tree, out) {
+    match lowered {
         Lowered::Text(n) => n as i64,
         Lowered::Refused(r) => negative(r) as i64,
     }
+}
+
+// The text's length, or minus the number of a refusal, 1 to 9; every byte of `out` is as `gpkg::to_sql` leaves it.
+#[no_mangle]
+pub extern "C" fn wenduulig_to_sql(settings: &[u8], tree: &[u8], out: &mut [u8]) -> i64
+    ensures says { λ r. ⌜ r ≡ loweringNumber (said (lowering Rust (now (settings .entry)) (now (tree .entry)) (length (now (out .entry))))) ⌝ }
+    ensures bytes { λ r. ⌜ now (out .exit) ≡ leaves (now (out .entry)) (lowering Rust (now (settings .entry)) (now (tree .entry)) (length (now (out .entry)))) ⌝ }
+{
+    number(gpkg::to_sql(settings, tree, out))
+}
+
+// The same of `gpkg::to_geopackage_sql`.
+#[no_mangle]
+pub extern "C" fn wenduulig_to_geopackage_sql(settings: &[u8], tree: &[u8], out: &mut [u8]) -> i64
+    ensures says { λ r. ⌜ r ≡ loweringNumber (said (lowering GeoPackage (now (settings .entry)) (now (tree .entry)) (length (now (out .entry))))) ⌝ }
+    ensures bytes { λ r. ⌜ now (out .exit) ≡ leaves (now (out .entry)) (lowering GeoPackage (now (settings .entry)) (now (tree .entry)) (length (now (out .entry)))) ⌝ }
+{
+    number(gpkg::to_geopackage_sql(settings, tree, out))
 }
 
 // 1 true, 0 false, 2 unknown, or minus the number of a refusal, 10 to 13.

@@ -12,6 +12,7 @@ use Rattle.record.specs.Record.{le, recordOf, le64}
 use Rattle.tree.specs.Limits.{mantissaLimit}
 use Rattle.tree.specs.Parse.{signed, mantissa}
 use Rattle.tree.specs.ByteLaws.{le16-le, le32-le, le64-le, signed-twos, twos-low}
+use Rattle.literal.specs.declared.Writing.{Writing}
 use Rattle.tree.specs.Tree.{Tree, Settings, encode, twos, dateBytes, null, unbounded, bool, num, str, date, timestamp, spatial, id, monadic, dyadic, function, array, interval, kindOf}
 use Rattle.string.specs.Quote.{doubled}
 use Rattle.literal.specs.Literal.{numText, boolText, dateText, timestampText, spatialText, quoted, collate, strText}
@@ -34,22 +35,22 @@ number m s f =
     let a : le64 (le 8 (twos m) ++ (s ∷ [])) 0 ≡ twos m = le64-le (twos m) (s ∷ []) (twos-low m (omega arith)) in
     ap signed a ∙ signed-twos m (omega arith)
 
-pub leaf-text : (g : Settings) (t : Tree) → kindOf t < 9 → sound t ≡ true → leafText g (encode t) ≡ text g t
+pub leaf-text : (writing : Writing) (g : Settings) (t : Tree) → kindOf t < 9 → sound t ≡ true → leafText writing g (encode t) ≡ text writing g t
 unfolding leafText encode recordOf text sound dateBytes
-leaf-text g null h f = refl
-leaf-text g unbounded h f = refl
-leaf-text g (bool b) h f = ap boolText (truth b)
-leaf-text g (num m s) h f = ap (λ (x : ℤ). numText x s) (number m s f)
-leaf-text g (str k s) h f = refl
-leaf-text g (date y m d) h f = ap (λ (x : ℕ). dateText x m d) (le16-le y (ltb-true y 65536 f))
-leaf-text g (timestamp y m d k i s) h f = ap (λ (x : ℕ). timestampText x m d k i s) (le16-le y (ltb-true y 65536 f))
-leaf-text g (spatial n s) h f = ap (λ (x : ℕ). spatialText x s) (le32-le n (ltb-true n 4294967296 f))
-leaf-text g (id s) h f = refl
-leaf-text g (monadic o t) h f = absurd (let v : ⊥ = omega arith in v)
-leaf-text g (dyadic o t u) h f = absurd (let v : ⊥ = omega arith in v)
-leaf-text g (function n ts) h f = absurd (let v : ⊥ = omega arith in v)
-leaf-text g (array ts) h f = absurd (let v : ⊥ = omega arith in v)
-leaf-text g (interval t u) h f = absurd (let v : ⊥ = omega arith in v)
+leaf-text writing g null h f = refl
+leaf-text writing g unbounded h f = refl
+leaf-text writing g (bool b) h f = ap boolText (truth b)
+leaf-text writing g (num m s) h f = ap (λ (x : ℤ). numText x s) (number m s f)
+leaf-text writing g (str k s) h f = refl
+leaf-text writing g (date y m d) h f = ap (λ (x : ℕ). dateText x m d) (le16-le y (ltb-true y 65536 f))
+leaf-text writing g (timestamp y m d k i s) h f = ap (λ (x : ℕ). timestampText writing x m d k i s) (le16-le y (ltb-true y 65536 f))
+leaf-text writing g (spatial n s) h f = ap (λ (x : ℕ). spatialText x s) (le32-le n (ltb-true n 4294967296 f))
+leaf-text writing g (id s) h f = refl
+leaf-text writing g (monadic o t) h f = absurd (let v : ⊥ = omega arith in v)
+leaf-text writing g (dyadic o t u) h f = absurd (let v : ⊥ = omega arith in v)
+leaf-text writing g (function n ts) h f = absurd (let v : ⊥ = omega arith in v)
+leaf-text writing g (array ts) h f = absurd (let v : ⊥ = omega arith in v)
+leaf-text writing g (interval t u) h f = absurd (let v : ⊥ = omega arith in v)
 
 -- a Str's collation, by its flags
 pub str-collated : (g : Settings) (f : ℕ) (s : List ℕ) → quoted (doubled s) ++ collation g f ≡ strText (g .ci) (g .ai) (g .cai) f s

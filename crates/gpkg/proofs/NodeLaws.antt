@@ -15,6 +15,7 @@ use Rattle.op.specs.declared.Op.the-variants.{Minus, Neg, CaseI, AccentI, STouc
 use Rattle.op.specs.Op.{opNumber, oneOf, isArray, isSpatial, isTemporal, isNullable}
 use Rattle.op.specs.OpLaws.{agree, number-below}
 use Rattle.tree.specs.Kinds.{UNBOUNDED}
+use Rattle.literal.specs.declared.Writing.{Writing}
 use Rattle.tree.specs.Tree.{Tree, Trees, Settings, encode, null, unbounded, bool, num, str, date, timestamp, spatial, id, monadic, dyadic, function, array, interval, none, _then_, kindOf}
 use Rattle.tree.specs.Tests as trees
 use Rattle.tree.specs.Tests.{first, second, isInterval, isId, isLiteralOrId, isMonadic, isItems, startOf, stopOf, endsOf, columnsOf, byOperator}
@@ -111,36 +112,36 @@ is-twin o t =
     go false false false false false f h = refl
 
 -- the operand's text under a twin
-under-text : (g : Settings) (o : Op) (t : Tree) → isMonadic o t ≡ true → getD (children g t) 0 [] ≡ text g (underOf t)
+under-text : (writing : Writing) (g : Settings) (o : Op) (t : Tree) → isMonadic o t ≡ true → getD (children writing g t) 0 [] ≡ text writing g (underOf t)
 unfolding isMonadic children underOf byOperator first
-under-text g o null e = absurd (let z : _≡_ {A = ℕ} 0 1 = cc in let v : ⊥ = omega arith in v)
-under-text g o unbounded e = absurd (let z : _≡_ {A = ℕ} 0 1 = cc in let v : ⊥ = omega arith in v)
-under-text g o (bool b) e = absurd (let z : _≡_ {A = ℕ} 0 1 = cc in let v : ⊥ = omega arith in v)
-under-text g o (num m s) e = absurd (let z : _≡_ {A = ℕ} 0 1 = cc in let v : ⊥ = omega arith in v)
-under-text g o (str f s) e = absurd (let z : _≡_ {A = ℕ} 0 1 = cc in let v : ⊥ = omega arith in v)
-under-text g o (date y m d) e = absurd (let z : _≡_ {A = ℕ} 0 1 = cc in let v : ⊥ = omega arith in v)
-under-text g o (timestamp y m d h i s) e = absurd (let z : _≡_ {A = ℕ} 0 1 = cc in let v : ⊥ = omega arith in v)
-under-text g o (spatial n s) e = absurd (let z : _≡_ {A = ℕ} 0 1 = cc in let v : ⊥ = omega arith in v)
-under-text g o (id s) e = absurd (let z : _≡_ {A = ℕ} 0 1 = cc in let v : ⊥ = omega arith in v)
-under-text g o (monadic p t) e = refl
-under-text g o (dyadic p t u) e = absurd (let z : _≡_ {A = ℕ} 0 1 = cc in let v : ⊥ = omega arith in v)
-under-text g o (function n ts) e = absurd (let z : _≡_ {A = ℕ} 0 1 = cc in let v : ⊥ = omega arith in v)
-under-text g o (array ts) e = absurd (let z : _≡_ {A = ℕ} 0 1 = cc in let v : ⊥ = omega arith in v)
-under-text g o (interval t u) e = absurd (let z : _≡_ {A = ℕ} 0 1 = cc in let v : ⊥ = omega arith in v)
+under-text writing g o null e = absurd (let z : _≡_ {A = ℕ} 0 1 = cc in let v : ⊥ = omega arith in v)
+under-text writing g o unbounded e = absurd (let z : _≡_ {A = ℕ} 0 1 = cc in let v : ⊥ = omega arith in v)
+under-text writing g o (bool b) e = absurd (let z : _≡_ {A = ℕ} 0 1 = cc in let v : ⊥ = omega arith in v)
+under-text writing g o (num m s) e = absurd (let z : _≡_ {A = ℕ} 0 1 = cc in let v : ⊥ = omega arith in v)
+under-text writing g o (str f s) e = absurd (let z : _≡_ {A = ℕ} 0 1 = cc in let v : ⊥ = omega arith in v)
+under-text writing g o (date y m d) e = absurd (let z : _≡_ {A = ℕ} 0 1 = cc in let v : ⊥ = omega arith in v)
+under-text writing g o (timestamp y m d h i s) e = absurd (let z : _≡_ {A = ℕ} 0 1 = cc in let v : ⊥ = omega arith in v)
+under-text writing g o (spatial n s) e = absurd (let z : _≡_ {A = ℕ} 0 1 = cc in let v : ⊥ = omega arith in v)
+under-text writing g o (id s) e = absurd (let z : _≡_ {A = ℕ} 0 1 = cc in let v : ⊥ = omega arith in v)
+under-text writing g o (monadic p t) e = refl
+under-text writing g o (dyadic p t u) e = absurd (let z : _≡_ {A = ℕ} 0 1 = cc in let v : ⊥ = omega arith in v)
+under-text writing g o (function n ts) e = absurd (let z : _≡_ {A = ℕ} 0 1 = cc in let v : ⊥ = omega arith in v)
+under-text writing g o (array ts) e = absurd (let z : _≡_ {A = ℕ} 0 1 = cc in let v : ⊥ = omega arith in v)
+under-text writing g o (interval t u) e = absurd (let z : _≡_ {A = ℕ} 0 1 = cc in let v : ⊥ = omega arith in v)
 
 -- what stands before the operand, the operand, and what stands after it
-pub monadic-parts : (g : Settings) (o : Op) (t : Tree) → text g (monadic o t)
-    ≡ beforeText (opNumber o) (word o) (isLiteralOrId t) ++ (text g (operandOf o t) ++ behindText g (opNumber o) (word o) (isLiteralOrId t) (twin o t))
+pub monadic-parts : (writing : Writing) (g : Settings) (o : Op) (t : Tree) → text writing g (monadic o t)
+    ≡ beforeText (opNumber o) (word o) (isLiteralOrId t) ++ (text writing g (operandOf o t) ++ behindText g (opNumber o) (word o) (isLiteralOrId t) (twin o t))
 unfolding text monadicText operandOf twin beforeText behindText
-monadic-parts g o t =
+monadic-parts writing g o t =
     rw (is-nullable o, is-negation o, is-casei o)
-    (go (between 51 (opNumber o) 52) (either (eqb (opNumber o) 7) (eqb (opNumber o) 1)) (eqb (opNumber o) 16) (isMonadic AccentI t) (isMonadic CaseI t) (isLiteralOrId t) (under-text g AccentI t) (under-text g CaseI t))
+    (go (between 51 (opNumber o) 52) (either (eqb (opNumber o) 7) (eqb (opNumber o) 1)) (eqb (opNumber o) 16) (isMonadic AccentI t) (isMonadic CaseI t) (isLiteralOrId t) (under-text writing g AccentI t) (under-text writing g CaseI t))
   where
-    go : (a b c m n l : Bool) → (m ≡ true → getD (children g t) 0 [] ≡ text g (underOf t)) → (n ≡ true → getD (children g t) 0 [] ≡ text g (underOf t))
-        → pick a (bare l (text g t) ++ (bytes " " ++ word o)) (pick b (word o ++ (bytes " " ++ bare l (text g t)))
-        (pick c (pick m (getD (children g t) 0 [] ++ collate (g .cai)) (text g t ++ collate (g .ci))) (pick n (getD (children g t) 0 [] ++ collate (g .cai)) (text g t ++ collate (g .ai)))))
+    go : (a b c m n l : Bool) → (m ≡ true → getD (children writing g t) 0 [] ≡ text writing g (underOf t)) → (n ≡ true → getD (children writing g t) 0 [] ≡ text writing g (underOf t))
+        → pick a (bare l (text writing g t) ++ (bytes " " ++ word o)) (pick b (word o ++ (bytes " " ++ bare l (text writing g t)))
+        (pick c (pick m (getD (children writing g t) 0 [] ++ collate (g .cai)) (text writing g t ++ collate (g .ci))) (pick n (getD (children writing g t) 0 [] ++ collate (g .cai)) (text writing g t ++ collate (g .ai)))))
         ≡ pick a (pick l [] (bytes "(")) (pick b (word o ++ pick l (bytes " ") (bytes " (")) [])
-        ++ (text g (pick (pick a false (pick b false (pick c m n))) (underOf t) t)
+        ++ (text writing g (pick (pick a false (pick b false (pick c m n))) (underOf t) t)
         ++ pick a (pick l (bytes " ") (bytes ") ") ++ word o) (pick b (pick l [] (bytes ")")) (collate (nameOf g (pick (pick a false (pick b false (pick c m n))) 3 (pick c 1 2))))))
     go true b c m n true h k = refl
     go true b c m n false h k = simp append-assoc
@@ -194,123 +195,123 @@ apart a n b c d e h = go (between c n d) refl
         absurd (h (let v : c ≤ b = omega (arith, r .1, q .0) in v) (let v : a ≤ d = omega (arith, r .0, q .1) in v))
     go false w = refl
 
-first-item : (g : Settings) (ts : Trees) → getD (texts g ts) 0 nullText ≡ text g (first ts)
+first-item : (writing : Writing) (g : Settings) (ts : Trees) → getD (texts writing g ts) 0 nullText ≡ text writing g (first ts)
 unfolding texts first text
-first-item g none = refl
-first-item g (t then ts) = refl
+first-item writing g none = refl
+first-item writing g (t then ts) = refl
 
-second-item : (g : Settings) (ts : Trees) → getD (texts g ts) 1 nullText ≡ text g (second ts)
+second-item : (writing : Writing) (g : Settings) (ts : Trees) → getD (texts writing g ts) 1 nullText ≡ text writing g (second ts)
 unfolding texts first second text
-second-item g none = refl
-second-item g (t then none) = refl
-second-item g (t then (u then ts)) = refl
+second-item writing g none = refl
+second-item writing g (t then none) = refl
+second-item writing g (t then (u then ts)) = refl
 
 -- a bound: an array's item, or Null where there is no array
-bound-0 : (g : Settings) (u : Tree) → boundText u (children g u) 0 ≡ text g (first (itemsOf u))
+bound-0 : (writing : Writing) (g : Settings) (u : Tree) → boundText u (children writing g u) 0 ≡ text writing g (first (itemsOf u))
 unfolding children itemsOf isItems first text
-bound-0 g u = go (isItems u) refl
+bound-0 writing g u = go (isItems u) refl
   where
-    there : (t : Tree) → OfKind 12 t → getD (children g t) 0 nullText ≡ text g (first (trees.children t))
-    there t (of-array ts) = first-item g ts
+    there : (t : Tree) → OfKind 12 t → getD (children writing g t) 0 nullText ≡ text writing g (first (trees.children t))
+    there t (of-array ts) = first-item writing g ts
 
-    go : (b : Bool) → isItems u ≡ b → pick b (getD (children g u) 0 nullText) nullText ≡ text g (first (pick b (trees.children u) none))
+    go : (b : Bool) → isItems u ≡ b → pick b (getD (children writing g u) 0 nullText) nullText ≡ text writing g (first (pick b (trees.children u) none))
     go true e = there u (kind-is 12 u (eqb-true (kindOf u) 12 e))
     go false e = refl
 
-bound-1 : (g : Settings) (u : Tree) → boundText u (children g u) 1 ≡ text g (second (itemsOf u))
+bound-1 : (writing : Writing) (g : Settings) (u : Tree) → boundText u (children writing g u) 1 ≡ text writing g (second (itemsOf u))
 unfolding children itemsOf isItems first second text
-bound-1 g u = go (isItems u) refl
+bound-1 writing g u = go (isItems u) refl
   where
-    there : (t : Tree) → OfKind 12 t → getD (children g t) 1 nullText ≡ text g (second (trees.children t))
-    there t (of-array ts) = second-item g ts
+    there : (t : Tree) → OfKind 12 t → getD (children writing g t) 1 nullText ≡ text writing g (second (trees.children t))
+    there t (of-array ts) = second-item writing g ts
 
-    go : (b : Bool) → isItems u ≡ b → pick b (getD (children g u) 1 nullText) nullText ≡ text g (second (pick b (trees.children u) none))
+    go : (b : Bool) → isItems u ≡ b → pick b (getD (children writing g u) 1 nullText) nullText ≡ text writing g (second (pick b (trees.children u) none))
     go true e = there u (kind-is 12 u (eqb-true (kindOf u) 12 e))
     go false e = refl
 
 -- every slot writes an end as the tree's own text
-end-text : (g : Settings) (p : Slot) (t : Tree) → endText p t (text g t) ≡ text g t
+end-text : (writing : Writing) (g : Settings) (p : Slot) (t : Tree) → endText p t (text writing g t) ≡ text writing g t
 unfolding text
-end-text g p t = go (eqb (kindOf t) UNBOUNDED) refl
+end-text writing g p t = go (eqb (kindOf t) UNBOUNDED) refl
   where
-    there : (t : Tree) → OfKind 1 t → quoted (openEnd p) ≡ text g t
+    there : (t : Tree) → OfKind 1 t → quoted (openEnd p) ≡ text writing g t
     there t of-unbounded = ap quoted (slots-alike p alone)
 
-    go : (b : Bool) → eqb (kindOf t) UNBOUNDED ≡ b → pick b (quoted (openEnd p)) (text g t) ≡ text g t
+    go : (b : Bool) → eqb (kindOf t) UNBOUNDED ≡ b → pick b (quoted (openEnd p)) (text writing g t) ≡ text writing g t
     go true e = there t (kind-is UNBOUNDED t (eqb-true (kindOf t) UNBOUNDED e))
     go false e = refl
 
 -- an end: an interval's child, or of an instant itself and Null
-start-text : (g : Settings) (t : Tree) → startText t (text g t) (children g t) ≡ text g (startOf t)
+start-text : (writing : Writing) (g : Settings) (t : Tree) → startText t (text writing g t) (children writing g t) ≡ text writing g (startOf t)
 unfolding children startOf first
-start-text g t = ap (endText (startSlot (isInterval t)) (startOf t)) (go (isInterval t) refl) ∙ end-text g (startSlot (isInterval t)) (startOf t)
+start-text writing g t = ap (endText (startSlot (isInterval t)) (startOf t)) (go (isInterval t) refl) ∙ end-text writing g (startSlot (isInterval t)) (startOf t)
   where
-    there : (t : Tree) → OfKind 13 t → getD (children g t) 0 [] ≡ text g (first (trees.children t))
+    there : (t : Tree) → OfKind 13 t → getD (children writing g t) 0 [] ≡ text writing g (first (trees.children t))
     there t (of-interval a b) = refl
 
-    go : (b : Bool) → isInterval t ≡ b → pick b (getD (children g t) 0 []) (text g t) ≡ text g (pick b (first (trees.children t)) t)
+    go : (b : Bool) → isInterval t ≡ b → pick b (getD (children writing g t) 0 []) (text writing g t) ≡ text writing g (pick b (first (trees.children t)) t)
     go true e = there t (interval-is t e)
     go false e = refl
 
-stop-text : (g : Settings) (t : Tree) → stopText t (children g t) ≡ text g (stopOf t)
+stop-text : (writing : Writing) (g : Settings) (t : Tree) → stopText t (children writing g t) ≡ text writing g (stopOf t)
 unfolding children stopOf first second text
-stop-text g t = ap (endText (stopSlot (isInterval t)) (stopOf t)) (go (isInterval t) refl) ∙ end-text g (stopSlot (isInterval t)) (stopOf t)
+stop-text writing g t = ap (endText (stopSlot (isInterval t)) (stopOf t)) (go (isInterval t) refl) ∙ end-text writing g (stopSlot (isInterval t)) (stopOf t)
   where
-    there : (t : Tree) → OfKind 13 t → getD (children g t) 1 [] ≡ text g (second (trees.children t))
+    there : (t : Tree) → OfKind 13 t → getD (children writing g t) 1 [] ≡ text writing g (second (trees.children t))
     there t (of-interval a b) = refl
 
-    go : (b : Bool) → isInterval t ≡ b → pick b (getD (children g t) 1 []) nullText ≡ text g (pick b (second (trees.children t)) null)
+    go : (b : Bool) → isInterval t ≡ b → pick b (getD (children writing g t) 1 []) nullText ≡ text writing g (pick b (second (trees.children t)) null)
     go true e = there t (interval-is t e)
     go false e = refl
 
-module _ (g : Settings) (o : Op) (t u : Tree) where
-  pub between-parts : isBetween o ≡ true → text g (dyadic o t u) ≡ text g t ++ (infixText true (word o) true ++ (text g (first (itemsOf u)) ++ ((bytes " AND ") ++ text g (second (itemsOf u)))))
+module _ (writing : Writing) (g : Settings) (o : Op) (t u : Tree) where
+  pub between-parts : isBetween o ≡ true → text writing g (dyadic o t u) ≡ text writing g t ++ (infixText true (word o) true ++ (text writing g (first (itemsOf u)) ++ ((bytes " AND ") ++ text writing g (second (itemsOf u)))))
   unfolding text dyadicText infixText
-  between-parts p = simp (p, append-assoc, bound-0 g u, bound-1 g u)
+  between-parts p = simp (p, append-assoc, bound-0 writing g u, bound-1 writing g u)
 
   module _ (p : isBetween o ≡ false) where
     pub spatial-parts : isSpatial o ≡ true → (a b : Bool) → a ≡ both (between 21 (opNumber o) 23) (both (isId t) (negated (isId u))) → b ≡ both (between 21 (opNumber o) 23) (both (isId u) (negated (isId t)))
-        → text g (dyadic o t u)
+        → text writing g (dyadic o t u)
         ≡ word o ++ (pick a (bytes "(ST_ReducePrecision(") (bytes "(")
-        ++ (text g t ++ (pick a (reducedText (g .precision)) []
+        ++ (text writing g t ++ (pick a (reducedText (g .precision)) []
         ++ (pick b (bytes ", ST_ReducePrecision(") (bytes ", ")
-        ++ (text g u ++ (pick b (reducedText (g .precision)) [] ++ bytes ")"))))))
+        ++ (text writing g u ++ (pick b (reducedText (g .precision)) [] ++ bytes ")"))))))
     unfolding text dyadicText reduces reducePrecision
     spatial-parts q a b x y = rw (p, q, reduce-precision o, ← x, ← y) (go a b)
       where
-        go : (a b : Bool) → word o ++ (bytes "(" ++ (pick a (reducePrecision (g .precision) (text g t)) (text g t) ++ (bytes ", " ++ (pick b (reducePrecision (g .precision) (text g u)) (text g u) ++ bytes ")"))))
+        go : (a b : Bool) → word o ++ (bytes "(" ++ (pick a (reducePrecision (g .precision) (text writing g t)) (text writing g t) ++ (bytes ", " ++ (pick b (reducePrecision (g .precision) (text writing g u)) (text writing g u) ++ bytes ")"))))
             ≡ word o ++ (pick a (bytes "(ST_ReducePrecision(") (bytes "(")
-            ++ (text g t ++ (pick a (reducedText (g .precision)) []
+            ++ (text writing g t ++ (pick a (reducedText (g .precision)) []
             ++ (pick b (bytes ", ST_ReducePrecision(") (bytes ", ")
-            ++ (text g u ++ (pick b (reducedText (g .precision)) [] ++ bytes ")"))))))
+            ++ (text writing g u ++ (pick b (reducedText (g .precision)) [] ++ bytes ")"))))))
         go true true = simp append-assoc
         go true false = simp append-assoc
         go false true = simp append-assoc
         go false false = refl
 
     module _ (q : isSpatial o ≡ false) where
-      pub temporal-fills : isTemporal o ≡ true → text g (dyadic o t u) ≡ fill (slot g (endsOf t u)) (templateOf (translate (opNumber o) (isInterval t) (isInterval u) (columnsOf t u)))
+      pub temporal-fills : isTemporal o ≡ true → text writing g (dyadic o t u) ≡ fill (slot writing g (endsOf t u)) (templateOf (translate (opNumber o) (isInterval t) (isInterval u) (columnsOf t u)))
       unfolding text dyadicText endsOf
       temporal-fills r =
           rw (p, q, r)
           (translate-same _ _ ends-same (opNumber o) (isInterval t) (isInterval u) (columnsOf t u)
-          ∙ sym (translate-fills (slot g (endsOf t u)) (opNumber o) (isInterval t) (isInterval u) (columnsOf t u)))
+          ∙ sym (translate-fills (slot writing g (endsOf t u)) (opNumber o) (isInterval t) (isInterval u) (columnsOf t u)))
         where
-          ends-same : (j : ℕ) → j < 4 → getD (startText t (text g t) (children g t) ∷ stopText t (children g t) ∷ startText u (text g u) (children g u) ∷ stopText u (children g u) ∷ []) j [] ≡ slot g (endsOf t u) j
-          ends-same zero h = start-text g t
-          ends-same (suc zero) h = stop-text g t
-          ends-same (suc (suc zero)) h = start-text g u
-          ends-same (suc (suc (suc zero))) h = stop-text g u
+          ends-same : (j : ℕ) → j < 4 → getD (startText t (text writing g t) (children writing g t) ∷ stopText t (children writing g t) ∷ startText u (text writing g u) (children writing g u) ∷ stopText u (children writing g u) ∷ []) j [] ≡ slot writing g (endsOf t u) j
+          ends-same zero h = start-text writing g t
+          ends-same (suc zero) h = stop-text writing g t
+          ends-same (suc (suc zero)) h = start-text writing g u
+          ends-same (suc (suc (suc zero))) h = stop-text writing g u
           ends-same (suc (suc (suc (suc j)))) h = absurd (let v : ⊥ = omega arith in v)
 
-      pub infix-parts : isTemporal o ≡ false → text g (dyadic o t u)
-          ≡ pick (leftBare (opNumber o) t) [] (bytes "(") ++ (text g t ++ (infixText (leftBare (opNumber o) t) (word o) (rightBare (opNumber o) u) ++ (text g u ++ pick (rightBare (opNumber o) u) [] (bytes ")"))))
+      pub infix-parts : isTemporal o ≡ false → text writing g (dyadic o t u)
+          ≡ pick (leftBare (opNumber o) t) [] (bytes "(") ++ (text writing g t ++ (infixText (leftBare (opNumber o) t) (word o) (rightBare (opNumber o) u) ++ (text writing g u ++ pick (rightBare (opNumber o) u) [] (bytes ")"))))
       unfolding text dyadicText leftBare rightBare infixText
       infix-parts r = rw (p, q, r, is-array o, is-like o) (go (between 41 (opNumber o) 44) (between 45 (opNumber o) 46) (isLiteralOrId t) (isLiteralOrId u))
         where
           go : (x y c d : Bool)
-              → pick x (text g t ++ (bytes " " ++ (word o ++ (bytes " " ++ text g u)))) (pick y (bare c (text g t) ++ (bytes " " ++ (word o ++ (bytes " " ++ bare false (text g u))))) (bare c (text g t) ++ (bytes " " ++ (word o ++ (bytes " " ++ bare d (text g u))))))
-              ≡ pick (pick x true c) [] (bytes "(") ++ (text g t ++ ((pick (pick x true c) (bytes " ") (bytes ") ") ++ (word o ++ pick (pick x true (pick y false d)) (bytes " ") (bytes " ("))) ++ (text g u ++ pick (pick x true (pick y false d)) [] (bytes ")"))))
+              → pick x (text writing g t ++ (bytes " " ++ (word o ++ (bytes " " ++ text writing g u)))) (pick y (bare c (text writing g t) ++ (bytes " " ++ (word o ++ (bytes " " ++ bare false (text writing g u))))) (bare c (text writing g t) ++ (bytes " " ++ (word o ++ (bytes " " ++ bare d (text writing g u))))))
+              ≡ pick (pick x true c) [] (bytes "(") ++ (text writing g t ++ ((pick (pick x true c) (bytes " ") (bytes ") ") ++ (word o ++ pick (pick x true (pick y false d)) (bytes " ") (bytes " ("))) ++ (text writing g u ++ pick (pick x true (pick y false d)) [] (bytes ")"))))
           go true y c d = simp (append-assoc, append-nil)
           go false true true d = simp append-assoc
           go false true false d = simp append-assoc

@@ -11,6 +11,7 @@ use lib.Dec.{eqb}
 use Rattle.record.specs.Record.{le16}
 use Rattle.op.specs.declared.Op.{Op}
 use Rattle.op.specs.Op.{opNumber, isSpatial}
+use Rattle.literal.specs.declared.Writing.{Writing}
 use Rattle.tree.specs.Tree.{Tree, Settings, encode, kindOf}
 use Rattle.tree.specs.Placed.{isBetween}
 use Rattle.tree.specs.Tests.{isInterval, isId, columnsOf, endsOf, byOperator}
@@ -58,14 +59,14 @@ same-column t u a (suc (suc (suc zero))) = a .is3 .column
 same-column t u a (suc (suc (suc (suc j)))) = simp (le-ltb (suc (suc (suc (suc j)))) 4 (omega arith))
 
 -- the template of a temporal node
-pub template-fills : {s : List ℕ} {op m : ℕ} (g : Settings) {t : Tree} → Node s 10 op m t → between 26 op 40 ≡ true → {e : List end.End} → Are s e (nodeEnds t) → {a b : Bool} {w : List ℕ}
-    → a ≡ eqb (le16 (part s 8 m) 4) 13 → b ≡ eqb (le16 (part s m (length s)) 4) 13 → w ≡ templateOf (translate op a b (columns e)) → text g t ≡ fill (slot g (nodeEnds t)) w
+pub template-fills : {s : List ℕ} {op m : ℕ} (writing : Writing) (g : Settings) {t : Tree} → Node s 10 op m t → between 26 op 40 ≡ true → {e : List end.End} → Are s e (nodeEnds t) → {a b : Bool} {w : List ℕ}
+    → a ≡ eqb (le16 (part s 8 m) 4) 13 → b ≡ eqb (le16 (part s m (length s)) 4) 13 → w ≡ templateOf (translate op a b (columns e)) → text writing g t ≡ fill (slot writing g (nodeEnds t)) w
 unfolding nodeEnds byOperator
-template-fills g (one o x k n e f) h r ea eb ew = absurd (let v : ⊥ = omega (arith, k) in v)
-template-fills {s} {op} g (two o x y k n p q) h {e} r ea eb ew =
+template-fills writing g (one o x k n e f) h r ea eb ew = absurd (let v : ⊥ = omega (arith, k) in v)
+template-fills {s} {op} writing g (two o x y k n p q) h {e} r ea eb ew =
     let c : between 26 (opNumber o) 40 ≡ true = ap (λ (j : ℕ). between 26 j 40) (sym n) ∙ h in
     let b : isBetween o ≡ false = is-between o ∙ apart 26 (opNumber o) 40 47 48 c (λ x y. let v : ⊥ = omega arith in v) in
     let z : isSpatial o ≡ false = is-spatial o ∙ apart 26 (opNumber o) 40 18 25 c (λ x y. let v : ⊥ = omega arith in v) in
-    temporal-fills g o x y b z (is-temporal o ∙ c)
-    ∙ ap (fill (slot g (endsOf x y)))
+    temporal-fills writing g o x y b z (is-temporal o ∙ c)
+    ∙ ap (fill (slot writing g (endsOf x y)))
     (sym (ew ∙ same-columns op o x y _ _ (columns e) n (ea ∙ kind-interval _ x (stands-part p .1)) (eb ∙ kind-interval _ y (stands-part q .1)) (same-column x y r)))

@@ -10,6 +10,7 @@ use Rattle.tree.specs.Kinds.{DYADIC}
 use Rattle.gpkg.specs.ClassWords.{temporalNumber}
 use Rattle.tree.specs.Tree.{Tree, Settings, encode, null, unbounded}
 use Rattle.tree.specs.Tests.{byOperator, isInterval, isId, startOf, stopOf, endsOf}
+use Rattle.literal.specs.declared.Writing.{Writing}
 use Rattle.literal.specs.Literal.{nullText, unboundedText}
 use Rattle.sql.specs.Ends.{isColumn}
 use Rattle.sql.specs.Ends as sqlEnds
@@ -38,8 +39,8 @@ pub record Is (s : List ℕ) (e : end.End) (x : Tree) : Type 0 where
   pub here : Here s e x
 
 -- the text that a digit of a template stands for
-abbrev pub slot : Settings → List Tree → ℕ → List ℕ
-slot g xs j = text g (getD xs j null)
+abbrev pub slot : Writing → Settings → List Tree → ℕ → List ℕ
+slot w g xs j = text w g (getD xs j null)
 
 -- four ends are four trees
 pub record Are (s : List ℕ) (e : List end.End) (xs : List Tree) : Type 0 where

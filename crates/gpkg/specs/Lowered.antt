@@ -6,6 +6,7 @@ use lib.Dec.{ltb}
 use Rattle.prelude.specs.Choice.{pick}
 use Rattle.refusal.specs.declared.Refusal.the-variants.{TextTooLong, BufferTooShort}
 use Rattle.refusal.specs.Number.{numberOf}
+use Rattle.literal.specs.declared.Writing.{Writing}
 use Rattle.tree.specs.Parse.{Read, refused, got, also}
 use Rattle.tree.specs.Accepted.{accepted}
 use Rattle.tree.specs.Limits.{limits}
@@ -23,9 +24,9 @@ fitted room x =
     pick (ltb lengthLimit (length x)) (refused TextTooLong)
     (pick (ltb room (length x)) (refused BufferTooShort) (got x))
 
--- the text of accepted settings and tree
-unfoldable pub lowering : List ℕ → List ℕ → ℕ → Read (List ℕ)
-lowering settings tree room = also (accepted settings tree) (λ p. fitted room (text (p .0) (p .1)))
+-- the text of accepted settings and tree, by the writing of the call
+unfoldable pub lowering : Writing → List ℕ → List ℕ → ℕ → Read (List ℕ)
+lowering w settings tree room = also (accepted settings tree) (λ p. fitted room (text w (p .0) (p .1)))
 
 -- the answer: a text's length, or the refusal
 unfoldable pub answer : Read (List ℕ) → lowered.Lowered

@@ -14,6 +14,7 @@ use Rattle.tree.specs.Kinds.{UNBOUNDED}
 use Rattle.tree.specs.Tree.{Tree, Trees, Settings, null, unbounded, bool, num, str, date, timestamp, spatial, id, monadic, dyadic, function, array, interval, none, _then_, kindOf}
 use Rattle.tree.specs.Placed.{isBetween}
 use Rattle.tree.specs.Tests.{isId, isItems, isInterval, isMonadic, isLiteralOrId, startOf, stopOf, columnsOf}
+use Rattle.literal.specs.declared.Writing.{Writing}
 use Rattle.literal.specs.Literal.{Slot, openEnd, startSlot, stopSlot, quoted, nullText, boolText, unboundedText, numText, strText, dateText, timestampText, spatialText, decimal, collate}
 use Rattle.sql.specs.Condition.{print}
 use Rattle.sql.specs.Translators.{translate}
@@ -78,41 +79,41 @@ dyadicText g o t u x y xs ys =
     (pick (oneOf o (IsLike ∷ IsNotLike ∷ [])) (bare (isLiteralOrId t) x ++ (bytes " " ++ (word o ++ (bytes " " ++ bare false y))))
     (bare (isLiteralOrId t) x ++ (bytes " " ++ (word o ++ (bytes " " ++ bare (isLiteralOrId u) y))))))))
 
--- The text; an Interval has none of its own, its ends are written by the operator above it.
+-- The text by a writing; an Interval has none of its own, its ends are written by the operator above it.
 unfoldable mutual
-  pub text : Settings → Tree → List ℕ
-  text g null = nullText
-  text g unbounded = unboundedText
-  text g (bool b) = boolText b
-  text g (num m s) = numText m s
-  text g (str f s) = strText (g .ci) (g .ai) (g .cai) f s
-  text g (date y m d) = dateText y m d
-  text g (timestamp y m d h i s) = timestampText y m d h i s
-  text g (spatial n s) = spatialText n s
-  text g (id s) = s
-  text g (monadic o t) = monadicText g o t (text g t) (children g t)
-  text g (dyadic o t u) = dyadicText g o t u (text g t) (text g u) (children g t) (children g u)
-  text g (function n ts) = n ++ bare false (joined (texts g ts))
-  text g (array ts) = bare false (joined (texts g ts))
-  text g (interval t u) = []
+  pub text : Writing → Settings → Tree → List ℕ
+  text w g null = nullText
+  text w g unbounded = unboundedText
+  text w g (bool b) = boolText b
+  text w g (num m s) = numText m s
+  text w g (str f s) = strText (g .ci) (g .ai) (g .cai) f s
+  text w g (date y m d) = dateText y m d
+  text w g (timestamp y m d h i s) = timestampText w y m d h i s
+  text w g (spatial n s) = spatialText n s
+  text w g (id s) = s
+  text w g (monadic o t) = monadicText g o t (text w g t) (children w g t)
+  text w g (dyadic o t u) = dyadicText g o t u (text w g t) (text w g u) (children w g t) (children w g u)
+  text w g (function n ts) = n ++ bare false (joined (texts w g ts))
+  text w g (array ts) = bare false (joined (texts w g ts))
+  text w g (interval t u) = []
 
   -- the texts of a node's operands, items or ends
-  pub children : Settings → Tree → List (List ℕ)
-  children g null = []
-  children g unbounded = []
-  children g (bool b) = []
-  children g (num m s) = []
-  children g (str f s) = []
-  children g (date y m d) = []
-  children g (timestamp y m d h i s) = []
-  children g (spatial n s) = []
-  children g (id s) = []
-  children g (monadic o t) = text g t ∷ []
-  children g (dyadic o t u) = text g t ∷ text g u ∷ []
-  children g (function n ts) = texts g ts
-  children g (array ts) = texts g ts
-  children g (interval t u) = text g t ∷ text g u ∷ []
+  pub children : Writing → Settings → Tree → List (List ℕ)
+  children w g null = []
+  children w g unbounded = []
+  children w g (bool b) = []
+  children w g (num m s) = []
+  children w g (str f s) = []
+  children w g (date y m d) = []
+  children w g (timestamp y m d h i s) = []
+  children w g (spatial n s) = []
+  children w g (id s) = []
+  children w g (monadic o t) = text w g t ∷ []
+  children w g (dyadic o t u) = text w g t ∷ text w g u ∷ []
+  children w g (function n ts) = texts w g ts
+  children w g (array ts) = texts w g ts
+  children w g (interval t u) = text w g t ∷ text w g u ∷ []
 
-  pub texts : Settings → Trees → List (List ℕ)
-  texts g none = []
-  texts g (t then ts) = text g t ∷ texts g ts
+  pub texts : Writing → Settings → Trees → List (List ℕ)
+  texts w g none = []
+  texts w g (t then ts) = text w g t ∷ texts w g ts

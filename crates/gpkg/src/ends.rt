@@ -3,7 +3,6 @@ ghost use mathlib.Core.Path.{_≡_};
 ghost use mathlib.Core.Bool.{true, false};
 ghost use Prim.Native.Nat.{_+_, _≤_, _<_};
 ghost use lib.ListN.{length};
-ghost use Rattle.prelude.specs.Choice.{between};
 ghost use Rattle.emit.specs.Emit.{countLimit};
 ghost use Rattle.emit.specs.LaysWords.{Lays};
 ghost use Rattle.gpkg.specs.Text.{text};
@@ -11,6 +10,7 @@ ghost use Rattle.tree.specs.Tests.{endsOf};
 ghost use Rattle.gpkg.specs.EndWords.{endPiece, pieceOf, flatText, Is, IsOperand, Are, slot, temporalOf, nodeEnds};
 ghost use Rattle.gpkg.specs.NodeWords.{Node};
 ghost use Rattle.gpkg.specs.RecordWords.{Stands};
+ghost use Rattle.literal.specs.declared.Writing.{Writing};
 ghost use Rattle.tree.specs.Tree.{Tree, Settings};
 ghost use Rattle.sql.specs.Template.{held, fill};
 ghost use Rattle.tree.specs.Limits.{treeLimit};
@@ -145,7 +145,7 @@ pub(crate) fn is_temporal(kind: usize, op: usize) -> bool
 // The template of a temporal node.
 pub(crate) fn template_of(s: &[u8], op: usize, m: usize, e: [End; 4]) -> Template
     requires { ⌜ (8 ≤ m) × (m ≤ length (now s)) ⌝ }
-    ensures { λ r. ⌜ ((g : Settings) (t : Tree) → Node (now (s .entry)) DYADIC op m t → temporalNumber op ≡ true → Are (now (s .entry)) e (nodeEnds t) → text g t ≡ fill (slot g (nodeEnds t)) (held r)) × (r .len ≤ 24) ⌝ }
+    ensures { λ r. ⌜ ((w : Writing) (g : Settings) (t : Tree) → Node (now (s .entry)) DYADIC op m t → temporalNumber op ≡ true → Are (now (s .entry)) e (nodeEnds t) → text w g t ≡ fill (slot w g (nodeEnds t)) (held r)) × (r .len ≤ 24) ⌝ }
 {
     let a = is_kind(&s[OPERAND..m], INTERVAL);
     sql::temporal_sql(op, a, is_kind(&s[m..], INTERVAL), e)

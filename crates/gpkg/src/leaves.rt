@@ -13,6 +13,7 @@ ghost use Rattle.string.specs.Quote.{doubled};
 ghost use Rattle.literal.specs.Literal.{dateText, timestampText, quoted};
 use crate::records::least;
 use crate::records::rest;
+use literal::Writing;
 use record::BODY;
 use record::KIND;
 use tree::AI;
@@ -94,20 +95,30 @@ fn put_date(s: &[u8], out: &mut [u8], at: usize) -> usize
     )
 }
 
-fn put_timestamp(s: &[u8], out: &mut [u8], at: usize) -> usize
-    ensures { λ r. ⌜ Lays countLimit at (timestampText (le16 (now (s .entry)) 6) (getD (now (s .entry)) 8 0) (getD (now (s .entry)) 9 0) (getD (now (s .entry)) 10 0) (getD (now (s .entry)) 11 0) (getD (now (s .entry)) 12 0)) (now (out .entry)) (now (out .exit)) r ⌝ }
+fn put_timestamp(s: &[u8], writing: Writing, out: &mut [u8], at: usize) -> usize
+    ensures { λ r. ⌜ Lays countLimit at (timestampText writing (le16 (now (s .entry)) 6) (getD (now (s .entry)) 8 0) (getD (now (s .entry)) 9 0) (getD (now (s .entry)) 10 0) (getD (now (s .entry)) 11 0) (getD (now (s .entry)) 12 0)) (now (out .entry)) (now (out .exit)) r ⌝ }
 {
     let y = record::word_at(s, BODY);
     let m = record::byte_at(s, MONTH);
     let d = record::byte_at(s, DAY);
     let hour = record::byte_at(s, HOUR);
     let minute = record::byte_at(s, MINUTE);
-    literal::put_timestamp(y, m, d, hour, minute, record::byte_at(s, SECOND), out, at)
+    literal::put_timestamp(
+        writing,
+        y,
+        m,
+        d,
+        hour,
+        minute,
+        record::byte_at(s, SECOND),
+        out,
+        at,
+    )
 }
 
 // The text of a node without operands.
-pub(crate) fn put_leaf(s: &[u8], set: &[u8], out: &mut [u8], at: usize) -> usize
-    ensures { λ r. ⌜ Lays countLimit at (leafText (settingsIn (now (set .entry))) (now (s .entry))) (now (out .entry)) (now (out .exit)) r ⌝ }
+pub(crate) fn put_leaf(s: &[u8], set: &[u8], writing: Writing, out: &mut [u8], at: usize) -> usize
+    ensures { λ r. ⌜ Lays countLimit at (leafText writing (settingsIn (now (set .entry))) (now (s .entry))) (now (out .entry)) (now (out .exit)) r ⌝ }
 {
     match record::word_at(s, KIND) {
         NULL => emit::put(b"NULL", out, at),
@@ -121,7 +132,7 @@ pub(crate) fn put_leaf(s: &[u8], set: &[u8], out: &mut [u8], at: usize) -> usize
         ),
         STR => qstr_to_sql(s, set, out, at),
         DATE => put_date(s, out, at),
-        TIMESTAMP => put_timestamp(s, out, at),
+        TIMESTAMP => put_timestamp(s, writing, out, at),
         SPATIAL => literal::put_spatial(record::dword_at(s, BODY), rest(s, SPATIAL_TEXT), out, at),
         _ => emit::put(rest(s, BODY), out, at),
     }

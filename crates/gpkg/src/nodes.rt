@@ -4,7 +4,6 @@ ghost use mathlib.Core.Bool.{true, false};
 ghost use Prim.Native.Nat.{ℕ, _≤_, _<_};
 ghost use Rattle.record.specs.Record.{le16};
 ghost use lib.ListN.{length};
-ghost use Rattle.prelude.specs.Choice.{between};
 ghost use Rattle.emit.specs.Emit.{countLimit};
 ghost use Rattle.emit.specs.LaysWords.{Lays};
 ghost use Rattle.gpkg.specs.Text.{text, texts, joined};
@@ -50,6 +49,7 @@ use crate::records::least;
 use crate::records::rest;
 use crate::records::within;
 use emit::COUNT_LIMIT;
+use literal::Writing;
 use op::IS_BETWEEN;
 use op::IS_NOT_BETWEEN;
 use op::S_CONTAINS;
@@ -62,16 +62,23 @@ use tree::ID;
 use tree::MONADIC;
 
 // The items of a list, one after the other, with a comma between.
-fn write_items(s: &[u8], set: &[u8], words: &[u8; 256], out: &mut [u8], at: usize) -> usize
+fn write_items(
+    s: &[u8],
+    set: &[u8],
+    writing: Writing,
+    words: &[u8; 256],
+    out: &mut [u8],
+    at: usize,
+) -> usize
     requires { ⌜ (length (now s) ≤ treeLimit) × Spells (now words) ⌝ }
-    ensures { λ r. ⌜ ((ts : Trees) → now (s .entry) ≡ encodes ts → sounds ts ≡ true → Lays countLimit at (joined (texts (settingsIn (now (set .entry))) ts)) (now (out .entry)) (now (out .exit)) r) ⌝ }
+    ensures { λ r. ⌜ ((ts : Trees) → now (s .entry) ≡ encodes ts → sounds ts ≡ true → Lays countLimit at (joined (texts writing (settingsIn (now (set .entry))) ts)) (now (out .entry)) (now (out .exit)) r) ⌝ }
 {
     let mut here = emit::ended(at, 0);
     let mut p = 0;
     while p < s.len() {
         let comma = put_comma(p, out, here);
         let z = end_of(s, p);
-        here = to_sql_impl(&s[p..z], set, words, out, comma);
+        here = to_sql_impl(&s[p..z], set, writing, words, out, comma);
         p = z;
     }
     here
@@ -83,19 +90,20 @@ fn write_infix(
     op: usize,
     m: usize,
     set: &[u8],
+    writing: Writing,
     words: &[u8; 256],
     out: &mut [u8],
     at: usize,
 ) -> usize
     requires { ⌜ (length (now s) ≤ treeLimit) × (8 ≤ m) × (m ≤ length (now s)) × Spells (now words) ⌝ }
-    ensures { λ r. ⌜ ((t : Tree) → Node (now (s .entry)) DYADIC op m t → temporalNumber op ≡ false → spatialNumber op ≡ false → betweenNumber op ≡ false → Lays countLimit at (text (settingsIn (now (set .entry))) t) (now (out .entry)) (now (out .exit)) r) ⌝ }
+    ensures { λ r. ⌜ ((t : Tree) → Node (now (s .entry)) DYADIC op m t → temporalNumber op ≡ false → spatialNumber op ≡ false → betweenNumber op ≡ false → Lays countLimit at (text writing (settingsIn (now (set .entry))) t) (now (out .entry)) (now (out .exit)) r) ⌝ }
 {
     let a = is_left_bare(op, &s[OPERAND..m]);
     let b = is_right_bare(op, &s[m..]);
     let open = emit::put_either(a, b"", b"(", out, at);
-    let left = to_sql_impl(&s[OPERAND..m], set, words, out, open);
+    let left = to_sql_impl(&s[OPERAND..m], set, writing, words, out, open);
     let here = put_infix(a, op, b, words, out, left);
-    let right = to_sql_impl(&s[m..], set, words, out, here);
+    let right = to_sql_impl(&s[m..], set, writing, words, out, here);
     emit::put_either(b, b"", b")", out, right)
 }
 
@@ -104,12 +112,13 @@ fn write_monadic(
     s: &[u8],
     op: usize,
     set: &[u8],
+    writing: Writing,
     words: &[u8; 256],
     out: &mut [u8],
     at: usize,
 ) -> usize
     requires { ⌜ (length (now s) ≤ treeLimit) × (14 ≤ length (now s)) × Spells (now words) ⌝ }
-    ensures { λ r. ⌜ ((m : ℕ) (t : Tree) → Node (now (s .entry)) MONADIC op m t → Lays countLimit at (text (settingsIn (now (set .entry))) t) (now (out .entry)) (now (out .exit)) r) ⌝ }
+    ensures { λ r. ⌜ ((m : ℕ) (t : Tree) → Node (now (s .entry)) MONADIC op m t → Lays countLimit at (text writing (settingsIn (now (set .entry))) t) (now (out .entry)) (now (out .exit)) r) ⌝ }
 {
     let bare = is_literal_or_id(&s[OPERAND..]);
     let twin = is_twin(
@@ -119,7 +128,7 @@ fn write_monadic(
     );
     let from = operand_from(twin, s.len());
     let before = put_before(op, bare, words, out, at);
-    let here = to_sql_impl(&s[from..], set, words, out, before);
+    let here = to_sql_impl(&s[from..], set, writing, words, out, before);
     put_behind(op, bare, twin, set, words, out, here)
 }
 
@@ -129,17 +138,18 @@ fn write_bound(
     a: usize,
     z: usize,
     set: &[u8],
+    writing: Writing,
     words: &[u8; 256],
     out: &mut [u8],
     at: usize,
 ) -> usize
     requires { ⌜ (length (now s) ≤ treeLimit) × (8 ≤ a) × (a ≤ z) × (z ≤ length (now s)) × Spells (now words) ⌝ }
-    ensures { λ r. ⌜ ((x : Tree) → Bound (now (s .entry)) a z x → Lays countLimit at (text (settingsIn (now (set .entry))) x) (now (out .entry)) (now (out .exit)) r) ⌝ }
+    ensures { λ r. ⌜ ((x : Tree) → Bound (now (s .entry)) a z x → Lays countLimit at (text writing (settingsIn (now (set .entry))) x) (now (out .entry)) (now (out .exit)) r) ⌝ }
 {
     if a == z {
         return emit::put(b"NULL", out, at);
     }
-    to_sql_impl(&s[a..z], set, words, out, at)
+    to_sql_impl(&s[a..z], set, writing, words, out, at)
 }
 
 // BETWEEN, whose right side is an array of its bounds.
@@ -148,21 +158,22 @@ fn write_between(
     op: usize,
     m: usize,
     set: &[u8],
+    writing: Writing,
     words: &[u8; 256],
     out: &mut [u8],
     at: usize,
 ) -> usize
     requires { ⌜ (length (now s) ≤ treeLimit) × (8 ≤ m) × (m ≤ length (now s)) × Spells (now words) ⌝ }
-    ensures { λ r. ⌜ ((t : Tree) → Node (now (s .entry)) DYADIC op m t → betweenNumber op ≡ true → Lays countLimit at (text (settingsIn (now (set .entry))) t) (now (out .entry)) (now (out .exit)) r) ⌝ }
+    ensures { λ r. ⌜ ((t : Tree) → Node (now (s .entry)) DYADIC op m t → betweenNumber op ≡ true → Lays countLimit at (text writing (settingsIn (now (set .entry))) t) (now (out .entry)) (now (out .exit)) r) ⌝ }
 {
     let p = bounds_at(s, m);
     let q = end_of(s, p);
     let z = end_of(s, q);
-    let left = to_sql_impl(&s[OPERAND..m], set, words, out, at);
+    let left = to_sql_impl(&s[OPERAND..m], set, writing, words, out, at);
     let word = put_infix(true, op, true, words, out, left);
-    let low = write_bound(s, p, q, set, words, out, word);
+    let low = write_bound(s, p, q, set, writing, words, out, word);
     let upto = emit::put(b" AND ", out, low);
-    write_bound(s, q, z, set, words, out, upto)
+    write_bound(s, q, z, set, writing, words, out, upto)
 }
 
 // A spatial operator: a call, of whose sides one may have its precision reduced.
@@ -171,12 +182,13 @@ fn write_spatial(
     op: usize,
     m: usize,
     set: &[u8],
+    writing: Writing,
     words: &[u8; 256],
     out: &mut [u8],
     at: usize,
 ) -> usize
     requires { ⌜ (length (now s) ≤ treeLimit) × (8 ≤ m) × (m ≤ length (now s)) × Spells (now words) ⌝ }
-    ensures { λ r. ⌜ ((t : Tree) → Node (now (s .entry)) DYADIC op m t → spatialNumber op ≡ true → Lays countLimit at (text (settingsIn (now (set .entry))) t) (now (out .entry)) (now (out .exit)) r) ⌝ }
+    ensures { λ r. ⌜ ((t : Tree) → Node (now (s .entry)) DYADIC op m t → spatialNumber op ≡ true → Lays countLimit at (text writing (settingsIn (now (set .entry))) t) (now (out .entry)) (now (out .exit)) r) ⌝ }
 {
     let x = is_kind(&s[OPERAND..m], ID);
     let y = is_kind(&s[m..], ID);
@@ -184,10 +196,10 @@ fn write_spatial(
     let b = reduce_precision(op, y, x);
     let word = put_word(op, words, out, at);
     let open = emit::put_either(a, b"(ST_ReducePrecision(", b"(", out, word);
-    let left = to_sql_impl(&s[OPERAND..m], set, words, out, open);
+    let left = to_sql_impl(&s[OPERAND..m], set, writing, words, out, open);
     let comma = put_reduced(a, set, out, left);
     let next = emit::put_either(b, b", ST_ReducePrecision(", b", ", out, comma);
-    let right = to_sql_impl(&s[m..], set, words, out, next);
+    let right = to_sql_impl(&s[m..], set, writing, words, out, next);
     let close = put_reduced(b, set, out, right);
     emit::put(b")", out, close)
 }
@@ -199,35 +211,43 @@ fn write_others(
     op: usize,
     m: usize,
     set: &[u8],
+    writing: Writing,
     words: &[u8; 256],
     out: &mut [u8],
     at: usize,
 ) -> usize
     requires { ⌜ (length (now s) ≤ treeLimit) × (14 ≤ length (now s)) × (8 ≤ m) × (m ≤ length (now s)) × Spells (now words) ⌝ }
-    ensures { λ r. ⌜ ((t : Tree) → Node (now (s .entry)) kind op m t → temporalOf kind op ≡ false → Lays countLimit at (text (settingsIn (now (set .entry))) t) (now (out .entry)) (now (out .exit)) r) ⌝ }
+    ensures { λ r. ⌜ ((t : Tree) → Node (now (s .entry)) kind op m t → temporalOf kind op ≡ false → Lays countLimit at (text writing (settingsIn (now (set .entry))) t) (now (out .entry)) (now (out .exit)) r) ⌝ }
 {
     if kind == MONADIC {
-        return write_monadic(s, op, set, words, out, at);
+        return write_monadic(s, op, set, writing, words, out, at);
     }
     if within(IS_BETWEEN, op, IS_NOT_BETWEEN) {
-        return write_between(s, op, m, set, words, out, at);
+        return write_between(s, op, m, set, writing, words, out, at);
     }
     if within(S_INTERSECTS, op, S_CONTAINS) {
-        return write_spatial(s, op, m, set, words, out, at);
+        return write_spatial(s, op, m, set, writing, words, out, at);
     }
-    write_infix(s, op, m, set, words, out, at)
+    write_infix(s, op, m, set, writing, words, out, at)
 }
 
 // The text of a node with operands: of a temporal one its template filled.
-fn write_operands(s: &[u8], set: &[u8], words: &[u8; 256], out: &mut [u8], at: usize) -> usize
+fn write_operands(
+    s: &[u8],
+    set: &[u8],
+    writing: Writing,
+    words: &[u8; 256],
+    out: &mut [u8],
+    at: usize,
+) -> usize
     requires { ⌜ (length (now s) ≤ treeLimit) × (14 ≤ length (now s)) × Spells (now words) ⌝ }
-    ensures { λ r. ⌜ ((t : Tree) → now (s .entry) ≡ encode t → sound t ≡ true → 9 ≤ le16 (now (s .entry)) 4 → le16 (now (s .entry)) 4 < 11 → Lays countLimit at (text (settingsIn (now (set .entry))) t) (now (out .entry)) (now (out .exit)) r) ⌝ }
+    ensures { λ r. ⌜ ((t : Tree) → now (s .entry) ≡ encode t → sound t ≡ true → 9 ≤ le16 (now (s .entry)) 4 → le16 (now (s .entry)) 4 < 11 → Lays countLimit at (text writing (settingsIn (now (set .entry))) t) (now (out .entry)) (now (out .exit)) r) ⌝ }
 {
     let kind = record::word_at(s, KIND);
     let op = record::word_at(s, BODY);
     let m = end_of(s, OPERAND);
     if !is_temporal(kind, op) {
-        return write_others(s, kind, op, m, set, words, out, at);
+        return write_others(s, kind, op, m, set, writing, words, out, at);
     }
     let e = temporal_ends(s, m);
     let t = template_of(s, op, m, e);
@@ -249,7 +269,7 @@ fn write_operands(s: &[u8], set: &[u8], words: &[u8; 256], out: &mut [u8], at: u
                 if !inside(a, z, s.len()) {
                     return here;
                 }
-                here = to_sql_impl(&s[a..z], set, words, out, here);
+                here = to_sql_impl(&s[a..z], set, writing, words, out, here);
             }
             Piece::Name(a, z) => {
                 if !inside(a, z, s.len()) {
@@ -266,12 +286,13 @@ fn write_operands(s: &[u8], set: &[u8], words: &[u8; 256], out: &mut [u8], at: u
 pub(crate) fn to_sql_impl(
     s: &[u8],
     set: &[u8],
+    writing: Writing,
     words: &[u8; 256],
     out: &mut [u8],
     at: usize,
 ) -> usize
     requires { ⌜ (length (now s) ≤ treeLimit) × Spells (now words) ⌝ }
-    ensures { λ r. ⌜ ((t : Tree) → now (s .entry) ≡ encode t → sound t ≡ true → Lays countLimit at (text (settingsIn (now (set .entry))) t) (now (out .entry)) (now (out .exit)) r) ⌝ }
+    ensures { λ r. ⌜ ((t : Tree) → now (s .entry) ≡ encode t → sound t ≡ true → Lays countLimit at (text writing (settingsIn (now (set .entry))) t) (now (out .entry)) (now (out .exit)) r) ⌝ }
 {
     // Past the limit nothing is counted or written any more.
     if COUNT_LIMIT <= at {
@@ -279,7 +300,7 @@ pub(crate) fn to_sql_impl(
     }
     let kind = record::word_at(s, KIND);
     if kind < MONADIC {
-        return put_leaf(s, set, out, at);
+        return put_leaf(s, set, writing, out, at);
     }
     if ARRAY < kind {
         return emit::ended(at, 0);
@@ -291,12 +312,12 @@ pub(crate) fn to_sql_impl(
         if s.len() < OPERAND_BODY {
             return emit::ended(at, 0);
         }
-        return write_operands(s, set, words, out, at);
+        return write_operands(s, set, writing, words, out, at);
     }
     let to = items_at(s, kind);
     let from = least(NAME, to);
     let name = emit::put(&s[from..to], out, at);
     let open = emit::put(b"(", out, name);
-    let here = write_items(&s[to..], set, words, out, open);
+    let here = write_items(&s[to..], set, writing, words, out, open);
     emit::put(b")", out, here)
 }

@@ -8,6 +8,8 @@ use lib.Dec.{ltb, eqb}
 use Rattle.prelude.specs.Choice.{pick}
 use Rattle.prelude.specs.Bytes.{bytes}
 use Rattle.string.specs.Quote.{inQuotes, doubled}
+use Rattle.literal.specs.declared.Writing.{Writing}
+use Rattle.literal.specs.declared.Writing.the-variants.{Rust, GeoPackage}
 
 -- ---- words
 
@@ -84,9 +86,14 @@ date y m d = low 4 y ++ (bytes "-" ++ (low 2 m ++ (bytes "-" ++ low 2 d)))
 unfoldable pub clock : (hour minute second : ℕ) → List ℕ
 clock hour minute second = low 2 hour ++ (bytes ":" ++ (low 2 minute ++ (bytes ":" ++ low 2 second)))
 
--- YYYY-MM-DDTHH:MM:SS
-unfoldable pub timestamp : (y m d hour minute second : ℕ) → List ℕ
-timestamp y m d hour minute second = date y m d ++ (bytes "T" ++ clock hour minute second)
+-- after the seconds: nothing in the Rust's writing; in GeoPackage's (document 02, slip 4) milliseconds and Z, as the civil fields are UTC
+unfoldable pub afterSeconds : Writing → List ℕ
+afterSeconds Rust = []
+afterSeconds GeoPackage = bytes ".000Z"
+
+-- YYYY-MM-DDTHH:MM:SS, or YYYY-MM-DDTHH:MM:SS.000Z
+unfoldable pub timestamp : Writing → (y m d hour minute second : ℕ) → List ℕ
+timestamp w y m d hour minute second = date y m d ++ (bytes "T" ++ (clock hour minute second ++ afterSeconds w))
 
 -- where an end stands: alone, as an Interval's first end, or as its second
 pub data Slot : Type 0 where
@@ -110,8 +117,8 @@ abbrev pub dateText : (y m d : ℕ) → List ℕ
 dateText y m d = quoted (date y m d)
 
 -- Timestamp
-abbrev pub timestampText : (y m d hour minute second : ℕ) → List ℕ
-timestampText y m d hour minute second = quoted (timestamp y m d hour minute second)
+abbrev pub timestampText : Writing → (y m d hour minute second : ℕ) → List ℕ
+timestampText w y m d hour minute second = quoted (timestamp w y m d hour minute second)
 
 -- Unbounded that is no Interval's end
 abbrev pub unboundedText : List ℕ

@@ -11,7 +11,9 @@ use lib.Dec.{ltb, eqb}
 use borrow.Author.Tests.{lt-ltb, le-ltb, ltb-false, ltb-true, eq-eqb, ne-eqb}
 use Rattle.prelude.specs.Choice.{pick}
 use Rattle.prelude.specs.Bytes.{bytes}
-use Rattle.literal.specs.Literal.{low, digits, decimal, pointed, plain, quoted, collate, spatialText, date, clock, timestamp, Slot, openEnd, dateText, timestampText, unboundedText}
+use Rattle.literal.specs.declared.Writing.{Writing}
+use Rattle.literal.specs.declared.Writing.the-variants.{Rust, GeoPackage}
+use Rattle.literal.specs.Literal.{low, digits, decimal, pointed, plain, quoted, collate, spatialText, date, clock, afterSeconds, timestamp, Slot, openEnd, dateText, timestampText, unboundedText}
 
 -- ---- digits
 
@@ -183,9 +185,10 @@ pub length-date : (y m d : ℕ) → length (dateText y m d) ≡ 12
 unfolding quoted date low
 length-date y m d = refl
 
-pub length-timestamp : (y m d hour minute second : ℕ) → length (timestampText y m d hour minute second) ≡ 21
-unfolding quoted timestamp date clock low
-length-timestamp y m d hour minute second = refl
+pub length-timestamp : (w : Writing) (y m d hour minute second : ℕ) → length (timestampText w y m d hour minute second) ≡ 21 + length (afterSeconds w)
+unfolding quoted timestamp afterSeconds date clock low
+length-timestamp Rust y m d hour minute second = refl
+length-timestamp GeoPackage y m d hour minute second = refl
 
 -- every slot spells an open end alike
 pub slots-alike : (p q : Slot) → openEnd p ≡ openEnd q

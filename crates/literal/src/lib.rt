@@ -3,13 +3,14 @@ ghost use mathlib.Core.Path.{_≡_};
 ghost use Prim.Native.Nat.{_+_, _/_, _%_, _^_, _≤_, _<_};
 ghost use lib.ListN.{length};
 ghost use lib.IntN.{natAbs};
-ghost use Rattle.literal.specs.Literal.{boolText, unboundedText, low, decimal, plain, sign, numText, quoted, collate, date, clock, dateText, timestampText, spatialText};
+ghost use Rattle.literal.specs.Literal.{boolText, unboundedText, low, decimal, plain, sign, numText, quoted, collate, date, clock, afterSeconds, dateText, timestampText, spatialText};
 ghost use Rattle.literal.specs.LiteralLaws.{shown};
 ghost use Rattle.prelude.specs.Choice.{both, all};
 ghost use Rattle.string.specs.Quote.{doubled};
 ghost use Rattle.string.specs.QuoteLaws.{noMark};
 ghost use lib.Seq.{sets};
-ghost use mathlib.Core.List.{_∷_, []};
+ghost use mathlib.Core.List.{_∷_, [], _++_};
+ghost use Rattle.prelude.specs.Bytes.{bytes};
 ghost use Rattle.emit.specs.Emit.{countLimit, Puts};
 ghost use Rattle.literal.specs.SearchWords.{Searched};
 
@@ -20,8 +21,17 @@ const COLLATE: usize = 9;
 
 const GEOMETRY: usize = 21;
 
-// How many bytes a timestamp's text has.
+// How many bytes a timestamp's text has without milliseconds, its two quotation marks included.
 const TIMESTAMP: usize = 21;
+
+// How many bytes `.000Z` adds to it.
+const MILLISECONDS: usize = 5;
+
+// How timestamps are written: as the Rust does, or as GeoPackage stores them in DATETIME columns.
+pub enum Writing {
+    Rust,
+    GeoPackage,
+}
 
 // Writes TRUE or FALSE.
 pub fn put_bool(b: bool, out: &mut [u8], at: usize) -> usize
@@ -380,8 +390,29 @@ pub fn put_date(y: usize, m: usize, d: usize, out: &mut [u8], at: usize) -> usiz
     put_quoted(&text, out, at)
 }
 
+// How many bytes a timestamp's text has.
+fn timestamp_len(writing: Writing) -> usize
+    ensures { λ r. ⌜ r ≡ 21 + length (afterSeconds writing) ⌝ }
+{
+    match writing {
+        Writing::Rust => TIMESTAMP,
+        Writing::GeoPackage => TIMESTAMP + MILLISECONDS,
+    }
+}
+
+// Writes what follows a timestamp's seconds: as GeoPackage stores it milliseconds and the zone, UTC; in either writing the closing quotation mark.
+fn put_close(writing: Writing, out: &mut [u8], at: usize) -> usize
+    ensures { λ r. ⌜ Puts countLimit at (afterSeconds writing ++ bytes "'") (now (out .entry)) (now (out .exit)) r ⌝ }
+{
+    match writing {
+        Writing::Rust => emit::put(b"'", out, at),
+        Writing::GeoPackage => emit::put(b".000Z'", out, at),
+    }
+}
+
 // Writes a timestamp in quotes.
 pub fn put_timestamp(
+    writing: Writing,
     y: usize,
     m: usize,
     d: usize,
@@ -391,10 +422,11 @@ pub fn put_timestamp(
     out: &mut [u8],
     at: usize,
 ) -> usize
-    ensures { λ r. ⌜ Puts countLimit at (timestampText y m d hour minute second) (now (out .entry)) (now (out .exit)) r ⌝ }
+    ensures { λ r. ⌜ Puts countLimit at (timestampText writing y m d hour minute second) (now (out .entry)) (now (out .exit)) r ⌝ }
 {
-    if emit::lacks_room(out.len(), at, TIMESTAMP) {
-        return emit::ended(at, TIMESTAMP);
+    let n = timestamp_len(writing);
+    if emit::lacks_room(out.len(), at, n) {
+        return emit::ended(at, n);
     }
     let day = date_of(y, m, d);
     let time = clock_of(hour, minute, second);
@@ -402,7 +434,7 @@ pub fn put_timestamp(
     let letter = emit::put(&day, out, from);
     let hours = emit::put(b"T", out, letter);
     let close = emit::put(&time, out, hours);
-    emit::put(b"'", out, close)
+    put_close(writing, out, close)
 }
 
 // Writes an open end.

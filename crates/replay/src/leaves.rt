@@ -4,6 +4,7 @@
 use crate::cases::Turn;
 use crate::cases::all_are;
 use crate::lines::say;
+use literal::Writing;
 use record::BODY;
 use record::KIND;
 use record::byte_at;
@@ -58,6 +59,7 @@ fn write_date(body: &[u8], out: &mut [u8]) -> usize {
 
 fn write_timestamp(body: &[u8], out: &mut [u8]) -> usize {
     literal::put_timestamp(
+        Writing::Rust,
         word_at(body, 0),
         byte_at(body, 2),
         byte_at(body, 3),

@@ -1,5 +1,6 @@
-// Trees with texts that the Rust wrote, against gpkg::to_sql. A case: the settings, the tree, the buffer's length in four bytes,
-// the answer, which is a byte 0 and the text, or the refusal's number.
+// Trees with texts that the Rust wrote, against gpkg::to_sql; or with the same texts, `.000Z` after the seconds of each timestamp, against
+// gpkg::to_geopackage_sql. A case: the settings, the tree, the buffer's length in four bytes, the answer, which is a byte 0 and the text, or the
+// refusal's number.
 ghost use mathlib.Core.Path.{_≡_};
 ghost use Prim.Native.Nat.{_<_};
 ghost use lib.ListN.{length};
@@ -7,6 +8,7 @@ use crate::cases::Turn;
 use crate::cases::all_are;
 use crate::lines::say;
 use gpkg::Lowered;
+use literal::Writing;
 
 // A byte that no text has: the buffer is full of it before the call.
 const BLANK: u8 = 7;
@@ -51,21 +53,41 @@ fn found_of<'a>(r: Lowered, text: &'a [u8], out: &'a [u8]) -> u8 {
     }
 }
 
+fn lower(writing: Writing, settings: &[u8], tree: &[u8], out: &mut [u8]) -> Lowered {
+    match writing {
+        Writing::Rust => gpkg::to_sql(settings, tree, out),
+        Writing::GeoPackage => gpkg::to_geopackage_sql(settings, tree, out),
+    }
+}
+
 // A part of the buffer is lent, and the whole is compared.
-fn lowered(settings: &[u8], tree: &[u8], text: &[u8], out: &mut [u8], room: usize) -> u8 {
+fn lowered(
+    writing: Writing,
+    settings: &[u8],
+    tree: &[u8],
+    text: &[u8],
+    out: &mut [u8],
+    room: usize,
+) -> u8 {
     if out.len() < room {
         return NO_ROOM;
     }
-    let r = gpkg::to_sql(settings, tree, &mut out[..room]);
+    let r = lower(writing, settings, tree, &mut out[..room]);
     found_of(r, text, out)
 }
 
-fn answer(settings: &[u8], tree: &[u8], text: &[u8], room: usize) -> u8 {
+fn answer(writing: Writing, settings: &[u8], tree: &[u8], text: &[u8], room: usize) -> u8 {
     let mut out = blank_buffer();
-    lowered(settings, tree, text, &mut out, room)
+    lowered(writing, settings, tree, text, &mut out, room)
 }
 
-pub(crate) fn judged(settings: &[u8], tree: &[u8], room: &[u8], stored: &[u8]) -> Turn {
+pub(crate) fn judged(
+    writing: Writing,
+    settings: &[u8],
+    tree: &[u8],
+    room: &[u8],
+    stored: &[u8],
+) -> Turn {
     if room.len() != 4 {
         return Turn::Broken;
     }
@@ -74,7 +96,13 @@ pub(crate) fn judged(settings: &[u8], tree: &[u8], room: &[u8], stored: &[u8]) -
     }
     Turn::Case {
         want: stored[0],
-        found: answer(settings, tree, &stored[1..], record::dword_at(room, 0)),
+        found: answer(
+            writing,
+            settings,
+            tree,
+            &stored[1..],
+            record::dword_at(room, 0),
+        ),
     }
 }
 

@@ -8,6 +8,7 @@ use crate::cases::Turn;
 use crate::lines::say;
 use crate::lines::write;
 use input::first;
+use literal::Writing;
 
 mod cases;
 mod leaves;
@@ -26,9 +27,11 @@ enum Kind {
     Leaves,
     Lowerings,
     TextLowerings,
+    GeoPackageLowerings,
     Readings,
     KeywordReadings,
     TextReadings,
+    GeoPackageReadings,
 }
 
 // More cases than any file has.
@@ -53,9 +56,11 @@ fn begin_line(kind: Kind) {
         Kind::Leaves => write(b"leaves: "),
         Kind::Lowerings => write(b"lowerings: "),
         Kind::TextLowerings => write(b"text_lowerings: "),
+        Kind::GeoPackageLowerings => write(b"geopackage_lowerings: "),
         Kind::Readings => write(b"readings: "),
         Kind::KeywordReadings => write(b"keyword_readings: "),
         Kind::TextReadings => write(b"text_readings: "),
+        Kind::GeoPackageReadings => write(b"geopackage_readings: "),
     }
 }
 
@@ -77,9 +82,11 @@ fn open(kind: Kind) -> i32 {
         Kind::Leaves => open_path(b"leaves"),
         Kind::Lowerings => open_path(b"lowerings"),
         Kind::TextLowerings => open_path(b"text_lowerings"),
+        Kind::GeoPackageLowerings => open_path(b"geopackage_lowerings"),
         Kind::Readings => open_path(b"readings"),
         Kind::KeywordReadings => open_path(b"keyword_readings"),
         Kind::TextReadings => open_path(b"text_readings"),
+        Kind::GeoPackageReadings => open_path(b"geopackage_readings"),
     }
 }
 
@@ -89,8 +96,8 @@ fn parts_of(kind: Kind) -> usize {
         Kind::Operators => 1,
         Kind::Trees | Kind::KeywordTrees | Kind::TextTrees => 3,
         Kind::Leaves => 2,
-        Kind::Lowerings | Kind::TextLowerings => 4,
-        Kind::Readings | Kind::KeywordReadings | Kind::TextReadings => 3,
+        Kind::Lowerings | Kind::TextLowerings | Kind::GeoPackageLowerings => 4,
+        Kind::Readings | Kind::KeywordReadings | Kind::TextReadings | Kind::GeoPackageReadings => 3,
     }
 }
 
@@ -100,8 +107,10 @@ fn judged<'a>(kind: Kind, place: u64, a: &'a [u8], b: &'a [u8], c: &'a [u8], d: 
         Kind::Operators => operators::judged(a, place as usize),
         Kind::Trees | Kind::KeywordTrees | Kind::TextTrees => trees::judged(a, b, c),
         Kind::Leaves => leaves::judged(a, b),
-        Kind::Lowerings | Kind::TextLowerings => lowerings::judged(a, b, c, d),
-        Kind::Readings | Kind::KeywordReadings | Kind::TextReadings => readings::judged(a, b, c),
+        Kind::Lowerings | Kind::TextLowerings => lowerings::judged(Writing::Rust, a, b, c, d),
+        Kind::GeoPackageLowerings => lowerings::judged(Writing::GeoPackage, a, b, c, d),
+        Kind::Readings | Kind::KeywordReadings | Kind::TextReadings | Kind::GeoPackageReadings =>
+            readings::judged(a, b, c),
     }
 }
 
@@ -190,11 +199,12 @@ fn report(kind: Kind, done: u64, counts: [u64; 16]) {
         Kind::Operators => operators::report(done, counts),
         Kind::Trees | Kind::KeywordTrees | Kind::TextTrees => trees::report(done, counts),
         Kind::Leaves => leaves::report(done, counts),
-        Kind::Lowerings | Kind::TextLowerings => lowerings::report(done, counts),
-        Kind::Readings | Kind::KeywordReadings | Kind::TextReadings => readings::report(
+        Kind::Lowerings | Kind::TextLowerings | Kind::GeoPackageLowerings => lowerings::report(
             done,
             counts,
         ),
+        Kind::Readings | Kind::KeywordReadings | Kind::TextReadings | Kind::GeoPackageReadings =>
+            readings::report(done, counts),
     }
     write(b"\n");
 }
@@ -222,7 +232,9 @@ fn main() {
     replay(Kind::Leaves);
     replay(Kind::Lowerings);
     replay(Kind::TextLowerings);
+    replay(Kind::GeoPackageLowerings);
     replay(Kind::Readings);
     replay(Kind::KeywordReadings);
     replay(Kind::TextReadings);
+    replay(Kind::GeoPackageReadings);
 }

@@ -1,5 +1,6 @@
--- Document 01's sixteen sheets A to P as one table: precision 7, collations NC, NA, NCA. Each line is checked by `right`, and `Hold.antt` has the
--- one proof. The settings and the trees of A, B and O stand as bytes, so that a mistake that `encode` and `parse` share cannot pass.
+-- Document 01's sixteen sheets A to P as one table, and a second table for the call that writes timestamps as GeoPackage stores them (document 02,
+-- slip 4): precision 7, collations NC, NA, NCA. Each line is checked by `right`, and `Hold.antt` has the one proof. The settings, the trees of A, B
+-- and O and the second table's first Timestamp stand as bytes, so that a mistake that `encode` and `parse` share cannot pass.
 use Prim.Native.Nat.{ℕ}
 use mathlib.Core.List.{List, [], _∷_, _++_}
 use mathlib.Core.Bool.{Bool, true, false}
@@ -8,9 +9,10 @@ use lib.IntN.{pos}
 use Rattle.prelude.specs.Bytes.{bytes}
 use Rattle.prelude.specs.Choice.{both, same}
 use Rattle.refusal.specs.Number.{numberOf}
-use Rattle.op.specs.declared.Op.the-variants.{Eq, CaseI, AccentI, SWithin, TAfter, TDisjoint, TIntersects, IsLike, IsInList}
-use Rattle.tree.specs.Tree.{Tree, null, unbounded, num, str, date, spatial, id, monadic, dyadic, array, interval, none, _then_, encode}
+use Rattle.op.specs.declared.Op.the-variants.{Eq, CaseI, AccentI, SWithin, TAfter, TDisjoint, TIntersects, TMeets, IsLike, IsBetween, IsInList}
+use Rattle.tree.specs.Tree.{Tree, null, unbounded, num, str, date, timestamp, spatial, id, monadic, dyadic, function, array, interval, none, _then_, encode}
 use Rattle.tree.specs.Parse.{Read, refused, got}
+use Rattle.literal.specs.declared.Writing.{Writing}
 use Rattle.gpkg.specs.Lowered.{lowering}
 use Rattle.truth.specs.declared.Reading.{Reading}
 use Rattle.truth.specs.declared.Reading.the-variants.{True, False, Unknown, Refused}
@@ -26,7 +28,7 @@ pub data Sheet : Type 0 where
 abbrev pub settings : List ℕ
 settings = 13 ∷ 0 ∷ 0 ∷ 0 ∷ 100 ∷ 0 ∷ 7 ∷ 2 ∷ (bytes "NC" ++ (2 ∷ (bytes "NA" ++ (3 ∷ bytes "NCA"))))
 
--- the bytes of a buffer that is long enough for each
+-- the bytes of the buffer: enough for every text here, but for the one that is refused with 9
 abbrev pub room : ℕ
 room = 100
 
@@ -45,14 +47,15 @@ code False = 102
 code Unknown = 103
 code (Refused n) = numberOf n
 
-abbrev pub right : Sheet → Bool
-right (lowers s x) = isText (lowering settings s room) x
-right (refuses s r) = isRefusal (lowering settings s room) r
-right (reads x row r) = eqb (code (readingOf x row)) (code r)
+-- a sheet is right in the call of this writing
+abbrev pub right : Writing → Sheet → Bool
+right w (lowers s x) = isText (lowering w settings s room) x
+right w (refuses s r) = isRefusal (lowering w settings s room) r
+right w (reads x row r) = eqb (code (readingOf x row)) (code r)
 
-abbrev pub all : List Sheet → Bool
-all [] = true
-all (s ∷ rest) = both (right s) (all rest)
+abbrev pub all : Writing → List Sheet → Bool
+all w [] = true
+all w (s ∷ rest) = both (right w s) (all w rest)
 
 -- columns
 abbrev a : Tree
@@ -113,5 +116,43 @@ sheets =
     -- O: an Interval as root, of a and b: 7
     ∷ refuses (16 ∷ 0 ∷ 0 ∷ 0 ∷ 13 ∷ 0 ∷ 3 ∷ 0 ∷ 0 ∷ 0 ∷ 8 ∷ 0 ∷ (bytes "a" ++ (3 ∷ 0 ∷ 0 ∷ 0 ∷ 8 ∷ 0 ∷ bytes "b"))) 7
     -- P: the empty tree: 3
+    ∷ refuses [] 3
+    ∷ []
+
+-- 12:30:45 on 29 February 2024, and how the second call writes it
+abbrev instant : Tree
+instant = timestamp 2024 2 29 12 30 45
+
+abbrev instantText : List ℕ
+instantText = bytes "'2024-02-29T12:30:45.000Z'"
+
+-- a row whose value of a lies half a second later
+abbrev rowLater : List ℕ
+rowLater = 29 ∷ 0 ∷ 0 ∷ 0 ∷ 200 ∷ 0 ∷ 1 ∷ (bytes "a" ++ (1 ∷ bytes "2024-02-29T12:30:45.500Z"))
+
+abbrev pub geopackageSheets : List Sheet
+geopackageSheets =
+    -- a Timestamp by its bytes, a Date, an Unbounded
+    lowers (9 ∷ 0 ∷ 0 ∷ 0 ∷ 6 ∷ 0 ∷ 232 ∷ 7 ∷ 2 ∷ 29 ∷ 12 ∷ 30 ∷ 45 ∷ []) instantText
+    ∷ lowers (encode (date 2024 2 29)) (bytes "'2024-02-29'")
+    ∷ lowers (encode unbounded) (bytes "'-2021-01-01'")
+    -- a Str that looks like a timestamp keeps its own bytes
+    ∷ lowers (encode (dyadic Eq a (str 0 (bytes "2024-02-29T12:30:45")))) (bytes "a = '2024-02-29T12:30:45'")
+    -- timestamps in several places: compared, in a list, as bounds, as an argument, as instant and as either end of an Interval
+    ∷ lowers (encode (dyadic Eq a instant)) (bytes "a = " ++ instantText)
+    ∷ lowers (encode (dyadic IsInList a (array (instant then (date 2024 2 29 then none))))) (bytes "a IN (" ++ (instantText ++ bytes ", '2024-02-29')"))
+    ∷ lowers (encode (dyadic IsBetween a (array (instant then (instant then none))))) (bytes "a BETWEEN " ++ (instantText ++ (bytes " AND " ++ instantText)))
+    ∷ lowers (encode (function (bytes "f") (instant then none))) (bytes "f(" ++ (instantText ++ bytes ")"))
+    ∷ lowers (encode (dyadic TAfter a instant)) (bytes "a > " ++ instantText)
+    ∷ lowers (encode (dyadic TIntersects instant (interval unbounded c))) (bytes "NOT((" ++ (instantText ++ (bytes " < '-2021-01-01') OR (" ++ (instantText ++ bytes " > c))"))))
+    ∷ lowers (encode (dyadic TMeets (interval a instant) (interval instant d)))
+    (bytes "\"a\" IS NOT NULL AND \"d\" NOT NULL AND (" ++ (instantText ++ (bytes " = " ++ (instantText ++ bytes ")"))))
+    -- the reader takes such texts
+    ∷ reads (bytes "a > " ++ instantText) rowLater True
+    ∷ reads (bytes "a = " ++ instantText) rowLater False
+    -- 115 bytes, where the buffer has 100: 9
+    ∷ refuses (encode (dyadic TDisjoint instant (interval c instant))) 9
+    -- other refusals are the first call's, here 7 and 3
+    ∷ refuses (encode (interval a instant)) 7
     ∷ refuses [] 3
     ∷ []

@@ -6,19 +6,21 @@ use lib.ListN.{length}
 use Rattle.tree.specs.Tree.{Tree, Settings, Bytes}
 use Rattle.tree.specs.Parse.{got}
 use Rattle.tree.specs.Accepted.{accepted}
+use Rattle.literal.specs.declared.Writing.{Writing}
 use Rattle.gpkg.specs.Lowered.{lowering}
 use Rattle.row.specs.Row.{Column, rowOf, columns}
 use Rattle.truth.specs.Reading.{rowLimit}
 
--- A filter is accepted if lowering answers a text: some settings, and records that hold the tree t, are lowered to the text x.
-pub record Lowers (t : Tree) (x : List ℕ) : Type 0 where
+-- A filter is accepted if lowering answers a text: some settings, and records that hold the tree t, are lowered to the text x by the
+-- call of the writing w: Rust is the first call, GeoPackage the second.
+pub record Lowers (w : Writing) (t : Tree) (x : List ℕ) : Type 0 where
   pub settings : List ℕ
   pub tree : List ℕ
   pub room : ℕ
   pub bytes : Bytes tree
   pub holds : Settings
   pub read : accepted settings tree ≡ got (holds, t)
-  pub lowered : lowering settings tree room ≡ got x
+  pub lowered : lowering w settings tree room ≡ got x
 
 -- A row that passes 10 and 11 has these columns.
 pub record IsRow (row : List ℕ) (cs : List Column) : Type 0 where

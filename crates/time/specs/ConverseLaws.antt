@@ -10,6 +10,7 @@ use Rattle.op.specs.declared.Op.the-variants.{TContains, TDuring, TFinishedBy, 
 use Rattle.op.specs.Op.{isTemporal}
 use Rattle.tree.specs.Tree.{Tree, dyadic}
 use Rattle.tree.specs.Tests.{byOperator, isInterval, isId, startOf, stopOf, endsOf, columnsOf}
+use Rattle.literal.specs.declared.Writing.{Writing}
 use Rattle.literal.specs.Literal.{startSlot, stopSlot}
 use Rattle.sql.specs.Condition.{test, lt, gt, eq}
 use Rattle.sql.specs.Translators.{translate, tAfter, tBefore, tContains, tDisjoint, tDuring, tEquals, tFinishedBy, tFinishes, tIntersects, tMeets, tMetBy, tOverlappedBy, tOverlaps, tStartedBy, tStarts}
@@ -23,31 +24,31 @@ use Rattle.time.specs.Converse.{converse, Turned, keep, turn, in-both, i
 use Rattle.time.specs.OperatorLaws.{done, _also_, of-temporal}
 use Rattle.time.specs.TruthLaws.{or3-comm, lt-gt, gt-lt, eq-eq, ne-ne, guard, guards-swap, check-id, check-ids}
 
-module _ (cs : List Column) (t u : Tree) where
+module _ (writing : Writing) (cs : List Column) (t u : Tree) where
   -- the four ends of t and u; of u and t they are the third, the fourth, the first and the second of these
   abbrev here : ℕ → Found
-  here = endValues cs t u
+  here = endValues writing cs t u
 
   abbrev cols : ℕ → Bool
   cols = columnsOf t u
 
   abbrev there : ℕ → Found
-  there = endValues cs u t
+  there = endValues writing cs u t
 
   abbrev cols' : ℕ → Bool
   cols' = columnsOf u t
 
   abbrev x0 : Found
-  x0 = endOn cs (startSlot (isInterval t)) (startOf t)
+  x0 = endOn writing cs (startSlot (isInterval t)) (startOf t)
 
   abbrev x1 : Found
-  x1 = endOn cs (stopSlot (isInterval t)) (stopOf t)
+  x1 = endOn writing cs (stopSlot (isInterval t)) (stopOf t)
 
   abbrev x2 : Found
-  x2 = endOn cs (startSlot (isInterval u)) (startOf u)
+  x2 = endOn writing cs (startSlot (isInterval u)) (startOf u)
 
   abbrev x3 : Found
-  x3 = endOn cs (stopSlot (isInterval u)) (stopOf u)
+  x3 = endOn writing cs (stopSlot (isInterval u)) (stopOf u)
 
   abbrev c0 : Bool
   c0 = isId (startOf t)
@@ -86,23 +87,23 @@ module _ (cs : List Column) (t u : Tree) where
   intersects-turned true false = cc (lt-gt x1 x2, gt-lt x0 x2, or3-comm (compared LT x1 x2) (compared GT x0 x2))
   intersects-turned true true = cc (lt-gt x1 x2, gt-lt x0 x3, or3-comm (compared LT x1 x2) (compared GT x0 x3))
 
-  contains-during : temporalTruth cs TContains t u ≡ temporalTruth cs TDuring u t
+  contains-during : temporalTruth writing cs TContains t u ≡ temporalTruth writing cs TDuring u t
   unfolding temporalTruth translate condTruth tContains tDuring endsOf
   contains-during = cc (lt-gt x0 x2, gt-lt x1 x3)
 
-  finished-finishes : temporalTruth cs TFinishedBy t u ≡ temporalTruth cs TFinishes u t
+  finished-finishes : temporalTruth writing cs TFinishedBy t u ≡ temporalTruth writing cs TFinishes u t
   unfolding temporalTruth translate condTruth tFinishedBy tFinishes endsOf
   finished-finishes = cc (lt-gt x0 x2, eq-eq x1 x3)
 
-  started-starts : temporalTruth cs TStartedBy t u ≡ temporalTruth cs TStarts u t
+  started-starts : temporalTruth writing cs TStartedBy t u ≡ temporalTruth writing cs TStarts u t
   unfolding temporalTruth translate condTruth tStartedBy tStarts endsOf
   started-starts = cc (eq-eq x0 x2, gt-lt x1 x3)
 
-  overlaps-overlapped : temporalTruth cs TOverlaps t u ≡ temporalTruth cs TOverlappedBy u t
+  overlaps-overlapped : temporalTruth writing cs TOverlaps t u ≡ temporalTruth writing cs TOverlappedBy u t
   unfolding temporalTruth translate condTruth tOverlaps tOverlappedBy endsOf
   overlaps-overlapped = cc (lt-gt x0 x2, gt-lt x1 x2, lt-gt x1 x3)
 
-  meets-met : temporalTruth cs TMeets t u ≡ temporalTruth cs TMetBy u t
+  meets-met : temporalTruth writing cs TMeets t u ≡ temporalTruth writing cs TMetBy u t
   unfolding temporalTruth translate condTruth tMeets tMetBy endsOf
   meets-met =
       check-ids here cols 0 3 (test 1 eq 2)
@@ -110,43 +111,43 @@ module _ (cs : List Column) (t u : Tree) where
       ∙ ap (λ b. guard c3 x3 (guard c0 x0 b)) (eq-eq x1 x2)
       ∙ sym (check-ids there cols' 1 2 (test 0 eq 3))
 
-module _ (cs : List Column) (t u : Tree) where
+module _ (writing : Writing) (cs : List Column) (t u : Tree) where
   either-turned : (a b : Bool)
-      → or3 (condTruth (endValues cs t u) (tBefore a b (columnsOf t u))) (condTruth (endValues cs t u) (tAfter a b (columnsOf t u)))
-      ≡ or3 (condTruth (endValues cs u t) (tBefore b a (columnsOf u t))) (condTruth (endValues cs u t) (tAfter b a (columnsOf u t)))
+      → or3 (condTruth (endValues writing cs t u) (tBefore a b (columnsOf t u))) (condTruth (endValues writing cs t u) (tAfter a b (columnsOf t u)))
+      ≡ or3 (condTruth (endValues writing cs u t) (tBefore b a (columnsOf u t))) (condTruth (endValues writing cs u t) (tAfter b a (columnsOf u t)))
   either-turned a b =
-      or3-comm (condTruth (endValues cs t u) (tBefore a b (columnsOf t u))) (condTruth (endValues cs t u) (tAfter a b (columnsOf t u)))
-      ∙ cc (after-before cs t u a b, after-before cs u t b a)
+      or3-comm (condTruth (endValues writing cs t u) (tBefore a b (columnsOf t u))) (condTruth (endValues writing cs t u) (tAfter a b (columnsOf t u)))
+      ∙ cc (after-before writing cs t u a b, after-before writing cs u t b a)
 
   -- TDisjoint is TBefore or TAfter, but of two instants
   disjoint-turned : (a b : Bool)
-      → condTruth (endValues cs t u) (tDisjoint a b (columnsOf t u)) ≡ condTruth (endValues cs u t) (tDisjoint b a (columnsOf u t))
+      → condTruth (endValues writing cs t u) (tDisjoint a b (columnsOf t u)) ≡ condTruth (endValues writing cs u t) (tDisjoint b a (columnsOf u t))
   unfolding condTruth tDisjoint tAfter tBefore endsOf
-  disjoint-turned false false = ne-ne (endOn cs (startSlot (isInterval t)) (startOf t)) (endOn cs (startSlot (isInterval u)) (startOf u))
+  disjoint-turned false false = ne-ne (endOn writing cs (startSlot (isInterval t)) (startOf t)) (endOn writing cs (startSlot (isInterval u)) (startOf u))
   disjoint-turned false true = either-turned false true
   disjoint-turned true false = either-turned true false
   disjoint-turned true true = either-turned true true
 
   -- a temporal predicate and its converse with the operands exchanged
-  pub turned-predicate : (o : Op) → isTemporal o ≡ true → temporalTruth cs o t u ≡ temporalTruth cs (converse o) u t
+  pub turned-predicate : (o : Op) → isTemporal o ≡ true → temporalTruth writing cs o t u ≡ temporalTruth writing cs (converse o) u t
   unfolding temporalTruth translate converse some
   turned-predicate =
-      of-temporal (λ o. temporalTruth cs o t u ≡ temporalTruth cs (converse o) u t)
-      (after-before cs t u (isInterval t) (isInterval u)
-      also sym (after-before cs u t (isInterval u) (isInterval t))
-      also contains-during cs t u
+      of-temporal (λ o. temporalTruth writing cs o t u ≡ temporalTruth writing cs (converse o) u t)
+      (after-before writing cs t u (isInterval t) (isInterval u)
+      also sym (after-before writing cs u t (isInterval u) (isInterval t))
+      also contains-during writing cs t u
       also disjoint-turned (isInterval t) (isInterval u)
-      also sym (contains-during cs u t)
-      also equals-turned cs t u (isInterval t) (isInterval u)
-      also finished-finishes cs t u
-      also sym (finished-finishes cs u t)
-      also intersects-turned cs t u (isInterval t) (isInterval u)
-      also meets-met cs t u
-      also sym (meets-met cs u t)
-      also sym (overlaps-overlapped cs u t)
-      also overlaps-overlapped cs t u
-      also started-starts cs t u
-      also sym (started-starts cs u t)
+      also sym (contains-during writing cs u t)
+      also equals-turned writing cs t u (isInterval t) (isInterval u)
+      also finished-finishes writing cs t u
+      also sym (finished-finishes writing cs u t)
+      also intersects-turned writing cs t u (isInterval t) (isInterval u)
+      also meets-met writing cs t u
+      also sym (meets-met writing cs u t)
+      also sym (overlaps-overlapped writing cs u t)
+      also overlaps-overlapped writing cs t u
+      also started-starts writing cs t u
+      also sym (started-starts writing cs u t)
       also done)
 
 -- the converse of a temporal operator is one
@@ -170,9 +171,9 @@ apart =
     also (refl, refl, refl) also (refl, refl, refl) also (refl, refl, refl) also (refl, refl, refl) also (refl, refl, refl) also done)
 
 -- the truth of a temporal predicate as a filter
-pub predicate-truth : (cs : List Column) (o : Op) (t u : Tree) → isTemporal o ≡ true → truthOn cs (dyadic o t u) ≡ temporalTruth cs o t u
+pub predicate-truth : (writing : Writing) (cs : List Column) (o : Op) (t u : Tree) → isTemporal o ≡ true → truthOn writing cs (dyadic o t u) ≡ temporalTruth writing cs o t u
 unfolding truthOn byOperator
-predicate-truth cs o t u e = let h = apart o e in rw (h .0, h .1, h .2)
+predicate-truth writing cs o t u e = let h = apart o e in rw (h .0, h .1, h .2)
 
 -- AND and OR of filters whose truths are alike
 joined : (p q : Bool) {a a' b b' : Truth} (r r' : Truth) → either p q ≡ true → a ≡ a' → b ≡ b'
@@ -182,11 +183,11 @@ joined false true r r' e f g = cc
 joined false false r r' e f g = absurd (false≢true e)
 
 -- One, some or all of a filter's temporal predicates replaced by their converses, operands exchanged: the truth stays on every row.
-pub turned-truth : (cs : List Column) {t t' : Tree} → Turned t t' → truthOn cs t ≡ truthOn cs t'
+pub turned-truth : (writing : Writing) (cs : List Column) {t t' : Tree} → Turned t t' → truthOn writing cs t ≡ truthOn writing cs t'
 unfolding truthOn byOperator
-turned-truth cs (keep t) = refl
-turned-truth cs (turn o t u e) =
-    predicate-truth cs o t u e ∙ turned-predicate cs t u o e ∙ sym (predicate-truth cs (converse o) u t (converse-temporal o e))
-turned-truth cs (in-both {t = t} {t' = t'} {u = u} {u' = u'} o e f g) =
-    joined (isAnd o) (isOr o) _ _ e (turned-truth cs f) (turned-truth cs g)
-turned-truth cs (in-neg o e f) = rw e (ap not3 (turned-truth cs f))
+turned-truth writing cs (keep t) = refl
+turned-truth writing cs (turn o t u e) =
+    predicate-truth writing cs o t u e ∙ turned-predicate writing cs t u o e ∙ sym (predicate-truth writing cs (converse o) u t (converse-temporal o e))
+turned-truth writing cs (in-both {t = t} {t' = t'} {u = u} {u' = u'} o e f g) =
+    joined (isAnd o) (isOr o) _ _ e (turned-truth writing cs f) (turned-truth writing cs g)
+turned-truth writing cs (in-neg o e f) = rw e (ap not3 (turned-truth writing cs f))

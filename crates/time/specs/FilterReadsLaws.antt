@@ -26,6 +26,8 @@ use Rattle.tree.specs.Tests as trees
 use Rattle.tree.specs.Tests.{first, second, everywhere, byOperator, isInterval, isId, isLiteral, isLiteralOrId, startOf, stopOf, endsOf, columnsOf}
 use Rattle.tree.specs.TestsLaws.{OfKind, of-id, of-interval, id-is, interval-is, by-operators}
 use Rattle.tree.specs.GoodWords.{Good}
+use Rattle.literal.specs.declared.Writing.{Writing}
+use Rattle.literal.specs.declared.Writing.the-variants.{Rust, GeoPackage}
 use Rattle.literal.specs.Literal as literal
 use Rattle.literal.specs.Literal.{Slot, alone, firstEnd, secondEnd, startSlot, stopSlot, low}
 use Rattle.sql.specs.Translators.{translate}
@@ -45,13 +47,13 @@ use Rattle.time.specs.CondLaws.{condAst, cond-eval, Ends, translated}
 
 -- Atoms.
 
-pub atom-value : (cs : List Column) (t : Tree) → value cs (treeAtom t) ≡ valueOn cs t
+pub atom-value : (writing : Writing) (cs : List Column) (t : Tree) → value cs (treeAtom writing t) ≡ valueOn writing cs t
 unfolding valueOn
-atom-value cs t = refl
+atom-value writing cs t = refl
 
-pub end-value : (cs : List Column) (slot : Slot) (t : Tree) → value cs (endAtom slot t) ≡ endOn cs slot t
+pub end-value : (writing : Writing) (cs : List Column) (slot : Slot) (t : Tree) → value cs (endAtom writing slot t) ≡ endOn writing cs slot t
 unfolding endOn
-end-value cs slot t = refl
+end-value writing cs slot t = refl
 
 -- written instants are made of plain bytes, and none is an apostrophe
 all-append : (p : ℕ → Bool) (x y : List ℕ) → all p x ≡ true → all p y ≡ true → all p (x ++ y) ≡ true
@@ -78,91 +80,101 @@ date-str y m d =
     all-append unmarked (low 4 y) (bytes "-" ++ (low 2 m ++ (bytes "-" ++ low 2 d))) (low-str 4 y)
     (all-append unmarked (low 2 m) (bytes "-" ++ low 2 d) (low-str 2 m) (low-str 2 d))
 
-timestamp-str : (y m d h i s : ℕ) → all unmarked (literal.timestamp y m d h i s) ≡ true
-unfolding literal.timestamp literal.clock all
-timestamp-str y m d h i s =
-    all-append unmarked (literal.date y m d) (bytes "T" ++ (low 2 h ++ (bytes ":" ++ (low 2 i ++ (bytes ":" ++ low 2 s))))) (date-str y m d)
-    (all-append unmarked (low 2 h) (bytes ":" ++ (low 2 i ++ (bytes ":" ++ low 2 s))) (low-str 2 h)
-    (all-append unmarked (low 2 i) (bytes ":" ++ low 2 s) (low-str 2 i) (low-str 2 s)))
+clock-str : (h i s : ℕ) → all unmarked (literal.clock h i s) ≡ true
+unfolding literal.clock all
+clock-str h i s =
+    all-append unmarked (low 2 h) (bytes ":" ++ (low 2 i ++ (bytes ":" ++ low 2 s))) (low-str 2 h)
+    (all-append unmarked (low 2 i) (bytes ":" ++ low 2 s) (low-str 2 i) (low-str 2 s))
+
+after-seconds-str : (writing : Writing) → all unmarked (literal.afterSeconds writing) ≡ true
+unfolding literal.afterSeconds all
+after-seconds-str Rust = refl
+after-seconds-str GeoPackage = refl
+
+timestamp-str : (writing : Writing) (y m d h i s : ℕ) → all unmarked (literal.timestamp writing y m d h i s) ≡ true
+unfolding literal.timestamp all
+timestamp-str writing y m d h i s =
+    all-append unmarked (literal.date y m d) (bytes "T" ++ (literal.clock h i s ++ literal.afterSeconds writing)) (date-str y m d)
+    (all-append unmarked (literal.clock h i s) (literal.afterSeconds writing) (clock-str h i s) (after-seconds-str writing))
 
 -- the text of an end in its slot is that of its atom
-pub end-text : (g : Settings) (slot : Slot) (t : Tree) (n : ℕ) → isEnd t ≡ true → Good t n → AtomText (endText slot t (gpkg.text g t)) (endAtom slot t)
+pub end-text : (writing : Writing) (g : Settings) (slot : Slot) (t : Tree) (n : ℕ) → isEnd t ≡ true → Good t n → AtomText (endText slot t (gpkg.text writing g t)) (endAtom writing slot t)
 unfolding gpkg.text endAtom treeAtom Good literal.quoted
-end-text g slot t n e x = go t (end-is t e) x
+end-text writing g slot t n e x = go t (end-is t e) x
   where
-    go : (t : Tree) → EndIs t → Good t n → AtomText (endText slot t (gpkg.text g t)) (endAtom slot t)
+    go : (t : Tree) → EndIs t → Good t n → AtomText (endText slot t (gpkg.text writing g t)) (endAtom writing slot t)
     go t null-end x = null-atom
     go t open-end x = unmarked-atom (literal.openEnd slot) (open-str slot)
     go t (date-end y m d) x = unmarked-atom (literal.date y m d) (date-str y m d)
-    go t (timestamp-end y m d h i s) x = unmarked-atom (literal.timestamp y m d h i s) (timestamp-str y m d h i s)
+    go t (timestamp-end y m d h i s) x = unmarked-atom (literal.timestamp writing y m d h i s) (timestamp-str writing y m d h i s)
     go t (column-end s) x = bare-atom s (x .1)
 
 -- and so is the text of what is compared
-pub comparable-text : (g : Settings) (t : Tree) (n : ℕ) → comparable t ≡ true → Good t n → AtomText (gpkg.text g t) (treeAtom t)
+pub comparable-text : (writing : Writing) (g : Settings) (t : Tree) (n : ℕ) → comparable t ≡ true → Good t n → AtomText (gpkg.text writing g t) (treeAtom writing t)
 unfolding gpkg.text treeAtom Good literal.quoted literal.strText
-comparable-text g t n e x = go t (comparable-is t e) x
+comparable-text writing g t n e x = go t (comparable-is t e) x
   where
-    go : (t : Tree) → ComparableIs t → Good t n → AtomText (gpkg.text g t) (treeAtom t)
+    go : (t : Tree) → ComparableIs t → Good t n → AtomText (gpkg.text writing g t) (treeAtom writing t)
     go t (comparable-str f s e) x =
         let q : literal.strText (g .ci) (g .ai) (g .cai) f s ≡ bytes "'" ++ (doubled s ++ bytes "'") = rw e (append-nil (bytes "'" ++ (doubled s ++ bytes "'"))) in
         subst (λ (l : List ℕ). AtomText l (text s)) (sym q) (text-atom s (x .3))
     go t (comparable-date y m d) x = unmarked-atom (literal.date y m d) (date-str y m d)
-    go t (comparable-timestamp y m d h i s) x = unmarked-atom (literal.timestamp y m d h i s) (timestamp-str y m d h i s)
+    go t (comparable-timestamp y m d h i s) x = unmarked-atom (literal.timestamp writing y m d h i s) (timestamp-str writing y m d h i s)
     go t (comparable-id s) x = bare-atom s (x .1)
 
 -- Operands: their ends, and the ends' texts.
-pub record Operand (g : Settings) (t : Tree) : Type 0 where
-  pub start-atom : AtomText (startText t (gpkg.text g t) (children g t)) (endAtom (startSlot (isInterval t)) (startOf t))
-  pub stop-atom : AtomText (stopText t (children g t)) (endAtom (stopSlot (isInterval t)) (stopOf t))
-  pub start-name : isId (startOf t) ≡ true → (endAtom (startSlot (isInterval t)) (startOf t) ≡ column (startText t (gpkg.text g t) (children g t))) × (name (startText t (gpkg.text g t) (children g t)) ≡ true)
-  pub stop-name : isId (stopOf t) ≡ true → (endAtom (stopSlot (isInterval t)) (stopOf t) ≡ column (stopText t (children g t))) × (name (stopText t (children g t)) ≡ true)
+pub record Operand (writing : Writing) (g : Settings) (t : Tree) : Type 0 where
+  pub start-atom : AtomText (startText t (gpkg.text writing g t) (children writing g t)) (endAtom writing (startSlot (isInterval t)) (startOf t))
+  pub stop-atom : AtomText (stopText t (children writing g t)) (endAtom writing (stopSlot (isInterval t)) (stopOf t))
+  pub start-name : isId (startOf t) ≡ true → (endAtom writing (startSlot (isInterval t)) (startOf t) ≡ column (startText t (gpkg.text writing g t) (children writing g t))) × (name (startText t (gpkg.text writing g t) (children writing g t)) ≡ true)
+  pub stop-name : isId (stopOf t) ≡ true → (endAtom writing (stopSlot (isInterval t)) (stopOf t) ≡ column (stopText t (children writing g t))) × (name (stopText t (children writing g t)) ≡ true)
 
 -- an end that is a column is a name
-end-name : (g : Settings) (slot : Slot) (t : Tree) (n : ℕ) → Good t n → isId t ≡ true → (endAtom slot t ≡ column (endText slot t (gpkg.text g t))) × (name (endText slot t (gpkg.text g t)) ≡ true)
+end-name : (writing : Writing) (g : Settings) (slot : Slot) (t : Tree) (n : ℕ) → Good t n → isId t ≡ true → (endAtom writing slot t ≡ column (endText slot t (gpkg.text writing g t))) × (name (endText slot t (gpkg.text writing g t)) ≡ true)
 unfolding gpkg.text endAtom treeAtom Good
-end-name g slot t n x e = go t (id-is t e) x
+end-name writing g slot t n x e = go t (id-is t e) x
   where
-    go : (t : Tree) → OfKind ID t → Good t n → (endAtom slot t ≡ column (endText slot t (gpkg.text g t))) × (name (endText slot t (gpkg.text g t)) ≡ true)
+    go : (t : Tree) → OfKind ID t → Good t n → (endAtom writing slot t ≡ column (endText slot t (gpkg.text writing g t))) × (name (endText slot t (gpkg.text writing g t)) ≡ true)
     go t (of-id s) x = (refl, x .1)
 
 -- an instant: it is its own start, and Null its stop
-instant-operand : (g : Settings) (t : Tree) (n : ℕ) → isInterval t ≡ false → startOf t ≡ t → stopOf t ≡ null → isEnd t ≡ true → Good t n → Operand g t
+instant-operand : (writing : Writing) (g : Settings) (t : Tree) (n : ℕ) → isInterval t ≡ false → startOf t ≡ t → stopOf t ≡ null → isEnd t ≡ true → Good t n → Operand writing g t
 unfolding gpkg.text isId endAtom treeAtom
-instant-operand g t n i p q e x =
+instant-operand writing g t n i p q e x =
     record {
-      start-atom = rw (i, p) (end-text g alone t n e x);
+      start-atom = rw (i, p) (end-text writing g alone t n e x);
       stop-atom = rw (i, q) null-atom;
-      start-name = λ c. rw (i, p) (end-name g alone t n x (rw p at c));
+      start-name = λ c. rw (i, p) (end-name writing g alone t n x (rw p at c));
       stop-name = λ c. absurd (false≢true (rw q at c));
     }
 
-interval-operand : (g : Settings) (t : Tree) (n : ℕ) → OfKind INTERVAL t → isOperand t ≡ true → Good t n → Operand g t
+interval-operand : (writing : Writing) (g : Settings) (t : Tree) (n : ℕ) → OfKind INTERVAL t → isOperand t ≡ true → Good t n → Operand writing g t
 unfolding isOperand isInterval startOf stopOf first second children Good
-interval-operand g t n (of-interval a b) e x =
+interval-operand writing g t n (of-interval a b) e x =
     let f = both-true (isEnd a) (isEnd b) e in
     record {
-      start-atom = end-text g firstEnd a (n - 1) (f .0) (x .1);
-      stop-atom = end-text g secondEnd b (n - 1) (f .1) (x .2);
-      start-name = end-name g firstEnd a (n - 1) (x .1);
-      stop-name = end-name g secondEnd b (n - 1) (x .2);
+      start-atom = end-text writing g firstEnd a (n - 1) (f .0) (x .1);
+      stop-atom = end-text writing g secondEnd b (n - 1) (f .1) (x .2);
+      start-name = end-name writing g firstEnd a (n - 1) (x .1);
+      stop-name = end-name writing g secondEnd b (n - 1) (x .2);
     }
 
-pub operand : (g : Settings) (t : Tree) (n : ℕ) → isOperand t ≡ true → Good t n → Operand g t
+pub operand : (writing : Writing) (g : Settings) (t : Tree) (n : ℕ) → isOperand t ≡ true → Good t n → Operand writing g t
 unfolding isOperand startOf stopOf
-operand g t n e x = go (isInterval t) refl e
+operand writing g t n e x = go (isInterval t) refl e
   where
-    go : (b : Bool) → isInterval t ≡ b → pick b (both (isEnd (startOf t)) (isEnd (stopOf t))) (isEnd t) ≡ true → Operand g t
-    go true i f = interval-operand g t n (interval-is t i) e x
-    go false i f = instant-operand g t n i (ap (λ b. pick b (first (trees.children t)) t) i) (ap (λ b. pick b (second (trees.children t)) null) i) f x
+    go : (b : Bool) → isInterval t ≡ b → pick b (both (isEnd (startOf t)) (isEnd (stopOf t))) (isEnd t) ≡ true → Operand writing g t
+    go true i f = interval-operand writing g t n (interval-is t i) e x
+    go false i f = instant-operand writing g t n i (ap (λ b. pick b (first (trees.children t)) t) i) (ap (λ b. pick b (second (trees.children t)) null) i) f x
 
 -- the four ends of two operands
-pub four-ends : (g : Settings) (t u : Tree) → Operand g t → Operand g u
-    → Ends (λ j. getD (startText t (gpkg.text g t) (children g t) ∷ stopText t (children g t) ∷ startText u (gpkg.text g u) (children g u) ∷ stopText u (children g u) ∷ []) j [])
-    (λ j. endAtom (slotAt t u j) (getD (endsOf t u) j null)) (columnsOf t u)
+pub four-ends : (writing : Writing) (g : Settings) (t u : Tree) → Operand writing g t → Operand writing g u
+    → Ends (λ j. getD (startText t (gpkg.text writing g t) (children writing g t) ∷ stopText t (children writing g t) ∷ startText u (gpkg.text writing g u) (children writing g u) ∷ stopText u (children writing g u) ∷ []) j [])
+    (λ j. endAtom writing (slotAt t u j) (getD (endsOf t u) j null)) (columnsOf t u)
 unfolding endsOf
-four-ends g t u A B = record { atoms = λ j h. atoms j h; names = λ j h c. names j h c }
+four-ends writing g t u A B = record { atoms = λ j h. atoms j h; names = λ j h c. names j h c }
   where
-    atoms : (j : ℕ) → j < 4 → AtomText (getD (startText t (gpkg.text g t) (children g t) ∷ stopText t (children g t) ∷ startText u (gpkg.text g u) (children g u) ∷ stopText u (children g u) ∷ []) j []) (endAtom (slotAt t u j) (getD (startOf t ∷ stopOf t ∷ startOf u ∷ stopOf u ∷ []) j null))
+    atoms : (j : ℕ) → j < 4 → AtomText (getD (startText t (gpkg.text writing g t) (children writing g t) ∷ stopText t (children writing g t) ∷ startText u (gpkg.text writing g u) (children writing g u) ∷ stopText u (children writing g u) ∷ []) j []) (endAtom writing (slotAt t u j) (getD (startOf t ∷ stopOf t ∷ startOf u ∷ stopOf u ∷ []) j null))
     atoms zero h = A .start-atom
     atoms (suc zero) h = A .stop-atom
     atoms (suc (suc zero)) h = B .start-atom
@@ -170,8 +182,8 @@ four-ends g t u A B = record { atoms = λ j h. atoms j h; names = λ j h c. name
     atoms (suc (suc (suc (suc j)))) h = absurd (omega arith)
 
     names : (j : ℕ) → j < 4 → isId (getD (startOf t ∷ stopOf t ∷ startOf u ∷ stopOf u ∷ []) j null) ≡ true
-        → (endAtom (slotAt t u j) (getD (startOf t ∷ stopOf t ∷ startOf u ∷ stopOf u ∷ []) j null) ≡ column (getD (startText t (gpkg.text g t) (children g t) ∷ stopText t (children g t) ∷ startText u (gpkg.text g u) (children g u) ∷ stopText u (children g u) ∷ []) j []))
-        × (name (getD (startText t (gpkg.text g t) (children g t) ∷ stopText t (children g t) ∷ startText u (gpkg.text g u) (children g u) ∷ stopText u (children g u) ∷ []) j []) ≡ true)
+        → (endAtom writing (slotAt t u j) (getD (startOf t ∷ stopOf t ∷ startOf u ∷ stopOf u ∷ []) j null) ≡ column (getD (startText t (gpkg.text writing g t) (children writing g t) ∷ stopText t (children writing g t) ∷ startText u (gpkg.text writing g u) (children writing g u) ∷ stopText u (children writing g u) ∷ []) j []))
+        × (name (getD (startText t (gpkg.text writing g t) (children writing g t) ∷ stopText t (children writing g t) ∷ startText u (gpkg.text writing g u) (children writing g u) ∷ stopText u (children writing g u) ∷ []) j []) ≡ true)
     names zero h c = A .start-name c
     names (suc zero) h c = A .stop-name c
     names (suc (suc zero)) h c = B .start-name c
@@ -181,38 +193,38 @@ four-ends g t u A B = record { atoms = λ j h. atoms j h; names = λ j h c. name
 -- Filters.
 
 -- the condition that a filter is read as
-abbrev monadicAst : Op → Tree → Ast → Ast
-monadicAst o t a =
+abbrev monadicAst : Writing → Op → Tree → Ast → Ast
+monadicAst writing o t a =
     pick (isNeg o) (neg a)
-    (pick (oneOf o (IsNull ∷ [])) (isNull (treeAtom t)) (neg (isNull (treeAtom t))))
+    (pick (oneOf o (IsNull ∷ [])) (isNull (treeAtom writing t)) (neg (isNull (treeAtom writing t))))
 
-abbrev dyadicAst : Op → Tree → Tree → Ast → Ast → Ast
-dyadicAst o t u a b =
+abbrev dyadicAst : Writing → Op → Tree → Tree → Ast → Ast → Ast
+dyadicAst writing o t u a b =
     pick (isAnd o) (conj a b)
     (pick (isOr o) (disj a b)
-    (pick (compares o) (cmp (comparison o) (treeAtom t) (treeAtom u))
-    (condAst (λ j. endAtom (slotAt t u j) (getD (endsOf t u) j null)) (translate (opNumber o) (isInterval t) (isInterval u) (columnsOf t u)))))
+    (pick (compares o) (cmp (comparison o) (treeAtom writing t) (treeAtom writing u))
+    (condAst (λ j. endAtom writing (slotAt t u j) (getD (endsOf t u) j null)) (translate (opNumber o) (isInterval t) (isInterval u) (columnsOf t u)))))
 
-unfoldable pub filterAst : Tree → Ast
-filterAst = byOperator (λ t. const (constant t)) monadicAst dyadicAst
+unfoldable pub filterAst : Writing → Tree → Ast
+filterAst writing = byOperator (λ t. const (constant t)) (monadicAst writing) (dyadicAst writing)
 
 -- it has the filter's truth
 pick-eval : (cs : List Column) (b : Bool) (x y : Ast) (p q : Truth) → eval cs x ≡ p → eval cs y ≡ q → eval cs (pick b x y) ≡ pick b p q
 pick-eval cs true x y p q e f = e
 pick-eval cs false x y p q e f = f
 
-pub filter-eval : (cs : List Column) (t : Tree) → eval cs (filterAst t) ≡ truthOn cs t
+pub filter-eval : (writing : Writing) (cs : List Column) (t : Tree) → eval cs (filterAst writing t) ≡ truthOn writing cs t
 unfolding filterAst truthOn eval temporalTruth
-filter-eval cs =
-    by-operators (λ t. const (constant t)) monadicAst dyadicAst constant (monadicTruth cs) (dyadicTruth cs) (λ t x a. eval cs x ≡ a) (λ t. refl)
+filter-eval writing cs =
+    by-operators (λ t. const (constant t)) (monadicAst writing) (dyadicAst writing) constant (monadicTruth writing cs) (dyadicTruth writing cs) (λ t x a. eval cs x ≡ a) (λ t. refl)
     (λ o t x a e.
     pick-eval cs (isNeg o) _ _ _ _ (ap not3 e)
-    (pick-eval cs (oneOf o (IsNull ∷ [])) _ _ _ _ (ap nullity (atom-value cs t)) (ap (λ f. not3 (nullity f)) (atom-value cs t))))
+    (pick-eval cs (oneOf o (IsNull ∷ [])) _ _ _ _ (ap nullity (atom-value writing cs t)) (ap (λ f. not3 (nullity f)) (atom-value writing cs t))))
     (λ o t u x y a b e f.
     pick-eval cs (isAnd o) _ _ _ _ (rw (e, f) refl)
     (pick-eval cs (isOr o) _ _ _ _ (rw (e, f) refl)
-    (pick-eval cs (compares o) _ _ _ _ (rw (atom-value cs t, atom-value cs u) refl)
-    (cond-eval cs (λ j. endAtom (slotAt t u j) (getD (endsOf t u) j null)) (endValues cs t u) (λ j. end-value cs (slotAt t u j) (getD (endsOf t u) j null))
+    (pick-eval cs (compares o) _ _ _ _ (rw (atom-value writing cs t, atom-value writing cs u) refl)
+    (cond-eval cs (λ j. endAtom writing (slotAt t u j) (getD (endsOf t u) j null)) (endValues writing cs t u) (λ j. end-value writing cs (slotAt t u j) (getD (endsOf t u) j null))
     (translate (opNumber o) (isInterval t) (isInterval u) (columnsOf t u))))))
 
 -- Brackets that a filter of n levels needs: one a level, and two in a temporal predicate.
@@ -238,12 +250,12 @@ bool-prints : (d : ℕ) (b : Bool) → Prints d 0 (literal.boolText b) (const (c
 bool-prints d true = item true-item
 bool-prints d false = item false-item
 
-operand-prints : (g : Settings) (t : Tree) (n : ℕ) → timeFilter t ≡ true → Prints (room n) 3 (gpkg.text g t) (filterAst t)
-    → Prints (room (suc n)) 0 (bare (isLiteralOrId t) (gpkg.text g t)) (filterAst t)
+operand-prints : (writing : Writing) (g : Settings) (t : Tree) (n : ℕ) → timeFilter t ≡ true → Prints (room n) 3 (gpkg.text writing g t) (filterAst writing t)
+    → Prints (room (suc n)) 0 (bare (isLiteralOrId t) (gpkg.text writing g t)) (filterAst writing t)
 unfolding isLiteralOrId isLiteral everywhere isId gpkg.text filterAst byOperator
-operand-prints g t n e p = go t (filter-is t e) p
+operand-prints writing g t n e p = go t (filter-is t e) p
   where
-    go : (t : Tree) → FilterIs t → Prints (room n) 3 (gpkg.text g t) (filterAst t) → Prints (room (suc n)) 0 (bare (isLiteralOrId t) (gpkg.text g t)) (filterAst t)
+    go : (t : Tree) → FilterIs t → Prints (room n) 3 (gpkg.text writing g t) (filterAst writing t) → Prints (room (suc n)) 0 (bare (isLiteralOrId t) (gpkg.text writing g t)) (filterAst writing t)
     go t null-filter p = bracket {l = 3} (omega arith) p
     go t (bool-filter b) p = bool-prints (room (suc n)) b
     go t (monadic-filter o u) p = bracket {l = 3} (omega arith) p
@@ -271,14 +283,14 @@ comparable-bare t e = go t (comparable-is t e)
     go t (comparable-timestamp y m d h i s) = refl
     go t (comparable-id s) = refl
 
-module _ (g : Settings) where
+module _ (writing : Writing) (g : Settings) where
   -- what is to be shown of a filter that may be n levels deep
   abbrev pub Shown : ℕ → Tree → Type 0
-  Shown n t = Prints (room n) 3 (gpkg.text g t) (filterAst t)
+  Shown n t = Prints (room n) 3 (gpkg.text writing g t) (filterAst writing t)
 
   neg-shown : (n : ℕ) (t : Tree) → timeFilter t ≡ true → Shown n t → Shown (suc n) (monadic Neg t)
   unfolding gpkg.text filterAst byOperator monadicText isNullable some spelledAs
-  neg-shown n t e p = lift {l = 1} {m = 3} (omega arith) (not-word {l = 0} (omega arith) (operand-prints g t n e p))
+  neg-shown n t e p = lift {l = 1} {m = 3} (omega arith) (not-word {l = 0} (omega arith) (operand-prints writing g t n e p))
 
   null-shown : (n : ℕ) (s : List ℕ) → name s ≡ true → Shown n (monadic IsNull (id s))
   unfolding gpkg.text filterAst byOperator monadicText isNullable some spelledAs isLiteralOrId isLiteral everywhere isId treeAtom
@@ -291,16 +303,16 @@ module _ (g : Settings) where
   and-shown : (n : ℕ) (t u : Tree) → timeFilter t ≡ true → timeFilter u ≡ true → Shown n t → Shown n u → Shown (suc n) (dyadic And t u)
   unfolding gpkg.text filterAst byOperator dyadicText isBetween isSpatial isTemporal isArray some spelledAs
   and-shown n t u e f p q =
-      lift {l = 2} {m = 3} (omega arith) (and-join {l = 0} {m = 0} (omega arith) (omega arith) (operand-prints g t n e p) (operand-prints g u n f q))
+      lift {l = 2} {m = 3} (omega arith) (and-join {l = 0} {m = 0} (omega arith) (omega arith) (operand-prints writing g t n e p) (operand-prints writing g u n f q))
 
   or-shown : (n : ℕ) (t u : Tree) → timeFilter t ≡ true → timeFilter u ≡ true → Shown n t → Shown n u → Shown (suc n) (dyadic Or t u)
   unfolding gpkg.text filterAst byOperator dyadicText isBetween isSpatial isTemporal isArray some spelledAs
   or-shown n t u e f p q =
-      or-join {l = 0} {m = 0} (omega arith) (omega arith) (operand-prints g t n e p) (operand-prints g u n f q)
+      or-join {l = 0} {m = 0} (omega arith) (omega arith) (operand-prints writing g t n e p) (operand-prints writing g u n f q)
 
   -- comparisons
-  module _ (n : ℕ) (t u : Tree) (p : isLiteralOrId t ≡ true) (q : isLiteralOrId u ≡ true) (A : AtomText (gpkg.text g t) (treeAtom t)) (B : AtomText (gpkg.text g u) (treeAtom u)) where
-    compared-as : {w : List ℕ} {k : Kind} → SignText w k → Prints (room n) 3 (bare (isLiteralOrId t) (gpkg.text g t) ++ (bytes " " ++ (w ++ (bytes " " ++ bare (isLiteralOrId u) (gpkg.text g u))))) (cmp k (treeAtom t) (treeAtom u))
+  module _ (n : ℕ) (t u : Tree) (p : isLiteralOrId t ≡ true) (q : isLiteralOrId u ≡ true) (A : AtomText (gpkg.text writing g t) (treeAtom writing t)) (B : AtomText (gpkg.text writing g u) (treeAtom writing u)) where
+    compared-as : {w : List ℕ} {k : Kind} → SignText w k → Prints (room n) 3 (bare (isLiteralOrId t) (gpkg.text writing g t) ++ (bytes " " ++ (w ++ (bytes " " ++ bare (isLiteralOrId u) (gpkg.text writing g u))))) (cmp k (treeAtom writing t) (treeAtom writing u))
     compared-as S = rw (p, q) (lift {l = 0} {m = 3} (omega arith) (item (compare-item A S B)))
 
     compares-shown : AllOf (λ o. Shown n (dyadic o t u)) (Eq ∷ Neq ∷ Lt ∷ Gt ∷ Lte ∷ Gte ∷ [])
@@ -309,25 +321,25 @@ module _ (g : Settings) where
         compared-as sign-eq also compared-as sign-ne also compared-as sign-lt also compared-as sign-gt also compared-as sign-le also compared-as sign-ge also done
 
   -- temporal predicates
-  module _ (n : ℕ) (t u : Tree) (A : Operand g t) (B : Operand g u) where
+  module _ (n : ℕ) (t u : Tree) (A : Operand writing g t) (B : Operand writing g u) where
     temporal-shown : AllOf (λ o. Shown n (dyadic o t u)) fifteen
     unfolding gpkg.text filterAst byOperator dyadicText isBetween isSpatial isTemporal isArray some
     temporal-shown =
-        in-room n (translated (four-ends g t u A B) 26 (isInterval t) (isInterval u))
-        also in-room n (translated (four-ends g t u A B) 27 (isInterval t) (isInterval u))
-        also in-room n (translated (four-ends g t u A B) 28 (isInterval t) (isInterval u))
-        also in-room n (translated (four-ends g t u A B) 29 (isInterval t) (isInterval u))
-        also in-room n (translated (four-ends g t u A B) 30 (isInterval t) (isInterval u))
-        also in-room n (translated (four-ends g t u A B) 31 (isInterval t) (isInterval u))
-        also in-room n (translated (four-ends g t u A B) 32 (isInterval t) (isInterval u))
-        also in-room n (translated (four-ends g t u A B) 33 (isInterval t) (isInterval u))
-        also in-room n (translated (four-ends g t u A B) 34 (isInterval t) (isInterval u))
-        also in-room n (translated (four-ends g t u A B) 35 (isInterval t) (isInterval u))
-        also in-room n (translated (four-ends g t u A B) 36 (isInterval t) (isInterval u))
-        also in-room n (translated (four-ends g t u A B) 37 (isInterval t) (isInterval u))
-        also in-room n (translated (four-ends g t u A B) 38 (isInterval t) (isInterval u))
-        also in-room n (translated (four-ends g t u A B) 39 (isInterval t) (isInterval u))
-        also in-room n (translated (four-ends g t u A B) 40 (isInterval t) (isInterval u))
+        in-room n (translated (four-ends writing g t u A B) 26 (isInterval t) (isInterval u))
+        also in-room n (translated (four-ends writing g t u A B) 27 (isInterval t) (isInterval u))
+        also in-room n (translated (four-ends writing g t u A B) 28 (isInterval t) (isInterval u))
+        also in-room n (translated (four-ends writing g t u A B) 29 (isInterval t) (isInterval u))
+        also in-room n (translated (four-ends writing g t u A B) 30 (isInterval t) (isInterval u))
+        also in-room n (translated (four-ends writing g t u A B) 31 (isInterval t) (isInterval u))
+        also in-room n (translated (four-ends writing g t u A B) 32 (isInterval t) (isInterval u))
+        also in-room n (translated (four-ends writing g t u A B) 33 (isInterval t) (isInterval u))
+        also in-room n (translated (four-ends writing g t u A B) 34 (isInterval t) (isInterval u))
+        also in-room n (translated (four-ends writing g t u A B) 35 (isInterval t) (isInterval u))
+        also in-room n (translated (four-ends writing g t u A B) 36 (isInterval t) (isInterval u))
+        also in-room n (translated (four-ends writing g t u A B) 37 (isInterval t) (isInterval u))
+        also in-room n (translated (four-ends writing g t u A B) 38 (isInterval t) (isInterval u))
+        also in-room n (translated (four-ends writing g t u A B) 39 (isInterval t) (isInterval u))
+        also in-room n (translated (four-ends writing g t u A B) 40 (isInterval t) (isInterval u))
         also done
 
   -- IsNull or IsNotNull of an Id
@@ -359,12 +371,12 @@ module _ (g : Settings) where
       rest true q r =
           let h = both-true (comparable t) (comparable u) r in
           among (λ p. Shown (suc n) (dyadic p t u))
-          (compares-shown (suc n) t u (comparable-bare t (h .0)) (comparable-bare u (h .1)) (comparable-text g t n (h .0) (below t n (x .2))) (comparable-text g u n (h .1) (below u n (x .3)))) o
+          (compares-shown (suc n) t u (comparable-bare t (h .0)) (comparable-bare u (h .1)) (comparable-text writing g t n (h .0) (below t n (x .2))) (comparable-text writing g u n (h .1) (below u n (x .3)))) o
           (implies compares (λ p. oneOf p (Eq ∷ Neq ∷ Lt ∷ Gt ∷ Lte ∷ Gte ∷ [])) tt o q)
       rest false q r =
           let h = both-true (isTemporal o) (both (isOperand t) (isOperand u)) r in
           let i = both-true (isOperand t) (isOperand u) (h .1) in
-          of-temporal (λ p. Shown (suc n) (dyadic p t u)) (temporal-shown (suc n) t u (operand g t n (i .0) (below t n (x .2))) (operand g u n (i .1) (below u n (x .3)))) o (h .0)
+          of-temporal (λ p. Shown (suc n) (dyadic p t u)) (temporal-shown (suc n) t u (operand writing g t n (i .0) (below t n (x .2))) (operand writing g u n (i .1) (below u n (x .3)))) o (h .0)
 
       go : (b : Bool) → joins o ≡ b → pick b (both (timeFilter t) (timeFilter u)) (pick (compares o) (both (comparable t) (comparable u)) (both (isTemporal o) (both (isOperand t) (isOperand u)))) ≡ true → Shown (suc n) (dyadic o t u)
       go true q r =

@@ -13,9 +13,11 @@ use Rattle.prelude.specs.ChoiceLaws.{both-true}
 use Rattle.op.specs.declared.Op.{Op}
 use Rattle.op.specs.declared.Op.the-variants.{TAfter, TBefore, TContains, TDisjoint, TDuring, TEquals, TFinishedBy, TFinishes, TIntersects, TMeets, TMetBy, TOverlappedBy, TOverlaps, TStartedBy, TStarts}
 use Rattle.op.specs.Op.{isTemporal}
-use Rattle.tree.specs.Tree.{Tree, Settings, id, dyadic, interval, encode, encodeSettings, Bytes}
+use Rattle.tree.specs.Tree.{Tree, Settings, timestamp, id, dyadic, interval, encode, encodeSettings, Bytes}
 use Rattle.tree.specs.Parse.{got}
 use Rattle.tree.specs.Accepted.{accepted}
+use Rattle.literal.specs.declared.Writing.{Writing}
+use Rattle.literal.specs.declared.Writing.the-variants.{Rust, GeoPackage}
 use Rattle.gpkg.specs.Lowered.{lowering}
 use Rattle.row.specs.Row.{Column, val, rowOf, columns}
 use Rattle.truth.specs.declared.Reading.the-variants.{True as SaysTrue, False as SaysFalse, Unknown as SaysUnknown}
@@ -26,7 +28,7 @@ use Rattle.time.specs.Claims.{Alike, Opposite, ExactlyOne}
 use Rattle.time.specs.Converse.{turn, thirteen}
 use Rattle.time.specs.Filter.{timeFilter, isOperand}
 use Rattle.time.specs.FilterTruth.{holds, truthOn, columnsNonNull, proper}
-use Rattle.time.specs.Ogc.{ten, instants, ogcOperand, ogcOn}
+use Rattle.time.specs.Ogc.{ten, twentyFour, instants, ogcOperand, ogcOn}
 use Rattle.time.specs.OperatorLaws.{AllOf, done, _also_, among}
 use Rattle.time.specs.ReadsTruth.{reads-truth}
 use Rattle.time.specs.Theorems.{converse-reads, complement-reads, exactly-one-reads, agrees-with-ogc}
@@ -73,9 +75,9 @@ abbrev room : ℕ
 room = 100
 
 -- a tree whose bytes are accepted and lowered
-lowers-by : (t : Tree) → all (λ b. ltb b 256) (encode t) ≡ true → accepted (encodeSettings settings) (encode t) ≡ got (settings, t)
-    → lowering (encodeSettings settings) (encode t) room ≡ got (gpkg-text.text settings t) → Lowers t (gpkg-text.text settings t)
-lowers-by t b r l =
+lowers-by : (w : Writing) (t : Tree) → all (λ b. ltb b 256) (encode t) ≡ true → accepted (encodeSettings settings) (encode t) ≡ got (settings, t)
+    → lowering w (encodeSettings settings) (encode t) room ≡ got (gpkg-text.text w settings t) → Lowers w t (gpkg-text.text w settings t)
+lowers-by w t b r l =
     record { settings = encodeSettings settings; tree = encode t; room = room; bytes = bytes-by (encode t) b; holds = settings; read = r; lowered = l }
 
 abbrev a : Tree
@@ -130,53 +132,75 @@ meeting = dyadic TIntersects a (interval b c)
 abbrev pair : Op → Tree
 pair o = dyadic o (interval a c) (interval b d)
 
--- the text of a filter
-abbrev sql : Tree → List ℕ
-sql t = gpkg-text.text settings t
+-- the text of a filter by a writing
+abbrev sql : Writing → Tree → List ℕ
+sql w t = gpkg-text.text w settings t
 
--- All that is computed, at once.
-record Computed : Type 0 where
+-- In the second call: a is 2024-01-01T00:00:00.500Z, and the filter says that it lies after the midnight before it, or after one a day later.
+abbrev rowTimestamp : List ℕ
+rowTimestamp = 29 ∷ 0 ∷ 0 ∷ 0 ∷ 200 ∷ 0 ∷ 1 ∷ (bytes "a" ++ (1 ∷ bytes "2024-01-01T00:00:00.500Z"))
+
+abbrev columnsTimestamp : List Column
+columnsTimestamp = record { called = bytes "a"; holds = val (bytes "2024-01-01T00:00:00.500Z") } ∷ []
+
+abbrev midnight : ℕ → Tree
+midnight n = timestamp 2024 1 n 0 0 0
+
+abbrev after : ℕ → Tree
+after n = dyadic TAfter a (midnight n)
+
+-- All that is computed, at once; what names no timestamp is so in either writing.
+record Computed (w : Writing) : Type 0 where
   rowNull-is : rowOf rowNull ≡ columns columnsNull
   rowD-is : rowOf rowD ≡ columns columnsD
-  apart-lowers : Lowers apart (sql apart)
-  turned-lowers : Lowers turned (sql turned)
-  meeting-lowers : Lowers meeting (sql meeting)
-  pairs-lower : AllOf (λ o. Lowers (pair o) (sql (pair o))) thirteen
+  apart-lowers : Lowers w apart (sql w apart)
+  turned-lowers : Lowers w turned (sql w turned)
+  meeting-lowers : Lowers w meeting (sql w meeting)
+  pairs-lower : AllOf (λ o. Lowers w (pair o) (sql w (pair o))) thirteen
   apart-filter : timeFilter apart ≡ true
   temporal : isTemporal TDisjoint ≡ true
   heldNull : holds columnsNull apart ≡ true
-  unknown : answered (truthOn columnsNull apart) ≡ SaysUnknown
+  unknown : answered (truthOn w columnsNull apart) ≡ SaysUnknown
   instant : isOperand a ≡ true
   operands : (isOperand (interval b c) ≡ true) × (isOperand (interval a c) ≡ true) × (isOperand (interval b d) ≡ true)
   heldD : (holds columnsD a ≡ true) × (holds columnsD (interval b c) ≡ true)
   no-null : (columnsNonNull columnsD a ≡ true) × (columnsNonNull columnsD (interval b c) ≡ true)
-  below : (proper columnsD a c ≡ true) × (proper columnsD b d ≡ true)
+  below : (proper w columnsD a c ≡ true) × (proper w columnsD b d ≡ true)
   dates : (instants ten columnsD ≡ true) × (ogcOperand ten a ≡ true) × (ogcOperand ten (interval b c) ≡ true)
   holds-there : answered (truthOf (ogcOn ten columnsD TDisjoint a (interval b c))) ≡ SaysTrue
+  rowTimestamp-is : rowOf rowTimestamp ≡ columns columnsTimestamp
+  after-lowers : Lowers GeoPackage (after 1) (sql GeoPackage (after 1))
+  later-lowers : Lowers GeoPackage (after 2) (sql GeoPackage (after 2))
+  later-filter : timeFilter (after 2) ≡ true
+  after-temporal : isTemporal TAfter ≡ true
+  heldTimestamp : (holds columnsTimestamp a ≡ true) × (holds columnsTimestamp (midnight 1) ≡ true) × (holds columnsTimestamp (after 2) ≡ true)
+  stamps : (instants twentyFour columnsTimestamp ≡ true) × (ogcOperand twentyFour a ≡ true) × (ogcOperand twentyFour (midnight 1) ≡ true)
+  later : answered (truthOf (ogcOn twentyFour columnsTimestamp TAfter a (midnight 1))) ≡ SaysTrue
+  not-later : answered (truthOn GeoPackage columnsTimestamp (after 2)) ≡ SaysFalse
 
-computed : Computed
-unfolding prelude-choice.all prelude-choice.some prelude-choice.same record-record.frame record-record.recordOf charset-charset.letter charset-charset.digit charset-charset.nameStart charset-charset.nameByte keyword-reserved.upper keyword-reserved.reservedWords keyword-keywords.keywords keyword-keywords.keywordTexts keyword-reserved.reserved charset-charset.name string-utf8.sequences string-utf8.goesOn string-utf8.valid string-quote.doubled string-quote.undoubled string-quote.closing string-quote.quotedSize charset-charset.spatialByte civil-civil.leap civil-civil.daysIn civil-civil.validDate civil-civil.validTime op-op.opAt op-op.isArithmetic op-op.isArray op-op.isComparison op-op.isXtdComparison op-op.isSpatial op-op.isTemporal op-op.isInstantOrInterval op-op.isNullable op-spelling.spelledAs tree-tree.twos tree-tree.dateBytes tree-tree.counted tree-tree.encodeSettings tree-tree.encode tree-parse.also tree-parse.cons tree-parse.end tree-parse.exactly tree-parse.many tree-tests.first tree-tests.second tree-parse.signed tree-parse.namedAt tree-parse.emptyBody tree-parse.boolBody tree-parse.numBody tree-parse.strBody tree-parse.dateBody tree-parse.timestampBody tree-parse.spatialBody tree-parse.takesOne tree-parse.takesTwo tree-parse.allowed tree-parse.operated tree-parse.readFunction tree-parse.choose tree-parse.kinds tree-parse.node tree-parse.parse tree-tests.isInterval tree-tests.count tree-tests.isPair tree-placed.isBetween tree-placed.operands tree-placed.placed tree-placed.noInterval tree-placed.inPlace tree-placed.inner tree-tests.everywhere tree-tests.everywhereIn tree-tests.byOperator tree-accepted.isFrame tree-accepted.settingsBody tree-accepted.isSettings tree-accepted.settings tree-accepted.accepted literal-literal.low literal-literal.digits literal-literal.decimal literal-literal.pointed literal-literal.plain literal-literal.sign literal-literal.numText literal-literal.quoted literal-literal.collate literal-literal.strText literal-literal.spatialText literal-literal.date literal-literal.clock literal-literal.timestamp literal-literal.openEnd sql-condition.print sql-condition.checkId sql-condition.checkIds sql-translators.tAfter sql-translators.tBefore sql-translators.tDisjoint sql-translators.tEquals sql-translators.tIntersects sql-translators.tContains sql-translators.tDuring sql-translators.tFinishedBy sql-translators.tFinishes sql-translators.tMeets sql-translators.tMetBy sql-translators.tOverlappedBy sql-translators.tOverlaps sql-translators.tStartedBy sql-translators.tStarts sql-translators.translate tree-tests.isId tree-tests.isLiteralOrId tree-tests.isMonadic tree-tests.isItems tree-tests.startOf tree-tests.stopOf tree-tests.endsOf gpkg-text.joined gpkg-text.reducePrecision gpkg-text.monadicText gpkg-text.reduces gpkg-text.dyadicText tree-tests.isLiteral gpkg-text.text gpkg-lowered.fitted gpkg-lowered.lowering gpkg-lowered.answer gpkg-lowered.leaves order-order.order order-order.below row-row.cellOf row-row.columnIn row-row.framed row-row.front row-row.clash row-row.joined row-row.rowFrom row-row.rowOf row-row.look truth-lex.run truth-lex.wordKind truth-lex.signKind truth-lex.signMore truth-lex.quoteKind truth-lex.lexeme truth-lex.cut truth-lex.tokensIn truth-lex.tokens truth-lex.kind truth-lex.body truth-lex.rest truth-grammar.value truth-grammar.holds truth-grammar.eval truth-grammar.atomOf truth-grammar.notNull truth-grammar.nullTest truth-grammar.fromAtom truth-grammar.simple truth-grammar.orE truth-reading.parse truth-reading.readingOf truth-reading.decided time-filter.comparable time-filter.isEnd time-filter.isOperand time-filter.timeFilter time-filtertruth.treeAtom time-filtertruth.holds time-filtertruth.valueOn time-filtertruth.endAtom time-filtertruth.endOn time-filtertruth.condTruth time-filtertruth.temporalTruth time-filtertruth.comparison time-filtertruth.truthOn time-filtertruth.isValue time-filtertruth.liesBelow time-filtertruth.columnsNonNull time-converse.converse time-converse.thirteen time-ogc.earlier time-ogc.sameMoment time-ogc.ogc time-ogc.beginsDate time-ogc.goesOnTime time-ogc.isInstant time-ogc.fields time-ogc.instants time-ogc.isPoint time-ogc.isStart time-ogc.ogcOperand time-ogc.momentOn time-ogc.ogcOn
-computed =
+computed : (w : Writing) → Computed w
+unfolding prelude-choice.all prelude-choice.some prelude-choice.same record-record.frame record-record.recordOf charset-charset.letter charset-charset.digit charset-charset.nameStart charset-charset.nameByte keyword-reserved.upper keyword-reserved.reservedWords keyword-keywords.keywords keyword-keywords.keywordTexts keyword-reserved.reserved charset-charset.name string-utf8.sequences string-utf8.goesOn string-utf8.valid string-quote.doubled string-quote.undoubled string-quote.closing string-quote.quotedSize charset-charset.spatialByte civil-civil.leap civil-civil.daysIn civil-civil.validDate civil-civil.validTime op-op.opAt op-op.isArithmetic op-op.isArray op-op.isComparison op-op.isXtdComparison op-op.isSpatial op-op.isTemporal op-op.isInstantOrInterval op-op.isNullable op-spelling.spelledAs tree-tree.twos tree-tree.dateBytes tree-tree.counted tree-tree.encodeSettings tree-tree.encode tree-parse.also tree-parse.cons tree-parse.end tree-parse.exactly tree-parse.many tree-tests.first tree-tests.second tree-parse.signed tree-parse.namedAt tree-parse.emptyBody tree-parse.boolBody tree-parse.numBody tree-parse.strBody tree-parse.dateBody tree-parse.timestampBody tree-parse.spatialBody tree-parse.takesOne tree-parse.takesTwo tree-parse.allowed tree-parse.operated tree-parse.readFunction tree-parse.choose tree-parse.kinds tree-parse.node tree-parse.parse tree-tests.isInterval tree-tests.count tree-tests.isPair tree-placed.isBetween tree-placed.operands tree-placed.placed tree-placed.noInterval tree-placed.inPlace tree-placed.inner tree-tests.everywhere tree-tests.everywhereIn tree-tests.byOperator tree-accepted.isFrame tree-accepted.settingsBody tree-accepted.isSettings tree-accepted.settings tree-accepted.accepted literal-literal.low literal-literal.digits literal-literal.decimal literal-literal.pointed literal-literal.plain literal-literal.sign literal-literal.numText literal-literal.quoted literal-literal.collate literal-literal.strText literal-literal.spatialText literal-literal.date literal-literal.clock literal-literal.timestamp literal-literal.afterSeconds literal-literal.openEnd sql-condition.print sql-condition.checkId sql-condition.checkIds sql-translators.tAfter sql-translators.tBefore sql-translators.tDisjoint sql-translators.tEquals sql-translators.tIntersects sql-translators.tContains sql-translators.tDuring sql-translators.tFinishedBy sql-translators.tFinishes sql-translators.tMeets sql-translators.tMetBy sql-translators.tOverlappedBy sql-translators.tOverlaps sql-translators.tStartedBy sql-translators.tStarts sql-translators.translate tree-tests.isId tree-tests.isLiteralOrId tree-tests.isMonadic tree-tests.isItems tree-tests.startOf tree-tests.stopOf tree-tests.endsOf gpkg-text.joined gpkg-text.reducePrecision gpkg-text.monadicText gpkg-text.reduces gpkg-text.dyadicText tree-tests.isLiteral gpkg-text.text gpkg-lowered.fitted gpkg-lowered.lowering gpkg-lowered.answer gpkg-lowered.leaves order-order.order order-order.below row-row.cellOf row-row.columnIn row-row.framed row-row.front row-row.clash row-row.joined row-row.rowFrom row-row.rowOf row-row.look truth-lex.run truth-lex.wordKind truth-lex.signKind truth-lex.signMore truth-lex.quoteKind truth-lex.lexeme truth-lex.cut truth-lex.tokensIn truth-lex.tokens truth-lex.kind truth-lex.body truth-lex.rest truth-grammar.value truth-grammar.holds truth-grammar.eval truth-grammar.atomOf truth-grammar.notNull truth-grammar.nullTest truth-grammar.fromAtom truth-grammar.simple truth-grammar.orE truth-reading.parse truth-reading.readingOf truth-reading.decided time-filter.comparable time-filter.isEnd time-filter.isOperand time-filter.timeFilter time-filtertruth.treeAtom time-filtertruth.holds time-filtertruth.valueOn time-filtertruth.endAtom time-filtertruth.endOn time-filtertruth.condTruth time-filtertruth.temporalTruth time-filtertruth.comparison time-filtertruth.truthOn time-filtertruth.isValue time-filtertruth.liesBelow time-filtertruth.columnsNonNull time-converse.converse time-converse.thirteen time-ogc.earlier time-ogc.sameMoment time-ogc.ogc time-ogc.beginsDate time-ogc.goesOnTime time-ogc.goesOnMilliseconds time-ogc.isInstant time-ogc.fields time-ogc.instants time-ogc.isPoint time-ogc.isStart time-ogc.ogcOperand time-ogc.momentOn time-ogc.ogcOn
+computed w =
     record {
       rowNull-is = refl;
       rowD-is = refl;
-      apart-lowers = lowers-by apart refl refl refl;
-      turned-lowers = lowers-by turned refl refl refl;
-      meeting-lowers = lowers-by meeting refl refl refl;
+      apart-lowers = lowers-by w apart refl refl refl;
+      turned-lowers = lowers-by w turned refl refl refl;
+      meeting-lowers = lowers-by w meeting refl refl refl;
       pairs-lower =
-          lowers-by (pair TAfter) refl refl refl
-          also lowers-by (pair TBefore) refl refl refl
-          also lowers-by (pair TContains) refl refl refl
-          also lowers-by (pair TDuring) refl refl refl
-          also lowers-by (pair TEquals) refl refl refl
-          also lowers-by (pair TFinishedBy) refl refl refl
-          also lowers-by (pair TFinishes) refl refl refl
-          also lowers-by (pair TMeets) refl refl refl
-          also lowers-by (pair TMetBy) refl refl refl
-          also lowers-by (pair TOverlappedBy) refl refl refl
-          also lowers-by (pair TOverlaps) refl refl refl
-          also lowers-by (pair TStartedBy) refl refl refl
-          also lowers-by (pair TStarts) refl refl refl
+          lowers-by w (pair TAfter) refl refl refl
+          also lowers-by w (pair TBefore) refl refl refl
+          also lowers-by w (pair TContains) refl refl refl
+          also lowers-by w (pair TDuring) refl refl refl
+          also lowers-by w (pair TEquals) refl refl refl
+          also lowers-by w (pair TFinishedBy) refl refl refl
+          also lowers-by w (pair TFinishes) refl refl refl
+          also lowers-by w (pair TMeets) refl refl refl
+          also lowers-by w (pair TMetBy) refl refl refl
+          also lowers-by w (pair TOverlappedBy) refl refl refl
+          also lowers-by w (pair TOverlaps) refl refl refl
+          also lowers-by w (pair TStartedBy) refl refl refl
+          also lowers-by w (pair TStarts) refl refl refl
           also done;
       apart-filter = refl;
       temporal = refl;
@@ -189,38 +213,60 @@ computed =
       below = (refl, refl);
       dates = (refl, refl, refl);
       holds-there = refl;
+      rowTimestamp-is = refl;
+      after-lowers = lowers-by GeoPackage (after 1) refl refl refl;
+      later-lowers = lowers-by GeoPackage (after 2) refl refl refl;
+      later-filter = refl;
+      after-temporal = refl;
+      heldTimestamp = (refl, refl, refl);
+      stamps = (refl, refl, refl);
+      later = refl;
+      not-later = refl;
     }
 
 is-rowNull : IsRow rowNull columnsNull
-is-rowNull = record { short = omega arith; reads = computed .rowNull-is }
+is-rowNull = record { short = omega arith; reads = computed Rust .rowNull-is }
 
 is-rowD : IsRow rowD columnsD
-is-rowD = record { short = omega arith; reads = computed .rowD-is }
+is-rowD = record { short = omega arith; reads = computed Rust .rowD-is }
 
 -- reads-truth: sheet J's filter on the row with a NULL is unknown
-pub reads-truth-instance : readingOf (sql apart) rowNull ≡ SaysUnknown
-reads-truth-instance = reads-truth (computed .apart-lowers) (computed .apart-filter) is-rowNull (computed .heldNull) .0 ∙ computed .unknown
+pub reads-truth-instance : (w : Writing) → readingOf (sql w apart) rowNull ≡ SaysUnknown
+reads-truth-instance w = reads-truth (computed w .apart-lowers) (computed w .apart-filter) is-rowNull (computed w .heldNull) .0 ∙ computed w .unknown
 
 -- converse-reads: the operands exchanged
-pub converse-instance : Alike SaysTrue SaysFalse SaysUnknown (readingOf (sql apart) rowNull) (readingOf (sql turned) rowNull)
+pub converse-instance : (w : Writing) → Alike SaysTrue SaysFalse SaysUnknown (readingOf (sql w apart) rowNull) (readingOf (sql w turned) rowNull)
 unfolding time-converse.converse prelude-choice.some
-converse-instance =
-    converse-reads (turn TDisjoint a (interval b c) (computed .temporal)) (computed .apart-lowers) (computed .turned-lowers) (computed .apart-filter) is-rowNull (computed .heldNull)
+converse-instance w =
+    converse-reads (turn TDisjoint a (interval b c) (computed w .temporal)) (computed w .apart-lowers) (computed w .turned-lowers) (computed w .apart-filter) is-rowNull (computed w .heldNull)
 
 -- complement-reads: on a row without NULL
-pub complement-instance : Opposite SaysTrue SaysFalse SaysUnknown (readingOf (sql apart) rowD) (readingOf (sql meeting) rowD)
-complement-instance =
-    complement-reads (computed .apart-lowers) (computed .meeting-lowers) (computed .instant) (computed .operands .0) is-rowD
-    (computed .no-null .0) (computed .no-null .1)
+pub complement-instance : (w : Writing) → Opposite SaysTrue SaysFalse SaysUnknown (readingOf (sql w apart) rowD) (readingOf (sql w meeting) rowD)
+complement-instance w =
+    complement-reads (computed w .apart-lowers) (computed w .meeting-lowers) (computed w .instant) (computed w .operands .0) is-rowD
+    (computed w .no-null .0) (computed w .no-null .1)
 
 -- agrees-with-ogc: a lies before the interval from b to c, so they are disjoint
-pub ogc-instance : readingOf (sql apart) rowD ≡ SaysTrue
+pub ogc-instance : readingOf (sql Rust apart) rowD ≡ SaysTrue
 ogc-instance =
-    agrees-with-ogc ten (computed .apart-lowers) (computed .temporal) is-rowD (computed .heldD .0) (computed .heldD .1) (computed .dates .0) (computed .dates .1) (computed .dates .2)
-    ∙ computed .holds-there
+    agrees-with-ogc ten (computed Rust .apart-lowers) (computed Rust .temporal) is-rowD (computed Rust .heldD .0) (computed Rust .heldD .1) (computed Rust .dates .0) (computed Rust .dates .1) (computed Rust .dates .2)
+    ∙ computed Rust .holds-there
 
 -- exactly-one-reads: [a, c] and [b, d]
-pub exactly-one-instance : ExactlyOne SaysTrue SaysFalse (λ o. readingOf (sql (pair o)) rowD)
-exactly-one-instance =
-    exactly-one-reads (λ o. sql (pair o)) (among (λ o. Lowers (pair o) (sql (pair o))) (computed .pairs-lower)) (computed .operands .1) (computed .operands .2) is-rowD
-    (computed .below .0) (computed .below .1)
+pub exactly-one-instance : (w : Writing) → ExactlyOne SaysTrue SaysFalse (λ o. readingOf (sql w (pair o)) rowD)
+exactly-one-instance w =
+    exactly-one-reads (λ o. sql w (pair o)) (among (λ o. Lowers w (pair o) (sql w (pair o))) (computed w .pairs-lower)) (computed w .operands .1) (computed w .operands .2) is-rowD
+    (computed w .below .0) (computed w .below .1)
+
+-- in the second call
+is-rowTimestamp : IsRow rowTimestamp columnsTimestamp
+is-rowTimestamp = record { short = omega arith; reads = computed Rust .rowTimestamp-is }
+
+pub geopackage-truth-instance : readingOf (sql GeoPackage (after 2)) rowTimestamp ≡ SaysFalse
+geopackage-truth-instance =
+    reads-truth (computed GeoPackage .later-lowers) (computed GeoPackage .later-filter) is-rowTimestamp (computed GeoPackage .heldTimestamp .2) .0 ∙ computed GeoPackage .not-later
+
+pub geopackage-ogc-instance : readingOf (sql GeoPackage (after 1)) rowTimestamp ≡ SaysTrue
+geopackage-ogc-instance =
+    agrees-with-ogc twentyFour (computed GeoPackage .after-lowers) (computed GeoPackage .after-temporal) is-rowTimestamp (computed GeoPackage .heldTimestamp .0) (computed GeoPackage .heldTimestamp .1) (computed GeoPackage .stamps .0) (computed GeoPackage .stamps .1) (computed GeoPackage .stamps .2)
+    ∙ computed GeoPackage .later

@@ -1,5 +1,6 @@
--- The order of bytes of two valid values of one width is the order of their calendar fields: digit by digit is number by number, as two digits
--- or two numbers compared in turn are compared as one. A written date reads back as its fields, and an open end lies below every valid value.
+-- The order of bytes of two valid values of one width is the order of their calendar fields: digit by digit is number by number, as two or three
+-- digits or two numbers compared in turn are compared as one. A written date or timestamp reads back as its fields, and an open end lies below every
+-- valid value.
 use Prim.Native.Nat.{ℕ, suc, _+_, _-_, _*_, _/_, _%_, _≤_, _<_}
 use mathlib.Core.Path.{_≡_, refl, sym, ap, _∙_}
 use mathlib.Core.List.{List, [], _∷_, _++_}
@@ -20,7 +21,10 @@ use Rattle.order.specs.Order.{order}
 use Rattle.order.specs.OrderLaws.{three}
 use Rattle.literal.specs.Literal as literal
 use Rattle.literal.specs.Literal.{firstEnd}
-use Rattle.time.specs.Ogc.{twoAt, areTwo, yearOf, beginsDate, goesOnTime, Width, ten, nineteen, isInstant, fields}
+use Rattle.prelude.specs.Bytes.{bytes}
+use Rattle.tree.specs.Kinds.{TIMESTAMP}
+use Rattle.tree.specs.Tree.{timestamp}
+use Rattle.time.specs.Ogc.{twoAt, threeAt, areTwo, yearOf, beginsDate, goesOnTime, goesOnMilliseconds, Width, ten, nineteen, twentyFour, isInstant, fields, writingOf, written, writtenFields}
 
 -- Comparing number by number.
 
@@ -71,6 +75,12 @@ two-digits a b a' b' r h i j k =
 two-numbers : (p q p' q' : ℕ) (r : Ordering) → q < 100 → q' < 100 → step p p' (step q q' r) ≡ step (p * 100 + q) (p' * 100 + q') r
 two-numbers p q p' q' r h k =
     as-one p q p' q' (p * 100 + q) (p' * 100 + q') r (λ l. omega arith) (λ l. omega arith) (λ e l. omega arith) (λ e l. omega arith)
+    (λ e l. omega arith)
+
+-- two digits and one more
+third-digit : (p b p' b' : ℕ) (r : Ordering) → Digit b → Digit b' → step p p' (step b b' r) ≡ step (p * 10 + (b - 48)) (p' * 10 + (b' - 48)) r
+third-digit p b p' b' r h k =
+    as-one p b p' b' (p * 10 + (b - 48)) (p' * 10 + (b' - 48)) r (λ l. omega arith) (λ l. omega arith) (λ e l. omega arith) (λ e l. omega arith)
     (λ e l. omega arith)
 
 number-small : (a b : ℕ) → Digit a → Digit b → number a b < 100
@@ -162,6 +172,20 @@ time-parts s e =
       second = g .0;
     }
 
+record MillisecondParts (s : List ℕ) : Type 0 where
+  point : getD s 19 0 ≡ 46
+  tens : areTwo s 20 ≡ true
+  last : digit (getD s 22 0) ≡ true
+  zone : getD s 23 0 ≡ 90
+
+millisecond-parts : (s : List ℕ) → goesOnMilliseconds s ≡ true → MillisecondParts s
+unfolding goesOnMilliseconds
+millisecond-parts s e =
+    let a = both-true (eqb (getD s 19 0) 46) _ e in
+    let b = both-true (areTwo s 20) _ (a .1) in
+    let c = both-true (digit (getD s 22 0)) _ (b .1) in
+    record { point = eqb-true (getD s 19 0) 46 (a .0); tens = b .0; last = c .0; zone = eqb-true (getD s 23 0) 90 (c .1) }
+
 module _ (x y : List ℕ) where
   date-order : 10 ≤ length x → 10 ≤ length y → DateParts x → DateParts y
       → from x y 0 ≡ step (yearOf x) (yearOf y) (step (twoAt x 5) (twoAt y 5) (step (twoAt x 8) (twoAt y 8) (from x y 10)))
@@ -188,6 +212,24 @@ module _ (x y : List ℕ) where
       ∙ ap (λ r. step (twoAt x 14) (twoAt y 14) r)
       (sign-from x y 16 58 (omega arith) (omega arith) (p .colon') (q .colon') ∙ two-from x y 17 (omega arith) (omega arith) (p .second) (q .second)))
 
+  -- a date and a time of day
+  stamp-order : 19 ≤ length x → 19 ≤ length y → DateParts x → DateParts y → TimeParts x → TimeParts y
+      → from x y 0
+      ≡ step (yearOf x) (yearOf y) (step (twoAt x 5) (twoAt y 5) (step (twoAt x 8) (twoAt y 8)
+      (step (twoAt x 11) (twoAt y 11) (step (twoAt x 14) (twoAt y 14) (step (twoAt x 17) (twoAt y 17) (from x y 19))))))
+  stamp-order h k p q t u =
+      date-order (omega arith) (omega arith) p q
+      ∙ ap (λ r. step (yearOf x) (yearOf y) (step (twoAt x 5) (twoAt y 5) (step (twoAt x 8) (twoAt y 8) r))) (time-order h k t u)
+
+  millisecond-order : 24 ≤ length x → 24 ≤ length y → MillisecondParts x → MillisecondParts y
+      → from x y 19 ≡ step (threeAt x 20) (threeAt y 20) (from x y 24)
+  millisecond-order h k p q =
+      sign-from x y 19 46 (omega arith) (omega arith) (p .point) (q .point)
+      ∙ two-from x y 20 (omega arith) (omega arith) (p .tens) (q .tens)
+      ∙ ap (λ r. step (twoAt x 20) (twoAt y 20) r) (one-byte x y 22 (omega arith) (omega arith))
+      ∙ third-digit (twoAt x 20) (getD x 22 0) (twoAt y 20) (getD y 22 0) (from x y 23) (digit-is (getD x 22 0) (p .last)) (digit-is (getD y 22 0) (q .last))
+      ∙ ap (λ r. step (threeAt x 20) (threeAt y 20) r) (sign-from x y 23 90 (omega arith) (omega arith) (p .zone) (q .zone))
+
   at-end : (n : ℕ) → length x ≡ n → length y ≡ n → from x y n ≡ Equal
   unfolding order
   at-end n h k =
@@ -212,10 +254,26 @@ fields-order nineteen x y e f =
     let d = both-true (beginsDate y) (goesOnTime y) (b .1) in
     let l : length x ≡ 19 = eqb-true (length x) 19 (a .0) in
     let m : length y ≡ 19 = eqb-true (length y) 19 (b .0) in
-    date-order x y (omega arith) (omega arith) (date-parts x (c .0)) (date-parts y (d .0))
-    ∙ ap (λ r. step (yearOf x) (yearOf y) (step (twoAt x 5) (twoAt y 5) (step (twoAt x 8) (twoAt y 8) r)))
-    (time-order x y (omega arith) (omega arith) (time-parts x (c .1)) (time-parts y (d .1))
-    ∙ ap (λ r. step (twoAt x 11) (twoAt y 11) (step (twoAt x 14) (twoAt y 14) (step (twoAt x 17) (twoAt y 17) r))) (at-end x y 19 l m))
+    stamp-order x y (omega arith) (omega arith) (date-parts x (c .0)) (date-parts y (d .0)) (time-parts x (c .1)) (time-parts y (d .1))
+    ∙ ap
+    (λ r. step (yearOf x) (yearOf y) (step (twoAt x 5) (twoAt y 5) (step (twoAt x 8) (twoAt y 8)
+    (step (twoAt x 11) (twoAt y 11) (step (twoAt x 14) (twoAt y 14) (step (twoAt x 17) (twoAt y 17) r))))))
+    (at-end x y 19 l m)
+fields-order twentyFour x y e f =
+    let a = both-true (eqb (length x) 24) (both (beginsDate x) (both (goesOnTime x) (goesOnMilliseconds x))) e in
+    let b = both-true (eqb (length y) 24) (both (beginsDate y) (both (goesOnTime y) (goesOnMilliseconds y))) f in
+    let c = both-true (beginsDate x) (both (goesOnTime x) (goesOnMilliseconds x)) (a .1) in
+    let d = both-true (beginsDate y) (both (goesOnTime y) (goesOnMilliseconds y)) (b .1) in
+    let g = both-true (goesOnTime x) (goesOnMilliseconds x) (c .1) in
+    let h = both-true (goesOnTime y) (goesOnMilliseconds y) (d .1) in
+    let l : length x ≡ 24 = eqb-true (length x) 24 (a .0) in
+    let m : length y ≡ 24 = eqb-true (length y) 24 (b .0) in
+    stamp-order x y (omega arith) (omega arith) (date-parts x (c .0)) (date-parts y (d .0)) (time-parts x (g .0)) (time-parts y (h .0))
+    ∙ ap
+    (λ r. step (yearOf x) (yearOf y) (step (twoAt x 5) (twoAt y 5) (step (twoAt x 8) (twoAt y 8)
+    (step (twoAt x 11) (twoAt y 11) (step (twoAt x 14) (twoAt y 14) (step (twoAt x 17) (twoAt y 17) r))))))
+    (millisecond-order x y (omega arith) (omega arith) (millisecond-parts x (g .1)) (millisecond-parts y (h .1))
+    ∙ ap (λ r. step (threeAt x 20) (threeAt y 20) r) (at-end x y 24 l m))
 
 -- An open end lies below every valid value.
 begins : (w : Width) (x : List ℕ) → isInstant w x ≡ true → (10 ≤ length x) × DateParts x
@@ -228,6 +286,11 @@ begins nineteen x e =
     let a = both-true (eqb (length x) 19) (both (beginsDate x) (goesOnTime x)) e in
     let c = both-true (beginsDate x) (goesOnTime x) (a .1) in
     let l : length x ≡ 19 = eqb-true (length x) 19 (a .0) in
+    (omega arith, date-parts x (c .0))
+begins twentyFour x e =
+    let a = both-true (eqb (length x) 24) (both (beginsDate x) (both (goesOnTime x) (goesOnMilliseconds x))) e in
+    let c = both-true (beginsDate x) (both (goesOnTime x) (goesOnMilliseconds x)) (a .1) in
+    let l : length x ≡ 24 = eqb-true (length x) 24 (a .0) in
     (omega arith, date-parts x (c .0))
 
 open-first : (x : List ℕ) → 0 < length x → 48 ≤ getD x 0 0 → order (literal.openEnd firstEnd) x ≡ Less
@@ -291,26 +354,26 @@ and-also : {a b : Bool} → a ≡ true → b ≡ true → both a b ≡ true
 and-also p q = rw p q
 
 module _ (y m d : ℕ) (e : validDate y m d ≡ true) (r : List ℕ) where
-  abbrev written : List ℕ
-  written = literal.date y m d ++ r
+  abbrev begun : List ℕ
+  begun = literal.date y m d ++ r
 
-  year-back : yearOf written ≡ y
+  year-back : yearOf begun ≡ y
   unfolding literal.date literal.low
   year-back = four-back y (date-small y m d e .0)
 
-  month-back : twoAt written 5 ≡ m
+  month-back : twoAt begun 5 ≡ m
   unfolding literal.date literal.low
   month-back = two-back m (date-small y m d e .1)
 
-  day-back : twoAt written 8 ≡ d
+  day-back : twoAt begun 8 ≡ d
   unfolding literal.date literal.low
   day-back = two-back d (date-small y m d e .2)
 
-  valid-back : validDate (yearOf written) (twoAt written 5) (twoAt written 8) ≡ true
-  valid-back = ap (λ z. validDate z (twoAt written 5) (twoAt written 8)) year-back ∙ ap (λ z. validDate y z (twoAt written 8)) month-back
+  valid-back : validDate (yearOf begun) (twoAt begun 5) (twoAt begun 8) ≡ true
+  valid-back = ap (λ z. validDate z (twoAt begun 5) (twoAt begun 8)) year-back ∙ ap (λ z. validDate y z (twoAt begun 8)) month-back
       ∙ ap (λ z. validDate y m z) day-back ∙ e
 
-  date-begins : beginsDate written ≡ true
+  date-begins : beginsDate begun ≡ true
   unfolding beginsDate literal.date literal.low
   date-begins =
       and-also (and-also (shown (y / 10 / 10 / 10)) (shown (y / 10 / 10)))
@@ -332,47 +395,62 @@ date-fields y m d e =
     cc
 
 module _ (y m d h i s : ℕ) (e : validDate y m d ≡ true) (f : validTime h i s ≡ true) where
-  abbrev time : List ℕ
-  time = 84 ∷ (literal.low 2 h ++ (58 ∷ (literal.low 2 i ++ (58 ∷ literal.low 2 s))))
+  -- what follows the date, with more after the seconds
+  abbrev time : List ℕ → List ℕ
+  time more = 84 ∷ (literal.low 2 h ++ (58 ∷ (literal.low 2 i ++ (58 ∷ (literal.low 2 s ++ more)))))
 
-  abbrev stamp : List ℕ
-  stamp = literal.date y m d ++ time
+  abbrev stamp : List ℕ → List ℕ
+  stamp more = literal.date y m d ++ time more
 
-  hour-back : twoAt stamp 11 ≡ h
+  hour-back : (more : List ℕ) → twoAt (stamp more) 11 ≡ h
   unfolding literal.date literal.low
-  hour-back = two-back h (time-small h i s f .0)
+  hour-back more = two-back h (time-small h i s f .0)
 
-  minute-back : twoAt stamp 14 ≡ i
+  minute-back : (more : List ℕ) → twoAt (stamp more) 14 ≡ i
   unfolding literal.date literal.low
-  minute-back = two-back i (time-small h i s f .1)
+  minute-back more = two-back i (time-small h i s f .1)
 
-  second-back : twoAt stamp 17 ≡ s
+  second-back : (more : List ℕ) → twoAt (stamp more) 17 ≡ s
   unfolding literal.date literal.low
-  second-back = two-back s (time-small h i s f .2)
+  second-back more = two-back s (time-small h i s f .2)
 
-  time-back : validTime (twoAt stamp 11) (twoAt stamp 14) (twoAt stamp 17) ≡ true
-  time-back = ap (λ z. validTime z (twoAt stamp 14) (twoAt stamp 17)) hour-back ∙ ap (λ z. validTime h z (twoAt stamp 17)) minute-back
-      ∙ ap (λ z. validTime h i z) second-back ∙ f
+  time-back : (more : List ℕ) → validTime (twoAt (stamp more) 11) (twoAt (stamp more) 14) (twoAt (stamp more) 17) ≡ true
+  time-back more =
+      ap (λ z. validTime z (twoAt (stamp more) 14) (twoAt (stamp more) 17)) (hour-back more)
+      ∙ ap (λ z. validTime h z (twoAt (stamp more) 17)) (minute-back more)
+      ∙ ap (λ z. validTime h i z) (second-back more) ∙ f
 
-  time-goes-on : goesOnTime stamp ≡ true
+  time-goes-on : (more : List ℕ) → goesOnTime (stamp more) ≡ true
   unfolding goesOnTime literal.date literal.low
-  time-goes-on =
+  time-goes-on more =
       and-also refl
       (and-also (and-also (shown (h / 10)) (shown h))
       (and-also refl
-      (and-also (and-also (shown (i / 10)) (shown i)) (and-also refl (and-also (and-also (shown (s / 10)) (shown s)) time-back)))))
+      (and-also (and-also (shown (i / 10)) (shown i)) (and-also refl (and-also (and-also (shown (s / 10)) (shown s)) (time-back more))))))
 
-  pub timestamp-instant : isInstant nineteen (literal.timestamp y m d h i s) ≡ true
-  unfolding isInstant literal.timestamp literal.clock literal.date literal.low
-  timestamp-instant = and-also (date-begins y m d e time) time-goes-on
+  -- a written timestamp, by the width of what it is compared with
+  pub timestamp-instant : (w : Width) → written w ≡ TIMESTAMP → isInstant w (literal.timestamp (writingOf w) y m d h i s) ≡ true
+  unfolding isInstant goesOnMilliseconds digit literal.timestamp literal.afterSeconds literal.clock literal.date literal.low
+  timestamp-instant ten q = absurd (omega arith)
+  timestamp-instant nineteen q = and-also (date-begins y m d e (time [])) (time-goes-on [])
+  timestamp-instant twentyFour q = and-also (date-begins y m d e (time (bytes ".000Z"))) (and-also (time-goes-on (bytes ".000Z")) refl)
 
-  pub timestamp-fields : fields nineteen (literal.timestamp y m d h i s) ≡ y ∷ m ∷ d ∷ h ∷ i ∷ s ∷ []
-  unfolding fields literal.timestamp literal.clock literal.date literal.low
-  timestamp-fields =
-      let a = year-back y m d e time in
-      let b = month-back y m d e time in
-      let c = day-back y m d e time in
-      let p = hour-back in
-      let q = minute-back in
-      let r = second-back in
+  pub timestamp-fields : (w : Width) → written w ≡ TIMESTAMP → fields w (literal.timestamp (writingOf w) y m d h i s) ≡ writtenFields w (timestamp y m d h i s)
+  unfolding fields literal.timestamp literal.afterSeconds literal.clock literal.date literal.low
+  timestamp-fields ten q = absurd (omega arith)
+  timestamp-fields nineteen q =
+      let a = year-back y m d e (time []) in
+      let b = month-back y m d e (time []) in
+      let c = day-back y m d e (time []) in
+      let p = hour-back [] in
+      let r = minute-back [] in
+      let t = second-back [] in
+      cc
+  timestamp-fields twentyFour q =
+      let a = year-back y m d e (time (bytes ".000Z")) in
+      let b = month-back y m d e (time (bytes ".000Z")) in
+      let c = day-back y m d e (time (bytes ".000Z")) in
+      let p = hour-back (bytes ".000Z") in
+      let r = minute-back (bytes ".000Z") in
+      let t = second-back (bytes ".000Z") in
       cc

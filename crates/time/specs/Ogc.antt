@@ -1,7 +1,8 @@
 -- Instants, intervals and the fifteen temporal predicates of OGC 21-065r2 (CQL2), by their formulas over starts and ends; an open start
--- lies below every instant and equals any other open start. Valid ten-byte dates and 19-byte timestamps are instants in calendar order.
+-- lies below every instant and equals any other open start. Valid ten-byte dates, 19-byte timestamps and 24-byte values of GeoPackage's DATETIME
+-- (document 02, slip 4) are instants in calendar order.
 use Prim.Native.Nat.{ℕ, _+_, _-_, _*_}
-use mathlib.Core.List.{List, [], _∷_}
+use mathlib.Core.List.{List, [], _∷_, _++_}
 use mathlib.Core.Bool.{Bool, true, false}
 use lib.ListN.{length, getD}
 use lib.Dec.{eqb}
@@ -14,11 +15,12 @@ use Rattle.op.specs.declared.Op.{Op}
 use Rattle.op.specs.declared.Op.the-variants.{TAfter, TBefore, TContains, TDisjoint, TDuring, TEquals, TFinishedBy, TFinishes, TIntersects, TMeets, TMetBy, TOverlappedBy, TOverlaps, TStartedBy, TStarts}
 use Rattle.tree.specs.Kinds.{UNBOUNDED, DATE, TIMESTAMP, ID}
 use Rattle.tree.specs.Tree.{Tree, kindOf}
-use Rattle.tree.specs.Tests.{fieldsOf, kindIn, isId, isInterval, startOf, stopOf}
-use Rattle.row.specs.Row.{Value, val, Column, Found, absent, has}
+use Rattle.tree.specs.Tests.{columnName, fieldsOf, kindIn, isId, isInterval, startOf, stopOf}
+use Rattle.literal.specs.declared.Writing.{Writing}
+use Rattle.literal.specs.declared.Writing.the-variants.{Rust, GeoPackage}
+use Rattle.row.specs.Row.{Value, val, Column, Found, absent, has, look}
 use Rattle.row.specs.Row as row
 use Rattle.time.specs.Operators.{entry}
-use Rattle.time.specs.FilterTruth.{valueOn}
 
 -- an instant by its calendar fields, the largest first; or an open start
 pub data Moment : Type 0 where
@@ -73,6 +75,10 @@ digitAt s i = getD s i 0 - zeroDigit
 abbrev pub twoAt : List ℕ → ℕ → ℕ
 twoAt s i = digitAt s i * 10 + digitAt s (i + 1)
 
+-- three digits at i
+abbrev pub threeAt : List ℕ → ℕ → ℕ
+threeAt s i = twoAt s i * 10 + digitAt s (i + 2)
+
 abbrev pub areTwo : List ℕ → ℕ → Bool
 areTwo s i = both (digit (getD s i 0)) (digit (getD s (i + 1) 0))
 
@@ -91,14 +97,21 @@ goesOnTime s =
     both (eqb (getD s 10 0) (byte "T")) (both (areTwo s 11) (both (eqb (getD s 13 0) colon) (both (areTwo s 14) (both (eqb (getD s 16 0) colon) (both (areTwo s 17)
     (validTime (twoAt s 11) (twoAt s 14) (twoAt s 17)))))))
 
--- all values are of one width: valid ten-byte dates, or valid 19-byte timestamps
+-- .SSSZ after that, milliseconds 000 to 999
+unfoldable pub goesOnMilliseconds : List ℕ → Bool
+goesOnMilliseconds s =
+    both (eqb (getD s 19 0) (byte ".")) (both (areTwo s 20) (both (digit (getD s 22 0)) (eqb (getD s 23 0) (byte "Z"))))
+
+-- all values are of one width: valid ten-byte dates, valid 19-byte timestamps, or valid 24-byte values YYYY-MM-DDTHH:MM:SS.SSSZ
 pub data Width : Type 0 where
   ten : Width
   nineteen : Width
+  twentyFour : Width
 
 unfoldable pub isInstant : Width → List ℕ → Bool
 isInstant ten s = both (eqb (length s) 10) (beginsDate s)
 isInstant nineteen s = both (eqb (length s) 19) (both (beginsDate s) (goesOnTime s))
+isInstant twentyFour s = both (eqb (length s) 24) (both (beginsDate s) (both (goesOnTime s) (goesOnMilliseconds s)))
 
 abbrev pub dateFields : List ℕ → List ℕ
 dateFields s = yearOf s ∷ twoAt s 5 ∷ twoAt s 8 ∷ []
@@ -106,8 +119,15 @@ dateFields s = yearOf s ∷ twoAt s 5 ∷ twoAt s 8 ∷ []
 unfoldable pub fields : Width → List ℕ → List ℕ
 fields ten s = dateFields s
 fields nineteen s = yearOf s ∷ twoAt s 5 ∷ twoAt s 8 ∷ twoAt s 11 ∷ twoAt s 14 ∷ twoAt s 17 ∷ []
+fields twentyFour s = yearOf s ∷ twoAt s 5 ∷ twoAt s 8 ∷ twoAt s 11 ∷ twoAt s 14 ∷ twoAt s 17 ∷ threeAt s 20 ∷ []
 
--- Where document 01 asks for the agreement.
+-- Where documents 01 and 02 ask for the agreement.
+
+-- the call for which the agreement is asked, by the width of the row's values: the second for 24 bytes, else the first
+abbrev pub writingOf : Width → Writing
+writingOf ten = Rust
+writingOf nineteen = Rust
+writingOf twentyFour = GeoPackage
 
 abbrev pub isInstantValue : Width → Value → Bool
 isInstantValue w row.null = false
@@ -122,6 +142,13 @@ instants w (c ∷ cs) = both (isInstantValue w (c .holds)) (instants w cs)
 abbrev pub written : Width → ℕ
 written ten = DATE
 written nineteen = TIMESTAMP
+written twentyFour = TIMESTAMP
+
+-- its fields; no milliseconds are written but 000
+abbrev pub writtenFields : Width → Tree → List ℕ
+writtenFields ten t = fieldsOf t
+writtenFields nineteen t = fieldsOf t
+writtenFields twentyFour t = fieldsOf t ++ (0 ∷ [])
 
 -- a column or a written instant of that width, and no NULL literal
 unfoldable pub isPoint : Width → Tree → Bool
@@ -141,7 +168,7 @@ momentOf w (has row.null) = openStart
 momentOf w (has (val x)) = moment (fields w x)
 
 unfoldable pub momentOn : Width → List Column → Tree → Moment
-momentOn w cs t = pick (isId t) (momentOf w (valueOn cs t)) (pick (eqb (kindOf t) UNBOUNDED) openStart (moment (fieldsOf t)))
+momentOn w cs t = pick (isId t) (momentOf w (look (columnName t) cs)) (pick (eqb (kindOf t) UNBOUNDED) openStart (moment (writtenFields w t)))
 
 -- the start and the end of an operand: of an instant both are the instant
 abbrev pub startMoment : Width → List Column → Tree → Moment

@@ -34,7 +34,7 @@ use Rattle.truth.specs.Grammar as grammar
 use Rattle.time.specs.Filter.{isEnd}
 use Rattle.time.specs.FilterLaws.{EndIs, null-end, open-end, date-end, timestamp-end, column-end, end-is}
 use Rattle.time.specs.FilterTruth.{found, holds, treeAtom, endAtom, valueOn, endOn, condTruth, endValues, temporalTruth, isValue}
-use Rattle.time.specs.Ogc.{Moment, openStart, moment, earlier, sameMoment, ogc, Width, ten, nineteen, isInstant, fields, isInstantValue, instants, isPoint, isStart, ogcOperand, momentOf, momentOn, ogcOn}
+use Rattle.time.specs.Ogc.{Moment, openStart, moment, earlier, sameMoment, ogc, Width, ten, nineteen, twentyFour, isInstant, fields, writingOf, written, writtenFields, isInstantValue, instants, isPoint, isStart, ogcOperand, momentOf, momentOn, ogcOn}
 use Rattle.time.specs.OperatorLaws.{done, _also_, of-temporal}
 use Rattle.time.specs.TruthLaws.{and3-known, or3-known, not3-known, orders, gt-lt, guard, guard-passes, check-id, check-ids, closed-end}
 use Rattle.time.specs.ComplementLaws.{ne-eq}
@@ -279,44 +279,55 @@ look-stands w s (c ∷ cs) e f =
     go true g k r = k
     go false g k r = r g
 
-date-stands : (w : Width) (y m d : ℕ) → validDate y m d ≡ true → isStart w (date y m d) ≡ true → Stands w (has (val (literal.date y m d))) (moment (y ∷ m ∷ d ∷ []))
+date-stands : (w : Width) (y m d : ℕ) → validDate y m d ≡ true → isStart w (date y m d) ≡ true → Stands w (has (val (literal.date y m d))) (moment (writtenFields w (date y m d)))
 unfolding isStart
 date-stands ten y m d e f =
     let k : Stands ten (has (val (literal.date y m d))) (moment (fields ten (literal.date y m d))) = at (date-instant y m d e) in
     rw (date-fields y m d e) at k
 date-stands nineteen y m d e f = absurd (false≢true f)
+date-stands twentyFour y m d e f = absurd (false≢true f)
+
+-- a width whose starts may be a Timestamp is one whose written instants are Timestamps
+timestamp-written : (w : Width) (y m d h i s : ℕ) → isStart w (timestamp y m d h i s) ≡ true → written w ≡ TIMESTAMP
+unfolding isStart
+timestamp-written ten y m d h i s g = absurd (false≢true g)
+timestamp-written nineteen y m d h i s g = refl
+timestamp-written twentyFour y m d h i s g = refl
 
 timestamp-stands : (w : Width) (y m d h i s : ℕ) → validDate y m d ≡ true → validTime h i s ≡ true → isStart w (timestamp y m d h i s) ≡ true
-    → Stands w (has (val (literal.timestamp y m d h i s))) (moment (y ∷ m ∷ d ∷ h ∷ i ∷ s ∷ []))
-unfolding isStart
-timestamp-stands ten y m d h i s e f g = absurd (false≢true g)
-timestamp-stands nineteen y m d h i s e f g =
-    let k : Stands nineteen (has (val (literal.timestamp y m d h i s))) (moment (fields nineteen (literal.timestamp y m d h i s))) =
-    at (timestamp-instant y m d h i s e f) in
-    rw (timestamp-fields y m d h i s e f) at k
+    → Stands w (has (val (literal.timestamp (writingOf w) y m d h i s))) (moment (writtenFields w (timestamp y m d h i s)))
+timestamp-stands w y m d h i s e f g =
+    let q = timestamp-written w y m d h i s g in
+    let k : Stands w (has (val (literal.timestamp (writingOf w) y m d h i s))) (moment (fields w (literal.timestamp (writingOf w) y m d h i s))) =
+    at (timestamp-instant y m d h i s e f w q) in
+    rw (timestamp-fields y m d h i s e f w q) at k
 
 -- Null is no start
 null-starts : (w : Width) → isStart w null ≡ true → ⊥
 unfolding isStart
 null-starts ten f = false≢true f
 null-starts nineteen f = false≢true f
+null-starts twentyFour f = false≢true f
 
 -- a point is a start that is not open, and both are ends
 pub start-is-end : (w : Width) (t : Tree) → isStart w t ≡ true → isEnd t ≡ true
 unfolding isStart isEnd
 start-is-end ten t = one-of-all (ID ∷ DATE ∷ UNBOUNDED ∷ []) (ID ∷ DATE ∷ TIMESTAMP ∷ UNBOUNDED ∷ NULL ∷ []) (kindOf t) refl
 start-is-end nineteen t = one-of-all (ID ∷ TIMESTAMP ∷ UNBOUNDED ∷ []) (ID ∷ DATE ∷ TIMESTAMP ∷ UNBOUNDED ∷ NULL ∷ []) (kindOf t) refl
+start-is-end twentyFour t = one-of-all (ID ∷ TIMESTAMP ∷ UNBOUNDED ∷ []) (ID ∷ DATE ∷ TIMESTAMP ∷ UNBOUNDED ∷ NULL ∷ []) (kindOf t) refl
 
 pub point-start : (w : Width) (t : Tree) → isPoint w t ≡ true → isStart w t ≡ true
 unfolding isPoint isStart
 point-start ten t = one-of-all (ID ∷ DATE ∷ []) (ID ∷ DATE ∷ UNBOUNDED ∷ []) (kindOf t) refl
 point-start nineteen t = one-of-all (ID ∷ TIMESTAMP ∷ []) (ID ∷ TIMESTAMP ∷ UNBOUNDED ∷ []) (kindOf t) refl
+point-start twentyFour t = one-of-all (ID ∷ TIMESTAMP ∷ []) (ID ∷ TIMESTAMP ∷ UNBOUNDED ∷ []) (kindOf t) refl
 
 -- a point is not open, so that its slot does not matter
 open-points : (w : Width) → isPoint w unbounded ≡ true → ⊥
 unfolding isPoint
 open-points ten f = false≢true f
 open-points nineteen f = false≢true f
+open-points twentyFour f = false≢true f
 
 point-closed : (w : Width) (t : Tree) → isPoint w t ≡ true → eqb (kindOf t) UNBOUNDED ≡ false
 point-closed w t f = go t (end-is t (start-is-end w t (point-start w t f))) f
@@ -329,42 +340,42 @@ point-closed w t f = go t (end-is t (start-is-end w t (point-start w t f))) f
     go t (column-end s) f = refl
 
 module _ (w : Width) (cs : List Column) (e : instants w cs ≡ true) where
-  start-stands : (t : Tree) (n : ℕ) → Good t n → holds cs t ≡ true → isStart w t ≡ true → Stands w (endOn cs firstEnd t) (momentOn w cs t)
+  start-stands : (t : Tree) (n : ℕ) → Good t n → holds cs t ≡ true → isStart w t ≡ true → Stands w (endOn (writingOf w) cs firstEnd t) (momentOn w cs t)
   unfolding Good holds everywhere endOn endAtom valueOn treeAtom value momentOn isId
   start-stands t n g p f = go t (end-is t (start-is-end w t f)) g p f
     where
-      go : (t : Tree) → EndIs t → Good t n → holds cs t ≡ true → isStart w t ≡ true → Stands w (endOn cs firstEnd t) (momentOn w cs t)
+      go : (t : Tree) → EndIs t → Good t n → holds cs t ≡ true → isStart w t ≡ true → Stands w (endOn (writingOf w) cs firstEnd t) (momentOn w cs t)
       go t null-end g p f = absurd (null-starts w f)
       go t open-end g p f = opens
       go t (date-end y m d) g p f = date-stands w y m d (g .1) f
       go t (timestamp-end y m d h i s) g p f = timestamp-stands w y m d h i s (g .1) (g .2) f
       go t (column-end s) g p f = look-stands w s cs e p
 
-  point-stands : (slot : Slot) (t : Tree) (n : ℕ) → Good t n → holds cs t ≡ true → isPoint w t ≡ true → Stands w (endOn cs slot t) (momentOn w cs t)
+  point-stands : (slot : Slot) (t : Tree) (n : ℕ) → Good t n → holds cs t ≡ true → isPoint w t ≡ true → Stands w (endOn (writingOf w) cs slot t) (momentOn w cs t)
   point-stands slot t n g p f =
       let c = point-closed w t f in
-      subst (λ v. Stands w v (momentOn w cs t)) (closed-end cs firstEnd t c ∙ sym (closed-end cs slot t c)) (start-stands t n g p (point-start w t f))
+      subst (λ v. Stands w v (momentOn w cs t)) (closed-end (writingOf w) cs firstEnd t c ∙ sym (closed-end (writingOf w) cs slot t c)) (start-stands t n g p (point-start w t f))
 
   -- the ends of an interval
   ends-stand : (t : Tree) (n : ℕ) → OfKind INTERVAL t → Good t n → holds cs t ≡ true → ogcOperand w t ≡ true
-      → Stands w (endOn cs (startSlot (isInterval t)) (startOf t)) (momentOn w cs (startOf t)) × Stands w (endOn cs (stopSlot (isInterval t)) (stopOf t)) (momentOn w cs (stopOf t))
-  unfolding Good holds everywhere endOn endAtom valueOn treeAtom value ogcOperand isInterval startOf stopOf first second
+      → Stands w (endOn (writingOf w) cs (startSlot (isInterval t)) (startOf t)) (momentOn w cs (startOf t)) × Stands w (endOn (writingOf w) cs (stopSlot (isInterval t)) (stopOf t)) (momentOn w cs (stopOf t))
+  unfolding Good holds everywhere endOn endAtom valueOn treeAtom value ogcOperand isInterval startOf stopOf first second isId
   ends-stand t n (of-interval a b) g p f =
       let h = both-true (holds cs a) (holds cs b) p in
       let k = both-true (isStart w a) (isPoint w b) f in
       (start-stands a (n - 1) (g .1) (h .0) (k .0), point-stands secondEnd b (n - 1) (g .2) (h .1) (k .1))
 
-  first-stands : (t : Tree) (n : ℕ) → Good t n → holds cs t ≡ true → ogcOperand w t ≡ true → Stands w (endOn cs (startSlot (isInterval t)) (startOf t)) (momentOn w cs (startOf t))
+  first-stands : (t : Tree) (n : ℕ) → Good t n → holds cs t ≡ true → ogcOperand w t ≡ true → Stands w (endOn (writingOf w) cs (startSlot (isInterval t)) (startOf t)) (momentOn w cs (startOf t))
   unfolding ogcOperand startOf
   first-stands t n g p f = go (isInterval t) refl f
     where
       go : (b : Bool) → isInterval t ≡ b → pick b (both (isStart w (startOf t)) (isPoint w (stopOf t))) (isPoint w t) ≡ true
-          → Stands w (endOn cs (startSlot b) (pick b (first (children t)) t)) (momentOn w cs (pick b (first (children t)) t))
-      go true i q = subst (λ (c : Bool). Stands w (endOn cs (startSlot c) (pick c (first (children t)) t)) (momentOn w cs (pick c (first (children t)) t))) i (ends-stand t n (interval-is t i) g p f .0)
+          → Stands w (endOn (writingOf w) cs (startSlot b) (pick b (first (children t)) t)) (momentOn w cs (pick b (first (children t)) t))
+      go true i q = subst (λ (c : Bool). Stands w (endOn (writingOf w) cs (startSlot c) (pick c (first (children t)) t)) (momentOn w cs (pick c (first (children t)) t))) i (ends-stand t n (interval-is t i) g p f .0)
       go false i q = point-stands alone t n g p q
 
   last-stands : (t : Tree) (n : ℕ) → Good t n → holds cs t ≡ true → ogcOperand w t ≡ true → isInterval t ≡ true
-      → Stands w (endOn cs (stopSlot (isInterval t)) (stopOf t)) (momentOn w cs (stopOf t))
+      → Stands w (endOn (writingOf w) cs (stopSlot (isInterval t)) (stopOf t)) (momentOn w cs (stopOf t))
   last-stands t n g p f i = ends-stand t n (interval-is t i) g p f .1
 
 -- the moment of an end that is chosen
@@ -372,16 +383,16 @@ chosen : (w : Width) (cs : List Column) (b : Bool) (t u : Tree) → pick b (mome
 chosen w cs true t u = refl
 chosen w cs false t u = refl
 
--- On a row without NULL, all of its values valid ten-byte dates or all valid 19-byte timestamps, the written instants of that width, `..` only as an
+-- On a row without NULL, all of its values valid and of one width, the written instants as that width's call writes them, `..` only as an
 -- interval's start and no NULL literal, a temporal predicate is true if the predicate of 21-065r2 holds, and false if not.
 pub ogc-agrees : (w : Width) (cs : List Column) (o : Op) (t u : Tree) (n m : ℕ) → isTemporal o ≡ true → operands o t u ≡ true → Good t n → Good u m
     → instants w cs ≡ true → holds cs t ≡ true → holds cs u ≡ true → ogcOperand w t ≡ true → ogcOperand w u ≡ true
-    → temporalTruth cs o t u ≡ truthOf (ogcOn w cs o t u)
+    → temporalTruth (writingOf w) cs o t u ≡ truthOf (ogcOn w cs o t u)
 unfolding temporalTruth ogcOn endsOf operands
 ogc-agrees w cs o t u n m e f p q r ht hu ot ou =
     let d : either (isInstantOrInterval o) (both (isInterval t) (isInterval u)) ≡ true = rw e at f in
     let k =
-    agrees w (endValues cs t u) (columnsOf t u) (momentOn w cs (startOf t)) (momentOn w cs (stopOf t)) (momentOn w cs (startOf u)) (momentOn w cs (stopOf u))
+    agrees w (endValues (writingOf w) cs t u) (columnsOf t u) (momentOn w cs (startOf t)) (momentOn w cs (stopOf t)) (momentOn w cs (startOf u)) (momentOn w cs (stopOf u))
     (first-stands w cs r t n p ht ot) (first-stands w cs r u m q hu ou) o e (isInterval t) (isInterval u)
     (last-stands w cs r t n p ht ot) (last-stands w cs r u m q hu ou) d in
     k .is

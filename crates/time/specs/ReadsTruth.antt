@@ -21,9 +21,10 @@ use Rattle.tree.specs.Parse.{refused, got, also, parse}
 use Rattle.tree.specs.ParseLaws.{also-got, not-got, parse-good}
 use Rattle.tree.specs.GoodWords.{Good}
 use Rattle.tree.specs.Placed.{placed}
-use Rattle.tree.specs.Tests.{fieldsOf, everywhere, isInterval, startOf, stopOf, endsOf, columnsOf}
+use Rattle.tree.specs.Tests.{fieldsOf, everywhere, isId, isInterval, startOf, stopOf, endsOf, columnsOf}
 use Rattle.tree.specs.TestsLaws.{everywhere-here, everywhere-start, everywhere-stop, by-operator}
 use Rattle.tree.specs.Accepted.{settings, accepted}
+use Rattle.literal.specs.declared.Writing.{Writing}
 use Rattle.literal.specs.Literal.{startSlot, stopSlot}
 use Rattle.sql.specs.Condition as sql
 use Rattle.sql.specs.Translators.{translate}
@@ -40,16 +41,16 @@ use Rattle.truth.specs.Lex.{kind}
 use Rattle.truth.specs.Reading.{textLimit, rowLimit, answered, decided, readingOf}
 use Rattle.truth.specs.Reading as reading
 use Rattle.time.specs.Filter.{isNeg, isAnd, isOr, compares, timeFilter}
-use Rattle.time.specs.FilterTruth.{treeAtom, endAtom, valueOn, endOn, found, holds, signOf, condTruth, endValues, temporalTruth, comparison, constant, monadicTruth, dyadicTruth, truthOn}
+use Rattle.time.specs.FilterTruth.{treeAtom, endAtom, valueOn, endOn, found, atColumn, holds, signOf, condTruth, endValues, temporalTruth, comparison, constant, monadicTruth, dyadicTruth, truthOn}
 use Rattle.time.specs.Accepted.{Lowers, IsRow}
-use Rattle.time.specs.TruthLaws.{end-on}
+use Rattle.time.specs.TruthLaws.{end-on, value-found}
 use Rattle.time.specs.ReadBackLaws.{Prints, parses-back}
 use Rattle.time.specs.FilterReadsLaws.{filterAst, filter-eval, filter-shown, deeper}
 
 -- What an accepted filter is.
-pub record Parts (t : Tree) (x : List ℕ) : Type 0 where
+pub record Parts (writing : Writing) (t : Tree) (x : List ℕ) : Type 0 where
   pub with : Settings
-  pub text-is : x ≡ gpkg.text with t
+  pub text-is : x ≡ gpkg.text writing with t
   pub short : length x ≤ lengthLimit
   pub good : Good t depthLimit
   pub in-place : placed t ≡ true
@@ -84,12 +85,12 @@ accepted-is c s p e =
     go g true q = not-got TreeTooLong p q
     go g false q = placed-is g s p q
 
-pub parts : {t : Tree} {x : List ℕ} → Lowers t x → Parts t x
+pub parts : {writing : Writing} {t : Tree} {x : List ℕ} → Lowers writing t x → Parts writing t x
 unfolding lowering also
-parts {t} {x} L =
+parts {writing} {t} {x} L =
     let a = accepted-is (L .settings) (L .tree) (L .holds, t) (L .read) in
-    let e : fitted (L .room) (gpkg.text (L .holds) t) ≡ got x = rw (L .read) at (L .lowered) in
-    let f = fitted-is (L .room) (gpkg.text (L .holds) t) x e in
+    let e : fitted (L .room) (gpkg.text writing (L .holds) t) ≡ got x = rw (L .read) at (L .lowered) in
+    let f = fitted-is (L .room) (gpkg.text writing (L .holds) t) x e in
     record {
       with = L .holds;
       text-is = sym (f .0);
@@ -163,25 +164,25 @@ known-cond v h (sql.not c) = known-not (condTruth v c) (known-cond v h c)
 known-cond v h (sql.brackets c) = known-cond v h c
 
 -- a value on a row that holds the tree's columns, and those of its ends
-value-found : (cs : List Column) (t : Tree) → holds cs t ≡ true → found (valueOn cs t) ≡ true
+held-found : (writing : Writing) (cs : List Column) (t : Tree) → holds cs t ≡ true → found (valueOn writing cs t) ≡ true
 unfolding holds
-value-found cs = everywhere-here (λ n. found (valueOn cs n))
+held-found writing cs t e = sym (value-found writing cs t) ∙ everywhere-here (atColumn found cs) t e
 
 start-held : (cs : List Column) (t : Tree) → holds cs t ≡ true → holds cs (startOf t) ≡ true
-unfolding holds valueOn treeAtom value
-start-held cs = everywhere-start (λ n. found (valueOn cs n)) refl
+unfolding holds isId
+start-held cs = everywhere-start (atColumn found cs) refl
 
 stop-held : (cs : List Column) (t : Tree) → holds cs t ≡ true → holds cs (stopOf t) ≡ true
-unfolding holds valueOn treeAtom value
-stop-held cs = everywhere-stop (λ n. found (valueOn cs n)) refl
+unfolding holds isId
+stop-held cs = everywhere-stop (atColumn found cs) refl
 
-ends-found : (cs : List Column) (t u : Tree) → holds cs t ≡ true → holds cs u ≡ true → (j : ℕ) → found (endValues cs t u j) ≡ true
+ends-found : (writing : Writing) (cs : List Column) (t u : Tree) → holds cs t ≡ true → holds cs u ≡ true → (j : ℕ) → found (endValues writing cs t u j) ≡ true
 unfolding endsOf endOn endAtom valueOn treeAtom value
-ends-found cs t u e f zero = end-on found cs (startSlot (isInterval t)) (startOf t) refl (value-found cs (startOf t) (start-held cs t e))
-ends-found cs t u e f (suc zero) = end-on found cs (stopSlot (isInterval t)) (stopOf t) refl (value-found cs (stopOf t) (stop-held cs t e))
-ends-found cs t u e f (suc (suc zero)) = end-on found cs (startSlot (isInterval u)) (startOf u) refl (value-found cs (startOf u) (start-held cs u f))
-ends-found cs t u e f (suc (suc (suc zero))) = end-on found cs (stopSlot (isInterval u)) (stopOf u) refl (value-found cs (stopOf u) (stop-held cs u f))
-ends-found cs t u e f (suc (suc (suc (suc j)))) = refl
+ends-found writing cs t u e f zero = end-on found writing cs (startSlot (isInterval t)) (startOf t) refl (held-found writing cs (startOf t) (start-held cs t e))
+ends-found writing cs t u e f (suc zero) = end-on found writing cs (stopSlot (isInterval t)) (stopOf t) refl (held-found writing cs (stopOf t) (stop-held cs t e))
+ends-found writing cs t u e f (suc (suc zero)) = end-on found writing cs (startSlot (isInterval u)) (startOf u) refl (held-found writing cs (startOf u) (start-held cs u f))
+ends-found writing cs t u e f (suc (suc (suc zero))) = end-on found writing cs (stopSlot (isInterval u)) (stopOf u) refl (held-found writing cs (stopOf u) (stop-held cs u f))
+ends-found writing cs t u e f (suc (suc (suc (suc j)))) = refl
 
 pick-known : (b : Bool) (p q : Truth) → known p ≡ true → known q ≡ true → known (pick b p q) ≡ true
 pick-known true p q e f = e
@@ -190,19 +191,19 @@ pick-known false p q e f = f
 known-constant : (t : Tree) → known (constant t) ≡ true
 known-constant t = pick-known (eqb (kindOf t) BOOL) _ _ (known-bool (eqb (getD (fieldsOf t) 0 0) 1)) refl
 
-pub truth-known : (cs : List Column) (t : Tree) → holds cs t ≡ true → known (truthOn cs t) ≡ true
-unfolding truthOn temporalTruth holds everywhere valueOn treeAtom value
-truth-known cs =
-    by-operator constant (monadicTruth cs) (dyadicTruth cs) (λ t a. holds cs t ≡ true → known a ≡ true) (λ t e. known-constant t)
+pub truth-known : (writing : Writing) (cs : List Column) (t : Tree) → holds cs t ≡ true → known (truthOn writing cs t) ≡ true
+unfolding truthOn temporalTruth holds everywhere isId
+truth-known writing cs =
+    by-operator constant (monadicTruth writing cs) (dyadicTruth writing cs) (λ t a. holds cs t ≡ true → known a ≡ true) (λ t e. known-constant t)
     (λ o t a f e.
     pick-known (isNeg o) _ _ (known-not a (f e))
-    (pick-known (oneOf o (IsNull ∷ [])) _ _ (known-null (valueOn cs t) (value-found cs t e)) (known-not (nullity (valueOn cs t)) (known-null (valueOn cs t) (value-found cs t e)))))
+    (pick-known (oneOf o (IsNull ∷ [])) _ _ (known-null (valueOn writing cs t) (held-found writing cs t e)) (known-not (nullity (valueOn writing cs t)) (known-null (valueOn writing cs t) (held-found writing cs t e)))))
     (λ o t u a b f g e.
     let h = both-true (holds cs t) (holds cs u) e in
     pick-known (isAnd o) _ _ (known-and a b (f (h .0)) (g (h .1)))
     (pick-known (isOr o) _ _ (known-or a b (f (h .0)) (g (h .1)))
-    (pick-known (compares o) _ _ (known-compared (comparison o) (valueOn cs t) (valueOn cs u) (value-found cs t (h .0)) (value-found cs u (h .1)))
-    (known-cond (endValues cs t u) (ends-found cs t u (h .0) (h .1)) (translate (opNumber o) (isInterval t) (isInterval u) (columnsOf t u))))))
+    (pick-known (compares o) _ _ (known-compared (comparison o) (valueOn writing cs t) (valueOn writing cs u) (held-found writing cs t (h .0)) (held-found writing cs u (h .1)))
+    (known-cond (endValues writing cs t u) (ends-found writing cs t u (h .0) (h .1)) (translate (opNumber o) (isInterval t) (isInterval u) (columnsOf t u))))))
 
 -- The theorem.
 
@@ -215,14 +216,14 @@ up zero p = p
 up (suc n) p = deeper (up n p)
 
 -- on any row
-pub reads-as : {t : Tree} {x row : List ℕ} {cs : List Column} → Lowers t x → timeFilter t ≡ true → IsRow row cs → readingOf x row ≡ answered (truthOn cs t)
+pub reads-as : {writing : Writing} {t : Tree} {x row : List ℕ} {cs : List Column} → Lowers writing t x → timeFilter t ≡ true → IsRow row cs → readingOf x row ≡ answered (truthOn writing cs t)
 unfolding readingOf decided kind
-reads-as {t} {x} {row} {cs} L f R =
+reads-as {writing} {t} {x} {row} {cs} L f R =
     let p = parts L in
-    let q : reading.parse x ≡ grammar.got (filterAst t) [] = parses-back 3 x (filterAst t) (omega arith) (rw (p .text-is) (up 30 (filter-shown (p .with) depthLimit t f (p .good)))) in
-    rw (le-ltb textLimit (length x) (p .short), le-ltb rowLimit (length row) (R .short), R .reads, q) (ap answered (filter-eval cs t))
+    let q : reading.parse x ≡ grammar.got (filterAst writing t) [] = parses-back 3 x (filterAst writing t) (omega arith) (rw (p .text-is) (up 30 (filter-shown writing (p .with) depthLimit t f (p .good)))) in
+    rw (le-ltb textLimit (length x) (p .short), le-ltb rowLimit (length row) (R .short), R .reads, q) (ap answered (filter-eval writing cs t))
 
 -- on a row that holds its columns no name is missing, so that the answer is true, false or unknown
-pub reads-truth : {t : Tree} {x row : List ℕ} {cs : List Column} → Lowers t x → timeFilter t ≡ true → IsRow row cs → holds cs t ≡ true
-    → (readingOf x row ≡ answered (truthOn cs t)) × (known (truthOn cs t) ≡ true)
-reads-truth {cs = cs} L f R h = (reads-as L f R, truth-known cs _ h)
+pub reads-truth : {writing : Writing} {t : Tree} {x row : List ℕ} {cs : List Column} → Lowers writing t x → timeFilter t ≡ true → IsRow row cs → holds cs t ≡ true
+    → (readingOf x row ≡ answered (truthOn writing cs t)) × (known (truthOn writing cs t) ≡ true)
+reads-truth {writing} {cs = cs} L f R h = (reads-as L f R, truth-known writing cs _ h)

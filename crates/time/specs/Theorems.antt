@@ -1,6 +1,7 @@
--- Demand 3 and the agreement with OGC 21-065r2, as theorems over the two public calls: over texts that `lowering` answers (the definition in the
--- contract of gpkg::to_sql) and over `readingOf` (the definition in the contract of truth::read). Demand 2 is `reads-truth` of ReadsTruth.antt.
--- Each follows from reads-truth and the law of the same name over trees; string-reads, the round trip of a Str, from reads-truth and the order alone.
+-- Demand 3 and the agreement with OGC 21-065r2, as theorems over the public calls: over texts that `lowering` answers (the definition in the
+-- contracts of gpkg::to_sql and gpkg::to_geopackage_sql) and over `readingOf` (the definition in the contract of truth::read). Demand 2 is
+-- `reads-truth` of ReadsTruth.antt. Each follows from reads-truth and the law of the same name over trees; string-reads, the round trip of a Str,
+-- from reads-truth and the order alone.
 use Prim.Native.Nat.{ℕ, _-_}
 use mathlib.Core.Path.{_≡_, refl, sym, ap, _∙_, subst}
 use mathlib.Core.List.{List}
@@ -21,6 +22,7 @@ use Rattle.order.specs.declared.Ordering.{Ordering}
 use Rattle.order.specs.declared.Ordering.the-variants.{Less, Equal, Greater}
 use Rattle.order.specs.Order.{order}
 use Rattle.order.specs.OrderLaws.{order-refl, order-same}
+use Rattle.literal.specs.declared.Writing.{Writing}
 use Rattle.row.specs.Row.{val, Column, has, look}
 use Rattle.truth.specs.declared.Truth.{Truth}
 use Rattle.truth.specs.declared.Truth.the-variants.{True, False, Unknown, Missing}
@@ -32,7 +34,7 @@ use Rattle.truth.specs.Reading.{answered, readingOf}
 use Rattle.time.specs.Filter.{comparable, isEnd, isOperand, timeFilter}
 use Rattle.time.specs.FilterTruth.{treeAtom, valueOn, holds, temporalTruth, comparison, columnsNonNull, proper, truthOn}
 use Rattle.time.specs.Converse.{converse, Turned, keep, turn, in-both, in-neg, thirteen}
-use Rattle.time.specs.Ogc.{Width, isStart, isPoint, instants, ogcOperand, ogcOn}
+use Rattle.time.specs.Ogc.{Width, isStart, isPoint, writingOf, instants, ogcOperand, ogcOn}
 use Rattle.time.specs.Accepted.{Lowers, IsRow}
 use Rattle.time.specs.Claims.{Alike, both-yes, both-no, both-unknown, Opposite, ExactlyOne, Demand3}
 use Rattle.time.specs.OperatorLaws.{AllOf, done, _also_, among, of-temporal}
@@ -75,24 +77,24 @@ alike False b r s k e f g = both-no f (g ∙ ap answered (sym e))
 alike Unknown b r s k e f g = both-unknown f (g ∙ ap answered (sym e))
 alike Missing b r s k e f g = absurd (false≢true k)
 
-pub converse-reads : {t t' : Tree} {x x' row : List ℕ} {cs : List Column} → Turned t t' → Lowers t x → Lowers t' x' → timeFilter t ≡ true
+pub converse-reads : {writing : Writing} {t t' : Tree} {x x' row : List ℕ} {cs : List Column} → Turned t t' → Lowers writing t x → Lowers writing t' x' → timeFilter t ≡ true
     → IsRow row cs → holds cs t ≡ true → Alike SaysTrue SaysFalse SaysUnknown (readingOf x row) (readingOf x' row)
-converse-reads {t} {t'} {x} {x'} {row} {cs} T L L' f R h =
+converse-reads {writing} {t} {t'} {x} {x'} {row} {cs} T L L' f R h =
     let r = reads-truth L f R h in
-    alike (truthOn cs t) (truthOn cs t') (readingOf x row) (readingOf x' row) (r .1) (turned-truth cs T) (r .0) (reads-as L' (turned-filter T f) R)
+    alike (truthOn writing cs t) (truthOn writing cs t') (readingOf x row) (readingOf x' row) (r .1) (turned-truth writing cs T) (r .0) (reads-as L' (turned-filter T f) R)
 
 -- ---- Complement.
 
-pub complement-reads : {t u : Tree} {x x' row : List ℕ} {cs : List Column} → Lowers (dyadic TDisjoint t u) x → Lowers (dyadic TIntersects t u) x'
+pub complement-reads : {writing : Writing} {t u : Tree} {x x' row : List ℕ} {cs : List Column} → Lowers writing (dyadic TDisjoint t u) x → Lowers writing (dyadic TIntersects t u) x'
     → isOperand t ≡ true → isOperand u ≡ true → IsRow row cs → columnsNonNull cs t ≡ true → columnsNonNull cs u ≡ true
     → Opposite SaysTrue SaysFalse SaysUnknown (readingOf x row) (readingOf x' row)
 unfolding isTemporal some
-complement-reads {t} {u} {x} {x'} {row} {cs} L L' p q R nt nu =
+complement-reads {writing} {t} {u} {x} {x'} {row} {cs} L L' p q R nt nu =
     let f = both-of (isOperand t) (isOperand u) p q in
-    let a = reads-as L (predicate-filter t u TDisjoint refl ∙ f) R ∙ ap answered (predicate-truth cs TDisjoint t u refl) in
-    let b = reads-as L' (predicate-filter t u TIntersects refl ∙ f) R ∙ ap answered (predicate-truth cs TIntersects t u refl) in
+    let a = reads-as L (predicate-filter t u TDisjoint refl ∙ f) R ∙ ap answered (predicate-truth writing cs TDisjoint t u refl) in
+    let b = reads-as L' (predicate-filter t u TIntersects refl ∙ f) R ∙ ap answered (predicate-truth writing cs TIntersects t u refl) in
     subst (λ (r : Reading). Opposite SaysTrue SaysFalse SaysUnknown r (readingOf x' row)) (sym a)
-    (subst (λ (r : Reading). Opposite SaysTrue SaysFalse SaysUnknown (answered (temporalTruth cs TDisjoint t u)) r) (sym b) (complement-readings cs t u nt nu))
+    (subst (λ (r : Reading). Opposite SaysTrue SaysFalse SaysUnknown (answered (temporalTruth writing cs TDisjoint t u)) r) (sym b) (complement-readings writing cs t u nt nu))
 
 -- ---- Exactly one of thirteen.
 
@@ -104,18 +106,18 @@ temporal-thirteen =
 pub thirteen-temporal : (o : Op) → oneOf o thirteen ≡ true → isTemporal o ≡ true
 thirteen-temporal = among (λ o. isTemporal o ≡ true) temporal-thirteen
 
-pub exactly-one-reads : {a b c d : Tree} {row : List ℕ} {cs : List Column} (x : Op → List ℕ)
-    → ((o : Op) → oneOf o thirteen ≡ true → Lowers (dyadic o (interval a b) (interval c d)) (x o))
+pub exactly-one-reads : {writing : Writing} {a b c d : Tree} {row : List ℕ} {cs : List Column} (x : Op → List ℕ)
+    → ((o : Op) → oneOf o thirteen ≡ true → Lowers writing (dyadic o (interval a b) (interval c d)) (x o))
     → isOperand (interval a b) ≡ true → isOperand (interval c d) ≡ true → IsRow row cs
-    → proper cs a b ≡ true → proper cs c d ≡ true → ExactlyOne SaysTrue SaysFalse (λ o. readingOf (x o) row)
-exactly-one-reads {a} {b} {c} {d} {row} {cs} x L p q R s t =
-    laws.carried answered True False (λ o. temporalTruth cs o (interval a b) (interval c d)) (λ o. readingOf (x o) row) reads (laws.exactly-one cs a b c d s t)
+    → proper writing cs a b ≡ true → proper writing cs c d ≡ true → ExactlyOne SaysTrue SaysFalse (λ o. readingOf (x o) row)
+exactly-one-reads {writing} {a} {b} {c} {d} {row} {cs} x L p q R s t =
+    laws.carried answered True False (λ o. temporalTruth writing cs o (interval a b) (interval c d)) (λ o. readingOf (x o) row) reads (laws.exactly-one writing cs a b c d s t)
   where
-    reads : (o : Op) → oneOf o thirteen ≡ true → readingOf (x o) row ≡ answered (temporalTruth cs o (interval a b) (interval c d))
+    reads : (o : Op) → oneOf o thirteen ≡ true → readingOf (x o) row ≡ answered (temporalTruth writing cs o (interval a b) (interval c d))
     reads o m =
         let h = thirteen-temporal o m in
         reads-as (L o m) (predicate-filter (interval a b) (interval c d) o h ∙ both-of (isOperand (interval a b)) (isOperand (interval c d)) p q) R
-        ∙ ap answered (predicate-truth cs o (interval a b) (interval c d) h)
+        ∙ ap answered (predicate-truth writing cs o (interval a b) (interval c d) h)
 
 -- Demand 3.
 pub demand-3 : Demand3
@@ -137,9 +139,10 @@ predicate-placed : (o : Op) (t u : Tree) → placed (dyadic o t u) ≡ true → 
 unfolding placed inner inPlace everywhere byOperator isInterval
 predicate-placed o t u e = both-true (operands o t u) (both (inner t) (inner u)) e .0
 
--- On a row without NULL, all values valid ten-byte dates or all valid 19-byte timestamps, the written instants of that width, `..` only as an
--- interval's start and no NULL literal: a temporal predicate's text reads true exactly if the predicate of 21-065r2 holds, and false exactly if not.
-pub agrees-with-ogc : {o : Op} {t u : Tree} {x row : List ℕ} {cs : List Column} (w : Width) → Lowers (dyadic o t u) x → isTemporal o ≡ true
+-- On a row without NULL, in the first call all values valid ten-byte dates or all valid 19-byte timestamps, in the second all valid 24-byte values,
+-- the written instants of that width, `..` only as an interval's start and no NULL literal: a temporal predicate's text reads true exactly if the
+-- predicate of 21-065r2 holds, and false exactly if not.
+pub agrees-with-ogc : {o : Op} {t u : Tree} {x row : List ℕ} {cs : List Column} (w : Width) → Lowers (writingOf w) (dyadic o t u) x → isTemporal o ≡ true
     → IsRow row cs → holds cs t ≡ true → holds cs u ≡ true → instants w cs ≡ true → ogcOperand w t ≡ true → ogcOperand w u ≡ true
     → readingOf x row ≡ answered (truthOf (ogcOn w cs o t u))
 unfolding Good
@@ -148,17 +151,17 @@ agrees-with-ogc {o} {t} {u} {cs = cs} w L i R ht hu n a b =
     let f = both-of (isOperand t) (isOperand u) (ogc-is-operand w t a) (ogc-is-operand w u b) in
     reads-as L (predicate-filter t u o i ∙ f) R
     ∙ ap answered
-    (predicate-truth cs o t u i
+    (predicate-truth (writingOf w) cs o t u i
     ∙ ogc-agrees w cs o t u (depthLimit - 1) (depthLimit - 1) i (predicate-placed o t u (p .in-place)) (p .good .2) (p .good .3) n ht hu a b)
 
 -- ---- Strings.
 
 -- Round trip of a Str, whatever bytes it holds: its text, compared with a column, reads true exactly if the column's value is the string. A row's
 -- value has at most 64 bytes; for a Str of any length `text-atom` (AtomLaws.antt) says that its text is one token, whose value is the string.
-pub string-reads : {n s v x row : List ℕ} {cs : List Column} → Lowers (dyadic Eq (id n) (str 0 s)) x → IsRow row cs → look n cs ≡ has (val v)
+pub string-reads : {writing : Writing} {n s v x row : List ℕ} {cs : List Column} → Lowers writing (dyadic Eq (id n) (str 0 s)) x → IsRow row cs → look n cs ≡ has (val v)
     → (readingOf x row ≡ SaysTrue) ↔ (v ≡ s)
 unfolding timeFilter byOperator comparable some truthOn valueOn treeAtom value comparison says
-string-reads {n} {s} {v} {x} {row} {cs} L R e = (only, back)
+string-reads {writing} {n} {s} {v} {x} {row} {cs} L R e = (only, back)
   where
     told : readingOf x row ≡ answered (truthOf (says EQ (order v s)))
     told = reads-as L refl R ∙ rw e refl

@@ -19,6 +19,7 @@ use Rattle.op.specs.Op.{opNumber, oneOf}
 use Rattle.op.specs.OpLaws.{every-op, alike}
 use Rattle.tree.specs.Tree.{Tree, interval}
 use Rattle.tree.specs.Tests.{first, second, isInterval, startOf, stopOf, endsOf, columnsOf}
+use Rattle.literal.specs.declared.Writing.{Writing}
 use Rattle.literal.specs.Literal.{firstEnd, secondEnd}
 use Rattle.sql.specs.Condition as sql
 use Rattle.sql.specs.Translators.{translate, tAfter, tBefore, tContains, tDuring, tEquals, tFinishedBy, tFinishes, tMeets, tMetBy, tOverlappedBy, tOverlaps, tStartedBy, tStarts}
@@ -250,17 +251,17 @@ carried h good bad f g e x = record {
 }
 
 -- Two intervals whose four ends are non-null, each start below its end.
-pub exactly-one : (cs : List Column) (a b c d : Tree) → proper cs a b ≡ true → proper cs c d ≡ true
-    → ExactlyOne True False (λ o. temporalTruth cs o (interval a b) (interval c d))
+pub exactly-one : (writing : Writing) (cs : List Column) (a b c d : Tree) → proper writing cs a b ≡ true → proper writing cs c d ≡ true
+    → ExactlyOne True False (λ o. temporalTruth writing cs o (interval a b) (interval c d))
 unfolding temporalTruth isInterval endsOf startOf stopOf first second
-exactly-one cs a b c d p q =
-    let h = ends-below (endOn cs firstEnd a) (endOn cs secondEnd b) p in
-    let k = ends-below (endOn cs firstEnd c) (endOn cs secondEnd d) q in
+exactly-one writing cs a b c d p q =
+    let h = ends-below (endOn writing cs firstEnd a) (endOn writing cs secondEnd b) p in
+    let k = ends-below (endOn writing cs firstEnd c) (endOn writing cs secondEnd d) q in
     from-table (by (order (h .0) (k .0)) (order (h .0) (k .1)) (order (h .1) (k .0)) (order (h .1) (k .1)))
     (one-table (h .0) (h .1) (k .0) (k .1) (h .4) (k .4))
-    (λ o. temporalTruth cs o (interval a b) (interval c d))
+    (λ o. temporalTruth writing cs o (interval a b) (interval c d))
     (among
-    (λ o. temporalTruth cs o (interval a b) (interval c d)
+    (λ o. temporalTruth writing cs o (interval a b) (interval c d)
     ≡ truthOf (by (order (h .0) (k .0)) (order (h .0) (k .1)) (order (h .1) (k .0)) (order (h .1) (k .1)) o))
-    (answers (endValues cs (interval a b) (interval c d)) (columnsOf (interval a b) (interval c d)) (h .0) (h .1) (k .0) (k .1)
+    (answers (endValues writing cs (interval a b) (interval c d)) (columnsOf (interval a b) (interval c d)) (h .0) (h .1) (k .0) (k .1)
     (h .2) (h .3) (k .2) (k .3)))

@@ -11,10 +11,13 @@ use Rattle.order.specs.declared.Ordering.{Ordering}
 use Rattle.order.specs.declared.Ordering.the-variants.{Less, Equal, Greater}
 use Rattle.order.specs.Order.{order}
 use Rattle.order.specs.OrderLaws.{order-refl, order-same, order-above, order-below, order-cases}
-use Rattle.tree.specs.Kinds.{UNBOUNDED}
-use Rattle.tree.specs.Tree.{Tree, kindOf}
+use Rattle.tree.specs.Kinds.{UNBOUNDED, ID}
+use Rattle.tree.specs.Tree.{Tree, null, unbounded, bool, num, str, date, timestamp, spatial, id, monadic, dyadic, function, array, interval, kindOf}
+use Rattle.tree.specs.Tests.{columnName, isId}
+use Rattle.tree.specs.TestsLaws.{OfKind, of-id, id-is}
+use Rattle.literal.specs.declared.Writing.{Writing}
 use Rattle.literal.specs.Literal.{Slot, openEnd}
-use Rattle.row.specs.Row.{val, Column, Found, absent, has}
+use Rattle.row.specs.Row.{val, Column, Found, absent, has, look}
 use Rattle.row.specs.Row as row
 use Rattle.truth.specs.declared.Truth.{Truth}
 use Rattle.truth.specs.declared.Truth.the-variants.{True, False, Unknown, Missing}
@@ -22,7 +25,7 @@ use Rattle.truth.specs.declared.Kind.{Kind}
 use Rattle.truth.specs.declared.Kind.the-variants.{Lt as LT, Gt as GT, Eq as EQ, Ne as NE}
 use Rattle.truth.specs.Grammar.{text, value, not3, and3, or3, truthOf, compared, nullity, holds}
 use Rattle.sql.specs.Condition as sql
-use Rattle.time.specs.FilterTruth.{treeAtom, endAtom, valueOn, endOn, condTruth, isValue}
+use Rattle.time.specs.FilterTruth.{treeAtom, endAtom, valueOn, endOn, found, atColumn, condTruth, isValue}
 
 -- The tables.
 
@@ -193,19 +196,47 @@ check-ids v c i j base = go (c i) (c j)
     go false true = refl
     go false false = refl
 
+-- Columns.
+
+-- the value of a column is the row's
+pub column-value : (writing : Writing) (cs : List Column) (t : Tree) → isId t ≡ true → valueOn writing cs t ≡ look (columnName t) cs
+unfolding valueOn treeAtom value
+column-value writing cs t e = go t (id-is t e)
+  where
+    go : (t : Tree) → OfKind ID t → valueOn writing cs t ≡ look (columnName t) cs
+    go t (of-id s) = refl
+
+-- all else has its value without a row
+pub value-found : (writing : Writing) (cs : List Column) (t : Tree) → atColumn found cs t ≡ found (valueOn writing cs t)
+unfolding valueOn treeAtom value isId
+value-found writing cs null = refl
+value-found writing cs unbounded = refl
+value-found writing cs (bool b) = refl
+value-found writing cs (num m s) = refl
+value-found writing cs (str f s) = refl
+value-found writing cs (date y m d) = refl
+value-found writing cs (timestamp y m d h i s) = refl
+value-found writing cs (spatial n s) = refl
+value-found writing cs (id s) = refl
+value-found writing cs (monadic o t) = refl
+value-found writing cs (dyadic o t u) = refl
+value-found writing cs (function n ts) = refl
+value-found writing cs (array ts) = refl
+value-found writing cs (interval t u) = refl
+
 -- Ends by their slots.
 
 -- what holds of the string that a slot spells and of the tree's value holds of the end's value
-pub end-on : (P : Found → Bool) (cs : List Column) (slot : Slot) (t : Tree) → P (has (val (openEnd slot))) ≡ true → P (valueOn cs t) ≡ true
-    → P (endOn cs slot t) ≡ true
+pub end-on : (P : Found → Bool) (writing : Writing) (cs : List Column) (slot : Slot) (t : Tree) → P (has (val (openEnd slot))) ≡ true → P (valueOn writing cs t) ≡ true
+    → P (endOn writing cs slot t) ≡ true
 unfolding endOn endAtom valueOn value
-end-on P cs slot t e f = go (eqb (kindOf t) UNBOUNDED)
+end-on P writing cs slot t e f = go (eqb (kindOf t) UNBOUNDED)
   where
-    go : (b : Bool) → P (value cs (pick b (text (openEnd slot)) (treeAtom t))) ≡ true
+    go : (b : Bool) → P (value cs (pick b (text (openEnd slot)) (treeAtom writing t))) ≡ true
     go true = e
     go false = f
 
 -- the slot of an end that is not open does not matter
-pub closed-end : (cs : List Column) (slot : Slot) (t : Tree) → eqb (kindOf t) UNBOUNDED ≡ false → endOn cs slot t ≡ valueOn cs t
+pub closed-end : (writing : Writing) (cs : List Column) (slot : Slot) (t : Tree) → eqb (kindOf t) UNBOUNDED ≡ false → endOn writing cs slot t ≡ valueOn writing cs t
 unfolding endOn endAtom valueOn
-closed-end cs slot t e = ap (λ b. value cs (pick b (text (openEnd slot)) (treeAtom t))) e
+closed-end writing cs slot t e = ap (λ b. value cs (pick b (text (openEnd slot)) (treeAtom writing t))) e

@@ -47,6 +47,23 @@ fieldsOf (function n ts) = []
 fieldsOf (array ts) = []
 fieldsOf (interval t u) = []
 
+-- the name of an Id
+abbrev pub columnName : Tree → List ℕ
+columnName null = []
+columnName unbounded = []
+columnName (bool b) = []
+columnName (num m s) = []
+columnName (str f s) = []
+columnName (date y m d) = []
+columnName (timestamp y m d h i s) = []
+columnName (spatial n s) = []
+columnName (id s) = s
+columnName (monadic o t) = []
+columnName (dyadic o t u) = []
+columnName (function n ts) = []
+columnName (array ts) = []
+columnName (interval t u) = []
+
 unfoldable pub first : Trees → Tree
 first none = null
 first (t then ts) = t

@@ -32,7 +32,7 @@ temporal-sql-requires : tie.Need-temporal-sql-requires
 temporal-sql-requires c κs = search needs
 
 returns : tie.Need-returns
-returns c = (λ g t nd h a. template-fills g nd h a (c .before .before .before .is-kind .ensures) (c .before .is-kind2 .ensures) (c .temporal-sql .ensures .0), c .temporal-sql .ensures .1)
+returns c = (λ w g t nd h a. template-fills w g nd h a (c .before .before .before .is-kind .ensures) (c .before .is-kind2 .ensures) (c .temporal-sql .ensures .0), c .temporal-sql .ensures .1)
 
 pub template-of-spec : {M : Type 1} → statement M
 template-of-spec =

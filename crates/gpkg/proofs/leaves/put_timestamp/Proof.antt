@@ -33,7 +33,7 @@ same-length : tie.Need-same-length
 same-length c = search needs
 
 returns : tie.Need-returns
-returns c = let s = c .before .before .before .before .before .before .before .before .before .before .before .before .args .s .now in let e : timestampText (c .before .before .before .before .before .before .before .before .before .word-at .result) (c .before .before .before .before .before .before .before .before .byte-at .result) (c .before .before .before .before .before .before .before .byte-at2 .result) (c .before .before .before .before .before .before .byte-at3 .result) (c .before .before .before .before .before .byte-at4 .result) (c .before .before .before .before .byte-at5 .result) ≡ timestampText (le16 s 6) (getD s 8 0) (getD s 9 0) (getD s 10 0) (getD s 11 0) (getD s 12 0) = cc in lays-of e (lays (c .before .before .put-timestamp .ensures))
+returns c = let s = c .before .before .before .before .before .before .before .before .before .before .before .before .args .s .now in let w = c .before .before .before .before .before .before .before .before .before .before .before .before .args .writing in let e : timestampText w (c .before .before .before .before .before .before .before .before .before .word-at .result) (c .before .before .before .before .before .before .before .before .byte-at .result) (c .before .before .before .before .before .before .before .byte-at2 .result) (c .before .before .before .before .before .before .byte-at3 .result) (c .before .before .before .before .before .byte-at4 .result) (c .before .before .before .before .byte-at5 .result) ≡ timestampText w (le16 s 6) (getD s 8 0) (getD s 9 0) (getD s 10 0) (getD s 11 0) (getD s 12 0) = cc in lays-of e (lays (c .before .before .put-timestamp .ensures))
 
 pub put-timestamp-spec : {M : Type 1} → statement M
 put-timestamp-spec =

@@ -241,13 +241,13 @@ to-sql-impl-same-length : (t : ℕ) → to-sql-impl-lts.Need-same-length (to-sql
 to-sql-impl-same-length t c = search needs
 
 to-sql-impl-returns-2 : (t : ℕ) → to-sql-impl-lts.Need-returns-2 (to-sql-impl-calls t) (to-sql-impl-at t) to-sql-impl.Post
-to-sql-impl-returns-2 t c = λ t e f. lays-of (leaf-step (settingsIn (c .before .before .before .before .before .before .before .before .before .before .args .set .now)) (c .before .before .before .before .before .before .before .before .before .before .args .s .now) t (c .before .before .before .before .before .word-at .result) e f (c .before .before .before .before .before .word-at .ensures .0) (c .before .before .before .before .if2 .taken)) (c .before .before .put-leaf .ensures)
+to-sql-impl-returns-2 t c = λ t e f. lays-of (leaf-step (c .before .before .before .before .before .before .before .before .before .before .args .writing) (settingsIn (c .before .before .before .before .before .before .before .before .before .before .args .set .now)) (c .before .before .before .before .before .before .before .before .before .before .args .s .now) t (c .before .before .before .before .before .word-at .result) e f (c .before .before .before .before .before .word-at .ensures .0) (c .before .before .before .before .if2 .taken)) (c .before .before .put-leaf .ensures)
 
 to-sql-impl-ended-requires : (t : ℕ) → to-sql-impl-lts.Need-ended-requires (to-sql-impl-calls t) (to-sql-impl-at t) to-sql-impl.Post
 to-sql-impl-ended-requires t c κs = search needs
 
 to-sql-impl-returns-3 : (t : ℕ) → to-sql-impl-lts.Need-returns-3 (to-sql-impl-calls t) (to-sql-impl-at t) to-sql-impl.Post
-to-sql-impl-returns-3 t c = λ t e f. lays-of (high-text (settingsIn (c .before .before .before .before .before .before .before .before .args .set .now)) (c .before .before .before .before .before .before .before .before .args .s .now) t (c .before .before .before .word-at .result) e (c .before .before .before .word-at .ensures .0) (c .before .if3 .taken)) (lays-none (c .ended .ensures))
+to-sql-impl-returns-3 t c = λ t e f. lays-of (high-text (c .before .before .before .before .before .before .before .before .args .writing) (settingsIn (c .before .before .before .before .before .before .before .before .args .set .now)) (c .before .before .before .before .before .before .before .before .args .s .now) t (c .before .before .before .word-at .result) e (c .before .before .before .word-at .ensures .0) (c .before .if3 .taken)) (lays-none (c .ended .ensures))
 
 to-sql-impl-ended-requires-2 : (t : ℕ) → to-sql-impl-lts.Need-ended-requires-2 (to-sql-impl-calls t) (to-sql-impl-at t) to-sql-impl.Post
 to-sql-impl-ended-requires-2 t c κs = search needs
@@ -316,7 +316,7 @@ to-sql-impl-same-length-3 : (t : ℕ) → to-sql-impl-lts.Need-same-length-3 (to
 to-sql-impl-same-length-3 t c = search needs
 
 to-sql-impl-returns-7 : (t : ℕ) → to-sql-impl-lts.Need-returns-7 (to-sql-impl-calls t) (to-sql-impl-at t) to-sql-impl.Post
-to-sql-impl-returns-7 t c = λ t e f. let w = listed (settingsIn (c .before .before .before .before .before .before .before .before .before .before .before .before .before .before .before .before .before .before .before .before .before .before .before .before .before .before .before .before .before .before .before .args .set .now)) (c .before .before .before .before .before .before .before .before .before .before .before .before .before .before .before .before .before .before .before .before .before .before .before .before .before .before .before .before .before .before .before .args .s .now) (c .before .before .before .before .before .before .before .before .before .before .before .before .before .before .before .before .before .before .before .before .before .before .before .before .before .before .word-at .result) (c .before .before .before .before .before .before .before .before .before .before .before .before .before .before .before .before .before .before .before .before .least .result) (c .before .before .before .before .before .before .before .before .before .before .before .before .before .before .before .before .before .before .before .before .before .items-at .result) t e f (c .before .before .before .before .before .before .before .before .before .before .before .before .before .before .before .before .before .before .before .before .before .before .before .before .before .before .word-at .ensures .0) (omega arith) (omega arith) (c .before .before .before .before .before .before .before .before .before .before .before .before .before .before .before .before .before .before .before .before .before .items-at .ensures .2) (c .before .before .before .before .before .before .before .before .before .before .before .before .before .before .before .before .before .before .before .before .least .ensures) in lays-of (sym (w .whole)) (lays-then (lays (c .before .before .before .before .before .before .before .before .before .before .before .before .before .before .before .before .before .put .ensures)) (lays-then (lays (c .before .before .before .before .before .before .before .before .before .before .before .before .put2 .ensures)) (lays-then (c .before .before .before .before .before .before .before .write-items .ensures (w .ts) (w .there) (w .fit)) (lays (c .before .before .put3 .ensures)))))
+to-sql-impl-returns-7 t c = λ t e f. let w = listed (c .before .before .before .before .before .before .before .before .before .before .before .before .before .before .before .before .before .before .before .before .before .before .before .before .before .before .before .before .before .before .before .args .writing) (settingsIn (c .before .before .before .before .before .before .before .before .before .before .before .before .before .before .before .before .before .before .before .before .before .before .before .before .before .before .before .before .before .before .before .args .set .now)) (c .before .before .before .before .before .before .before .before .before .before .before .before .before .before .before .before .before .before .before .before .before .before .before .before .before .before .before .before .before .before .before .args .s .now) (c .before .before .before .before .before .before .before .before .before .before .before .before .before .before .before .before .before .before .before .before .before .before .before .before .before .before .word-at .result) (c .before .before .before .before .before .before .before .before .before .before .before .before .before .before .before .before .before .before .before .before .least .result) (c .before .before .before .before .before .before .before .before .before .before .before .before .before .before .before .before .before .before .before .before .before .items-at .result) t e f (c .before .before .before .before .before .before .before .before .before .before .before .before .before .before .before .before .before .before .before .before .before .before .before .before .before .before .word-at .ensures .0) (omega arith) (omega arith) (c .before .before .before .before .before .before .before .before .before .before .before .before .before .before .before .before .before .before .before .before .before .items-at .ensures .2) (c .before .before .before .before .before .before .before .before .before .before .before .before .before .before .before .before .before .before .before .before .least .ensures) in lays-of (sym (w .whole)) (lays-then (lays (c .before .before .before .before .before .before .before .before .before .before .before .before .before .before .before .before .before .put .ensures)) (lays-then (lays (c .before .before .before .before .before .before .before .before .before .before .before .before .put2 .ensures)) (lays-then (c .before .before .before .before .before .before .before .write-items .ensures (w .ts) (w .there) (w .fit)) (lays (c .before .before .put3 .ensures)))))
 
 abbrev write-between-calls : ℕ → write-between-lts.Claims
 write-between-calls t = (
@@ -374,7 +374,7 @@ write-between-same-length : (t : ℕ) → write-between-lts.Need-same-length (wr
 write-between-same-length t c = search needs
 
 write-between-returns : (t : ℕ) → write-between-lts.Need-returns (write-between-calls t) (write-between-at t) write-between.Post
-write-between-returns t c = λ t nd h. between-step (settingsIn (c .before .before .before .before .before .before .before .before .before .before .before .before .before .before .before .before .before .before .before .before .before .before .before .before .before .before .before .before .args .set .now)) nd h (c .before .before .before .before .before .before .before .before .before .before .before .before .before .before .before .before .before .before .before .before .before .before .before .before .bounds-at .ensures) (c .before .before .before .before .before .before .before .before .before .before .before .before .before .before .before .before .before .before .before .before .before .before .before .end-of .ensures) (c .before .before .before .before .before .before .before .before .before .before .before .before .before .before .before .before .before .before .before .before .before .before .end-of2 .ensures) (c .before .before .before .before .before .before .before .before .before .before .before .before .before .before .before .before .before .before .before .to-sql-impl .ensures) (c .before .before .before .before .before .before .before .before .before .before .before .before .before .before .before .put-infix .ensures) (c .before .before .before .before .before .before .before .before .before .before .before .write-bound .ensures) (lays (c .before .before .before .before .before .before .put .ensures)) (c .before .before .write-bound2 .ensures)
+write-between-returns t c = λ t nd h. between-step (c .before .before .before .before .before .before .before .before .before .before .before .before .before .before .before .before .before .before .before .before .before .before .before .before .before .before .before .before .args .writing) (settingsIn (c .before .before .before .before .before .before .before .before .before .before .before .before .before .before .before .before .before .before .before .before .before .before .before .before .before .before .before .before .args .set .now)) nd h (c .before .before .before .before .before .before .before .before .before .before .before .before .before .before .before .before .before .before .before .before .before .before .before .before .bounds-at .ensures) (c .before .before .before .before .before .before .before .before .before .before .before .before .before .before .before .before .before .before .before .before .before .before .before .end-of .ensures) (c .before .before .before .before .before .before .before .before .before .before .before .before .before .before .before .before .before .before .before .before .before .before .end-of2 .ensures) (c .before .before .before .before .before .before .before .before .before .before .before .before .before .before .before .before .before .before .before .to-sql-impl .ensures) (c .before .before .before .before .before .before .before .before .before .before .before .before .before .before .before .put-infix .ensures) (c .before .before .before .before .before .before .before .before .before .before .before .write-bound .ensures) (lays (c .before .before .before .before .before .before .put .ensures)) (c .before .before .write-bound2 .ensures)
 
 abbrev write-bound-calls : ℕ → write-bound-lts.Claims
 write-bound-calls t = (
@@ -394,7 +394,7 @@ write-bound-same-length : (t : ℕ) → write-bound-lts.Need-same-length (write-
 write-bound-same-length t c = search needs
 
 write-bound-returns : (t : ℕ) → write-bound-lts.Need-returns (write-bound-calls t) (write-bound-at t) write-bound.Post
-write-bound-returns t c = λ x b. lays-of (bound-null (settingsIn (c .before .before .before .before .before .before .before .before .before .args .set .now)) (c .before .before .before .before .before .if1 .taken) b) (lays (c .before .before .put .ensures))
+write-bound-returns t c = λ x b. lays-of (bound-null (c .before .before .before .before .before .before .before .before .before .args .writing) (settingsIn (c .before .before .before .before .before .before .before .before .before .args .set .now)) (c .before .before .before .before .before .if1 .taken) b) (lays (c .before .before .put .ensures))
 
 write-bound-sub-to-sql-impl : (t : ℕ) → write-bound-lts.Need-sub-to-sql-impl (write-bound-calls t) (write-bound-at t) write-bound.Post
 write-bound-sub-to-sql-impl t c = c .before .before .before .before .pre .1 .2
@@ -504,7 +504,7 @@ write-infix-same-length : (t : ℕ) → write-infix-lts.Need-same-length (write-
 write-infix-same-length t c = search needs
 
 write-infix-returns : (t : ℕ) → write-infix-lts.Need-returns (write-infix-calls t) (write-infix-at t) write-infix.Post
-write-infix-returns t c = λ t nd ht hs hw. infix-step (settingsIn (c .before .before .before .before .before .before .before .before .before .before .before .before .before .before .before .before .before .before .before .before .before .before .before .before .before .before .before .before .before .before .before .before .before .args .set .now)) nd ht hs hw (c .before .before .before .before .before .before .before .before .before .before .before .before .before .before .before .before .before .before .before .before .before .before .before .before .before .before .before .before .is-left-bare .ensures) (c .before .before .before .before .before .before .before .before .before .before .before .before .before .before .before .before .before .before .before .before .before .before .before .before .before .before .is-right-bare .ensures) (lays (c .before .before .before .before .before .before .before .before .before .before .before .before .before .before .before .before .before .before .before .before .before .before .put-either .ensures)) (c .before .before .before .before .before .before .before .before .before .before .before .before .before .before .before .before .before .to-sql-impl .ensures) (c .before .before .before .before .before .before .before .before .before .before .before .before .before .put-infix .ensures) (c .before .before .before .before .before .before .before .before .to-sql-impl2 .ensures) (lays (c .before .before .put-either2 .ensures))
+write-infix-returns t c = λ t nd ht hs hw. infix-step (c .before .before .before .before .before .before .before .before .before .before .before .before .before .before .before .before .before .before .before .before .before .before .before .before .before .before .before .before .before .before .before .before .before .args .writing) (settingsIn (c .before .before .before .before .before .before .before .before .before .before .before .before .before .before .before .before .before .before .before .before .before .before .before .before .before .before .before .before .before .before .before .before .before .args .set .now)) nd ht hs hw (c .before .before .before .before .before .before .before .before .before .before .before .before .before .before .before .before .before .before .before .before .before .before .before .before .before .before .before .before .is-left-bare .ensures) (c .before .before .before .before .before .before .before .before .before .before .before .before .before .before .before .before .before .before .before .before .before .before .before .before .before .before .is-right-bare .ensures) (lays (c .before .before .before .before .before .before .before .before .before .before .before .before .before .before .before .before .before .before .before .before .before .before .put-either .ensures)) (c .before .before .before .before .before .before .before .before .before .before .before .before .before .before .before .before .before .to-sql-impl .ensures) (c .before .before .before .before .before .before .before .before .before .before .before .before .before .put-infix .ensures) (c .before .before .before .before .before .before .before .before .to-sql-impl2 .ensures) (lays (c .before .before .put-either2 .ensures))
 
 abbrev write-items-calls : ℕ → write-items-lts.Claims
 write-items-calls t = (
@@ -519,16 +519,16 @@ write-items-calls t = (
 )
 
 abbrev write-items-Inv-loop : write-items-lts.InvT-loop
-write-items-Inv-loop s set words out₀ at here₀ p₀ out here p = (length out ≡ length out₀) × ((ts : Trees) → s ≡ encodes ts → sounds ts ≡ true → Come (settingsIn set) s at out₀ ts p here out)
+write-items-Inv-loop s set writing words out₀ at here₀ p₀ out here p = (length out ≡ length out₀) × ((ts : Trees) → s ≡ encodes ts → sounds ts ≡ true → Come writing (settingsIn set) s at out₀ ts p here out)
 
 abbrev write-items-μ-loop : write-items-lts.MeasureT-loop
-write-items-μ-loop s set words out₀ at here₀ p₀ out here p = length s - p
+write-items-μ-loop s set writing words out₀ at here₀ p₀ out here p = length s - p
 
 write-items-ended-requires : (t : ℕ) → write-items-lts.Need-ended-requires (write-items-calls t) (write-items-at t) write-items.Post write-items-Inv-loop write-items-μ-loop
 write-items-ended-requires t c κs = search needs
 
 write-items-loop-holds : (t : ℕ) → write-items-lts.Need-loop-holds (write-items-calls t) (write-items-at t) write-items.Post write-items-Inv-loop write-items-μ-loop
-write-items-loop-holds t c = (refl, λ ts e f. come-start _ _ _ _ ts _ e f (c .ended .ensures))
+write-items-loop-holds t c = (refl, λ ts e f. come-start _ _ _ _ _ ts _ e f (c .ended .ensures))
 
 write-items-put-comma-requires : (t : ℕ) → write-items-lts.Need-put-comma-requires (write-items-calls t) (write-items-at t) write-items.Post write-items-Inv-loop write-items-μ-loop
 write-items-put-comma-requires t c κs = search needs
@@ -552,7 +552,7 @@ write-items-loop-less : (t : ℕ) → write-items-lts.Need-loop-less (write-item
 write-items-loop-less t c = let h = c .before .before .before .before .before .end-of .ensures .moves (omega arith) in omega arith
 
 write-items-loop-again : (t : ℕ) → write-items-lts.Need-loop-again (write-items-calls t) (write-items-at t) write-items.Post write-items-Inv-loop write-items-μ-loop
-write-items-loop-again t c = (c .before .before .to-sql-impl .kept .1 .1 .1 .0 ∙ c .before .before .before .before .before .before .before .before .put-comma .kept .1 .0 ∙ c .before .before .before .before .before .before .before .before .before .before .before .loop .inv .0, λ ts e f. let w = come-next (omega arith) (c .before .before .before .before .before .end-of .ensures) (c .before .before .before .before .before .before .before .before .before .before .before .loop .inv .1 ts e f) in w .on (c .before .before .before .before .before .before .before .before .put-comma .ensures) (c .before .before .to-sql-impl .ensures (w .u) (w .stands) (w .fit)))
+write-items-loop-again t c = (c .before .before .to-sql-impl .kept .1 .1 .1 .1 .0 ∙ c .before .before .before .before .before .before .before .before .put-comma .kept .1 .0 ∙ c .before .before .before .before .before .before .before .before .before .before .before .loop .inv .0, λ ts e f. let w = come-next (omega arith) (c .before .before .before .before .before .end-of .ensures) (c .before .before .before .before .before .before .before .before .before .before .before .loop .inv .1 ts e f) in w .on (c .before .before .before .before .before .before .before .before .put-comma .ensures) (c .before .before .to-sql-impl .ensures (w .u) (w .stands) (w .fit)))
 
 write-items-same-length : (t : ℕ) → write-items-lts.Need-same-length (write-items-calls t) (write-items-at t) write-items.Post write-items-Inv-loop write-items-μ-loop
 write-items-same-length t c = search needs
@@ -627,7 +627,7 @@ write-monadic-same-length : (t : ℕ) → write-monadic-lts.Need-same-length (wr
 write-monadic-same-length t c = search needs
 
 write-monadic-returns : (t : ℕ) → write-monadic-lts.Need-returns (write-monadic-calls t) (write-monadic-at t) write-monadic.Post
-write-monadic-returns t c = λ m t nd. monadic-step (settingsIn (c .before .before .before .before .before .before .before .before .before .before .before .before .before .before .before .before .before .before .before .before .before .before .args .set .now)) nd (c .before .before .before .before .before .before .before .before .before .before .before .before .before .before .before .before .before .is-literal-or-id .ensures) (c .before .before .before .before .before .before .before .before .before .before .before .before .before .before .before .before .word-at .ensures .0) (c .before .before .before .before .before .before .before .before .before .before .before .before .before .before .before .word-at2 .ensures .0) (c .before .before .before .before .before .before .before .before .before .before .before .before .before .before .is-twin .ensures) (c .before .before .before .before .before .before .before .before .before .before .before .before .before .operand-from .ensures) (c .before .before .before .before .before .before .before .before .before .before .before .put-before .ensures) (c .before .before .before .before .before .before .to-sql-impl .ensures) (c .before .before .put-behind .ensures)
+write-monadic-returns t c = λ m t nd. monadic-step (c .before .before .before .before .before .before .before .before .before .before .before .before .before .before .before .before .before .before .before .before .before .before .args .writing) (settingsIn (c .before .before .before .before .before .before .before .before .before .before .before .before .before .before .before .before .before .before .before .before .before .before .args .set .now)) nd (c .before .before .before .before .before .before .before .before .before .before .before .before .before .before .before .before .before .is-literal-or-id .ensures) (c .before .before .before .before .before .before .before .before .before .before .before .before .before .before .before .before .word-at .ensures .0) (c .before .before .before .before .before .before .before .before .before .before .before .before .before .before .before .word-at2 .ensures .0) (c .before .before .before .before .before .before .before .before .before .before .before .before .before .before .is-twin .ensures) (c .before .before .before .before .before .before .before .before .before .before .before .before .before .operand-from .ensures) (c .before .before .before .before .before .before .before .before .before .before .before .put-before .ensures) (c .before .before .before .before .before .before .to-sql-impl .ensures) (c .before .before .put-behind .ensures)
 
 abbrev write-operands-calls : ℕ → write-operands-lts.Claims
 write-operands-calls t = (
@@ -660,10 +660,10 @@ write-operands-calls t = (
 )
 
 abbrev write-operands-Inv-loop : write-operands-lts.InvT-loop
-write-operands-Inv-loop s set words out₀ at kind op m e codes n here₀ k₀ out here k = (length out ≡ length out₀) × (k ≤ n) × ((t : Tree) → s ≡ encode t → sound t ≡ true → 9 ≤ le16 s 4 → le16 s 4 < 11 → Lays countLimit at (fill (slot (settingsIn set) (nodeEnds t)) (spelt (take k (take n codes)))) out₀ out here)
+write-operands-Inv-loop s set writing words out₀ at kind op m e codes n here₀ k₀ out here k = (length out ≡ length out₀) × (k ≤ n) × ((t : Tree) → s ≡ encode t → sound t ≡ true → 9 ≤ le16 s 4 → le16 s 4 < 11 → Lays countLimit at (fill (slot writing (settingsIn set) (nodeEnds t)) (spelt (take k (take n codes)))) out₀ out here)
 
 abbrev write-operands-μ-loop : write-operands-lts.MeasureT-loop
-write-operands-μ-loop s set words out₀ at kind op m e codes n here₀ k₀ out here k = n - k
+write-operands-μ-loop s set writing words out₀ at kind op m e codes n here₀ k₀ out here k = n - k
 
 write-operands-word-at-requires : (t : ℕ) → write-operands-lts.Need-word-at-requires (write-operands-calls t) (write-operands-at t) write-operands.Post write-operands-Inv-loop write-operands-μ-loop
 write-operands-word-at-requires t c κs = search needs
@@ -727,7 +727,7 @@ write-operands-loop-less : (t : ℕ) → write-operands-lts.Need-loop-less (writ
 write-operands-loop-less t c = search needs
 
 write-operands-loop-again : (t : ℕ) → write-operands-lts.Need-loop-again (write-operands-calls t) (write-operands-at t) write-operands.Post write-operands-Inv-loop write-operands-μ-loop
-write-operands-loop-again t c = (c .before .before .put-flat .kept .1 .0 ∙ c .before .before .before .before .before .before .before .before .before .before .loop .inv .0, omega arith, λ t e f a b. let tn = temporal-node (sym (c .before .before .before .before .before .before .before .before .before .before .before .before .before .before .before .before .is-temporal .ensures) ∙ not-false (c .before .before .before .before .before .before .before .before .before .before .before .before .before .before .before .before .is-temporal .result) (c .before .before .before .before .before .before .before .before .before .before .before .before .before .before .before .if1 .left)) (node-of (c .before .before .before .before .before .before .before .before .before .before .before .before .before .before .before .before .before .before .before .before .before .before .before .args .s .now) (c .before .before .before .before .before .before .before .before .before .before .before .before .before .before .before .before .before .before .before .word-at .result) (c .before .before .before .before .before .before .before .before .before .before .before .before .before .before .before .before .before .before .word-at2 .result) (c .before .before .before .before .before .before .before .before .before .before .before .before .before .before .before .before .before .end-of .result) t e f (c .before .before .before .before .before .before .before .before .before .before .before .before .before .before .before .before .before .before .before .word-at .ensures .0) (c .before .before .before .before .before .before .before .before .before .before .before .before .before .before .before .before .before .before .word-at2 .ensures .0) (c .before .before .before .before .before .before .before .before .before .before .before .before .before .before .before .before .before .end-of .ensures) (let q = c .before .before .before .before .before .before .before .before .before .before .before .before .before .before .before .before .before .before .before .word-at .ensures .0 in omega arith) (let q = c .before .before .before .before .before .before .before .before .before .before .before .before .before .before .before .before .before .before .before .word-at .ensures .0 in omega arith)) in let ar = node-ends (tn .0) _ (c .before .before .before .before .before .before .before .before .before .before .before .before .before .before .temporal-ends .ensures) in let hb = c .before .before .before .before .before .before .before .before .before .before .before .before .before .template-of .ensures .1 in let lb : length (c .before .before .before .before .before .before .before .before .before .before .before .before .before .template-of .result .codes) ≡ 24 = search (needs, c .before .before .before .before .before .before .before .before .before .before .before .before .before .template-of .ok) in plain-step (settingsIn (c .before .before .before .before .before .before .before .before .before .before .before .before .before .before .before .before .before .before .before .before .before .before .before .args .set .now)) ar (c .before .before .before .before .before .before .before .before .before .before .before .before .before .template-of .result .codes) (c .before .before .before .before .before .before .before .before .before .before .before .before .before .template-of .result .len) (c .before .before .before .before .before .before .before .before .before .before .loop .k) (omega arith) (omega arith) (c .before .before .before .before .before .before .before .before .before .before .loop .inv .2 t e f a b) _ (sym (c .before .before .before .before .before .before .before .piece-of .ensures) ∙ c .before .before .before .before .before .piece .given .1) (c .before .before .put-flat .ensures))
+write-operands-loop-again t c = (c .before .before .put-flat .kept .1 .0 ∙ c .before .before .before .before .before .before .before .before .before .before .loop .inv .0, omega arith, λ t e f a b. let tn = temporal-node (sym (c .before .before .before .before .before .before .before .before .before .before .before .before .before .before .before .before .is-temporal .ensures) ∙ not-false (c .before .before .before .before .before .before .before .before .before .before .before .before .before .before .before .before .is-temporal .result) (c .before .before .before .before .before .before .before .before .before .before .before .before .before .before .before .if1 .left)) (node-of (c .before .before .before .before .before .before .before .before .before .before .before .before .before .before .before .before .before .before .before .before .before .before .before .args .s .now) (c .before .before .before .before .before .before .before .before .before .before .before .before .before .before .before .before .before .before .before .word-at .result) (c .before .before .before .before .before .before .before .before .before .before .before .before .before .before .before .before .before .before .word-at2 .result) (c .before .before .before .before .before .before .before .before .before .before .before .before .before .before .before .before .before .end-of .result) t e f (c .before .before .before .before .before .before .before .before .before .before .before .before .before .before .before .before .before .before .before .word-at .ensures .0) (c .before .before .before .before .before .before .before .before .before .before .before .before .before .before .before .before .before .before .word-at2 .ensures .0) (c .before .before .before .before .before .before .before .before .before .before .before .before .before .before .before .before .before .end-of .ensures) (let q = c .before .before .before .before .before .before .before .before .before .before .before .before .before .before .before .before .before .before .before .word-at .ensures .0 in omega arith) (let q = c .before .before .before .before .before .before .before .before .before .before .before .before .before .before .before .before .before .before .before .word-at .ensures .0 in omega arith)) in let ar = node-ends (tn .0) _ (c .before .before .before .before .before .before .before .before .before .before .before .before .before .before .temporal-ends .ensures) in let hb = c .before .before .before .before .before .before .before .before .before .before .before .before .before .template-of .ensures .1 in let lb : length (c .before .before .before .before .before .before .before .before .before .before .before .before .before .template-of .result .codes) ≡ 24 = search (needs, c .before .before .before .before .before .before .before .before .before .before .before .before .before .template-of .ok) in plain-step (c .before .before .before .before .before .before .before .before .before .before .before .before .before .before .before .before .before .before .before .before .before .before .before .args .writing) (settingsIn (c .before .before .before .before .before .before .before .before .before .before .before .before .before .before .before .before .before .before .before .before .before .before .before .args .set .now)) ar (c .before .before .before .before .before .before .before .before .before .before .before .before .before .template-of .result .codes) (c .before .before .before .before .before .before .before .before .before .before .before .before .before .template-of .result .len) (c .before .before .before .before .before .before .before .before .before .before .loop .k) (omega arith) (omega arith) (c .before .before .before .before .before .before .before .before .before .before .loop .inv .2 t e f a b) _ (sym (c .before .before .before .before .before .before .before .piece-of .ensures) ∙ c .before .before .before .before .before .piece .given .1) (c .before .before .put-flat .ensures))
 
 write-operands-enum-known-piece-2 : (t : ℕ) → write-operands-lts.Need-enum-known-piece-2 (write-operands-calls t) (write-operands-at t) write-operands.Post write-operands-Inv-loop write-operands-μ-loop
 write-operands-enum-known-piece-2 t c = search needs
@@ -739,7 +739,7 @@ write-operands-same-length-2 : (t : ℕ) → write-operands-lts.Need-same-length
 write-operands-same-length-2 t c = search needs
 
 write-operands-returns-2 : (t : ℕ) → write-operands-lts.Need-returns-2 (write-operands-calls t) (write-operands-at t) write-operands.Post write-operands-Inv-loop write-operands-μ-loop
-write-operands-returns-2 t c = λ t e f a b. let tn = temporal-node (sym (c .before .before .before .before .before .before .before .before .before .before .before .before .before .before .is-temporal .ensures) ∙ not-false (c .before .before .before .before .before .before .before .before .before .before .before .before .before .before .is-temporal .result) (c .before .before .before .before .before .before .before .before .before .before .before .before .before .if1 .left)) (node-of (c .before .before .before .before .before .before .before .before .before .before .before .before .before .before .before .before .before .before .before .before .before .args .s .now) (c .before .before .before .before .before .before .before .before .before .before .before .before .before .before .before .before .before .word-at .result) (c .before .before .before .before .before .before .before .before .before .before .before .before .before .before .before .before .word-at2 .result) (c .before .before .before .before .before .before .before .before .before .before .before .before .before .before .before .end-of .result) t e f (c .before .before .before .before .before .before .before .before .before .before .before .before .before .before .before .before .before .word-at .ensures .0) (c .before .before .before .before .before .before .before .before .before .before .before .before .before .before .before .before .word-at2 .ensures .0) (c .before .before .before .before .before .before .before .before .before .before .before .before .before .before .before .end-of .ensures) (let q = c .before .before .before .before .before .before .before .before .before .before .before .before .before .before .before .before .before .word-at .ensures .0 in omega arith) (let q = c .before .before .before .before .before .before .before .before .before .before .before .before .before .before .before .before .before .word-at .ensures .0 in omega arith)) in let ar = node-ends (tn .0) _ (c .before .before .before .before .before .before .before .before .before .before .before .before .temporal-ends .ensures) in let pc = sym (c .before .before .before .before .before .piece-of .ensures) ∙ c .before .before .before .piece2 .given .1 in let ch = node-piece (settingsIn (c .before .before .before .before .before .before .before .before .before .before .before .before .before .before .before .before .before .before .before .before .before .args .set .now)) ar _ _ _ pc in absurd (c .before .inside .ensures .1 (not-true (c .before .inside .result) (c .if2 .taken)) (ch .inside .starts) (ch .inside .order) (ch .inside .ends))
+write-operands-returns-2 t c = λ t e f a b. let tn = temporal-node (sym (c .before .before .before .before .before .before .before .before .before .before .before .before .before .before .is-temporal .ensures) ∙ not-false (c .before .before .before .before .before .before .before .before .before .before .before .before .before .before .is-temporal .result) (c .before .before .before .before .before .before .before .before .before .before .before .before .before .if1 .left)) (node-of (c .before .before .before .before .before .before .before .before .before .before .before .before .before .before .before .before .before .before .before .before .before .args .s .now) (c .before .before .before .before .before .before .before .before .before .before .before .before .before .before .before .before .before .word-at .result) (c .before .before .before .before .before .before .before .before .before .before .before .before .before .before .before .before .word-at2 .result) (c .before .before .before .before .before .before .before .before .before .before .before .before .before .before .before .end-of .result) t e f (c .before .before .before .before .before .before .before .before .before .before .before .before .before .before .before .before .before .word-at .ensures .0) (c .before .before .before .before .before .before .before .before .before .before .before .before .before .before .before .before .word-at2 .ensures .0) (c .before .before .before .before .before .before .before .before .before .before .before .before .before .before .before .end-of .ensures) (let q = c .before .before .before .before .before .before .before .before .before .before .before .before .before .before .before .before .before .word-at .ensures .0 in omega arith) (let q = c .before .before .before .before .before .before .before .before .before .before .before .before .before .before .before .before .before .word-at .ensures .0 in omega arith)) in let ar = node-ends (tn .0) _ (c .before .before .before .before .before .before .before .before .before .before .before .before .temporal-ends .ensures) in let pc = sym (c .before .before .before .before .before .piece-of .ensures) ∙ c .before .before .before .piece2 .given .1 in let ch = node-piece (c .before .before .before .before .before .before .before .before .before .before .before .before .before .before .before .before .before .before .before .before .before .args .writing) (settingsIn (c .before .before .before .before .before .before .before .before .before .before .before .before .before .before .before .before .before .before .before .before .before .args .set .now)) ar _ _ _ pc in absurd (c .before .inside .ensures .1 (not-true (c .before .inside .result) (c .if2 .taken)) (ch .inside .starts) (ch .inside .order) (ch .inside .ends))
 
 write-operands-sub-to-sql-impl : (t : ℕ) → write-operands-lts.Need-sub-to-sql-impl (write-operands-calls t) (write-operands-at t) write-operands.Post write-operands-Inv-loop write-operands-μ-loop
 write-operands-sub-to-sql-impl t c = let h = c .before .inside .ensures .0 (not-false (c .before .inside .result) (c .if2 .left)) in h .1
@@ -757,7 +757,7 @@ write-operands-loop-less-2 : (t : ℕ) → write-operands-lts.Need-loop-less-2 (
 write-operands-loop-less-2 t c = search needs
 
 write-operands-loop-again-2 : (t : ℕ) → write-operands-lts.Need-loop-again-2 (write-operands-calls t) (write-operands-at t) write-operands.Post write-operands-Inv-loop write-operands-μ-loop
-write-operands-loop-again-2 t c = (c .before .before .to-sql-impl .kept .1 .1 .1 .0 ∙ c .before .before .before .before .before .before .before .before .before .before .before .before .before .loop .inv .0, omega arith, λ t e f a b. let tn = temporal-node (sym (c .before .before .before .before .before .before .before .before .before .before .before .before .before .before .before .before .before .before .before .is-temporal .ensures) ∙ not-false (c .before .before .before .before .before .before .before .before .before .before .before .before .before .before .before .before .before .before .before .is-temporal .result) (c .before .before .before .before .before .before .before .before .before .before .before .before .before .before .before .before .before .before .if1 .left)) (node-of (c .before .before .before .before .before .before .before .before .before .before .before .before .before .before .before .before .before .before .before .before .before .before .before .before .before .before .args .s .now) (c .before .before .before .before .before .before .before .before .before .before .before .before .before .before .before .before .before .before .before .before .before .before .word-at .result) (c .before .before .before .before .before .before .before .before .before .before .before .before .before .before .before .before .before .before .before .before .before .word-at2 .result) (c .before .before .before .before .before .before .before .before .before .before .before .before .before .before .before .before .before .before .before .before .end-of .result) t e f (c .before .before .before .before .before .before .before .before .before .before .before .before .before .before .before .before .before .before .before .before .before .before .word-at .ensures .0) (c .before .before .before .before .before .before .before .before .before .before .before .before .before .before .before .before .before .before .before .before .before .word-at2 .ensures .0) (c .before .before .before .before .before .before .before .before .before .before .before .before .before .before .before .before .before .before .before .before .end-of .ensures) (let q = c .before .before .before .before .before .before .before .before .before .before .before .before .before .before .before .before .before .before .before .before .before .before .word-at .ensures .0 in omega arith) (let q = c .before .before .before .before .before .before .before .before .before .before .before .before .before .before .before .before .before .before .before .before .before .before .word-at .ensures .0 in omega arith)) in let ar = node-ends (tn .0) _ (c .before .before .before .before .before .before .before .before .before .before .before .before .before .before .before .before .before .temporal-ends .ensures) in let hb = c .before .before .before .before .before .before .before .before .before .before .before .before .before .before .before .before .template-of .ensures .1 in let lb : length (c .before .before .before .before .before .before .before .before .before .before .before .before .before .before .before .before .template-of .result .codes) ≡ 24 = search (needs, c .before .before .before .before .before .before .before .before .before .before .before .before .before .before .before .before .template-of .ok) in let pc = sym (c .before .before .before .before .before .before .before .before .before .before .piece-of .ensures) ∙ c .before .before .before .before .before .before .before .before .piece2 .given .1 in let ch = node-piece (settingsIn (c .before .before .before .before .before .before .before .before .before .before .before .before .before .before .before .before .before .before .before .before .before .before .before .before .before .before .args .set .now)) ar _ _ _ pc in node-step (settingsIn (c .before .before .before .before .before .before .before .before .before .before .before .before .before .before .before .before .before .before .before .before .before .before .before .before .before .before .args .set .now)) ar (c .before .before .before .before .before .before .before .before .before .before .before .before .before .before .before .before .template-of .result .codes) (c .before .before .before .before .before .before .before .before .before .before .before .before .before .before .before .before .template-of .result .len) (c .before .before .before .before .before .before .before .before .before .before .before .before .before .loop .k) (omega arith) (omega arith) (c .before .before .before .before .before .before .before .before .before .before .before .before .before .loop .inv .2 t e f a b) _ _ pc (c .before .before .to-sql-impl .ensures (ch .x) (ch .stands) (ch .fit)))
+write-operands-loop-again-2 t c = (c .before .before .to-sql-impl .kept .1 .1 .1 .1 .0 ∙ c .before .before .before .before .before .before .before .before .before .before .before .before .before .loop .inv .0, omega arith, λ t e f a b. let tn = temporal-node (sym (c .before .before .before .before .before .before .before .before .before .before .before .before .before .before .before .before .before .before .before .is-temporal .ensures) ∙ not-false (c .before .before .before .before .before .before .before .before .before .before .before .before .before .before .before .before .before .before .before .is-temporal .result) (c .before .before .before .before .before .before .before .before .before .before .before .before .before .before .before .before .before .before .if1 .left)) (node-of (c .before .before .before .before .before .before .before .before .before .before .before .before .before .before .before .before .before .before .before .before .before .before .before .before .before .before .args .s .now) (c .before .before .before .before .before .before .before .before .before .before .before .before .before .before .before .before .before .before .before .before .before .before .word-at .result) (c .before .before .before .before .before .before .before .before .before .before .before .before .before .before .before .before .before .before .before .before .before .word-at2 .result) (c .before .before .before .before .before .before .before .before .before .before .before .before .before .before .before .before .before .before .before .before .end-of .result) t e f (c .before .before .before .before .before .before .before .before .before .before .before .before .before .before .before .before .before .before .before .before .before .before .word-at .ensures .0) (c .before .before .before .before .before .before .before .before .before .before .before .before .before .before .before .before .before .before .before .before .before .word-at2 .ensures .0) (c .before .before .before .before .before .before .before .before .before .before .before .before .before .before .before .before .before .before .before .before .end-of .ensures) (let q = c .before .before .before .before .before .before .before .before .before .before .before .before .before .before .before .before .before .before .before .before .before .before .word-at .ensures .0 in omega arith) (let q = c .before .before .before .before .before .before .before .before .before .before .before .before .before .before .before .before .before .before .before .before .before .before .word-at .ensures .0 in omega arith)) in let ar = node-ends (tn .0) _ (c .before .before .before .before .before .before .before .before .before .before .before .before .before .before .before .before .before .temporal-ends .ensures) in let hb = c .before .before .before .before .before .before .before .before .before .before .before .before .before .before .before .before .template-of .ensures .1 in let lb : length (c .before .before .before .before .before .before .before .before .before .before .before .before .before .before .before .before .template-of .result .codes) ≡ 24 = search (needs, c .before .before .before .before .before .before .before .before .before .before .before .before .before .before .before .before .template-of .ok) in let pc = sym (c .before .before .before .before .before .before .before .before .before .before .piece-of .ensures) ∙ c .before .before .before .before .before .before .before .before .piece2 .given .1 in let ch = node-piece (c .before .before .before .before .before .before .before .before .before .before .before .before .before .before .before .before .before .before .before .before .before .before .before .before .before .before .args .writing) (settingsIn (c .before .before .before .before .before .before .before .before .before .before .before .before .before .before .before .before .before .before .before .before .before .before .before .before .before .before .args .set .now)) ar _ _ _ pc in node-step (c .before .before .before .before .before .before .before .before .before .before .before .before .before .before .before .before .before .before .before .before .before .before .before .before .before .before .args .writing) (settingsIn (c .before .before .before .before .before .before .before .before .before .before .before .before .before .before .before .before .before .before .before .before .before .before .before .before .before .before .args .set .now)) ar (c .before .before .before .before .before .before .before .before .before .before .before .before .before .before .before .before .template-of .result .codes) (c .before .before .before .before .before .before .before .before .before .before .before .before .before .before .before .before .template-of .result .len) (c .before .before .before .before .before .before .before .before .before .before .before .before .before .loop .k) (omega arith) (omega arith) (c .before .before .before .before .before .before .before .before .before .before .before .before .before .loop .inv .2 t e f a b) _ _ pc (c .before .before .to-sql-impl .ensures (ch .x) (ch .stands) (ch .fit)))
 
 write-operands-enum-known-piece-3 : (t : ℕ) → write-operands-lts.Need-enum-known-piece-3 (write-operands-calls t) (write-operands-at t) write-operands.Post write-operands-Inv-loop write-operands-μ-loop
 write-operands-enum-known-piece-3 t c = search needs
@@ -769,7 +769,7 @@ write-operands-same-length-3 : (t : ℕ) → write-operands-lts.Need-same-length
 write-operands-same-length-3 t c = search needs
 
 write-operands-returns-3 : (t : ℕ) → write-operands-lts.Need-returns-3 (write-operands-calls t) (write-operands-at t) write-operands.Post write-operands-Inv-loop write-operands-μ-loop
-write-operands-returns-3 t c = λ t e f a b. let tn = temporal-node (sym (c .before .before .before .before .before .before .before .before .before .before .before .before .before .before .is-temporal .ensures) ∙ not-false (c .before .before .before .before .before .before .before .before .before .before .before .before .before .before .is-temporal .result) (c .before .before .before .before .before .before .before .before .before .before .before .before .before .if1 .left)) (node-of (c .before .before .before .before .before .before .before .before .before .before .before .before .before .before .before .before .before .before .before .before .before .args .s .now) (c .before .before .before .before .before .before .before .before .before .before .before .before .before .before .before .before .before .word-at .result) (c .before .before .before .before .before .before .before .before .before .before .before .before .before .before .before .before .word-at2 .result) (c .before .before .before .before .before .before .before .before .before .before .before .before .before .before .before .end-of .result) t e f (c .before .before .before .before .before .before .before .before .before .before .before .before .before .before .before .before .before .word-at .ensures .0) (c .before .before .before .before .before .before .before .before .before .before .before .before .before .before .before .before .word-at2 .ensures .0) (c .before .before .before .before .before .before .before .before .before .before .before .before .before .before .before .end-of .ensures) (let q = c .before .before .before .before .before .before .before .before .before .before .before .before .before .before .before .before .before .word-at .ensures .0 in omega arith) (let q = c .before .before .before .before .before .before .before .before .before .before .before .before .before .before .before .before .before .word-at .ensures .0 in omega arith)) in let ar = node-ends (tn .0) _ (c .before .before .before .before .before .before .before .before .before .before .before .before .temporal-ends .ensures) in let pc = sym (c .before .before .before .before .before .piece-of .ensures) ∙ c .before .before .before .piece3 .given .1 in let ch = name-piece (settingsIn (c .before .before .before .before .before .before .before .before .before .before .before .before .before .before .before .before .before .before .before .before .before .args .set .now)) ar _ _ _ pc in absurd (c .before .inside2 .ensures .1 (not-true (c .before .inside2 .result) (c .if3 .taken)) (ch .inside .starts) (ch .inside .order) (ch .inside .ends))
+write-operands-returns-3 t c = λ t e f a b. let tn = temporal-node (sym (c .before .before .before .before .before .before .before .before .before .before .before .before .before .before .is-temporal .ensures) ∙ not-false (c .before .before .before .before .before .before .before .before .before .before .before .before .before .before .is-temporal .result) (c .before .before .before .before .before .before .before .before .before .before .before .before .before .if1 .left)) (node-of (c .before .before .before .before .before .before .before .before .before .before .before .before .before .before .before .before .before .before .before .before .before .args .s .now) (c .before .before .before .before .before .before .before .before .before .before .before .before .before .before .before .before .before .word-at .result) (c .before .before .before .before .before .before .before .before .before .before .before .before .before .before .before .before .word-at2 .result) (c .before .before .before .before .before .before .before .before .before .before .before .before .before .before .before .end-of .result) t e f (c .before .before .before .before .before .before .before .before .before .before .before .before .before .before .before .before .before .word-at .ensures .0) (c .before .before .before .before .before .before .before .before .before .before .before .before .before .before .before .before .word-at2 .ensures .0) (c .before .before .before .before .before .before .before .before .before .before .before .before .before .before .before .end-of .ensures) (let q = c .before .before .before .before .before .before .before .before .before .before .before .before .before .before .before .before .before .word-at .ensures .0 in omega arith) (let q = c .before .before .before .before .before .before .before .before .before .before .before .before .before .before .before .before .before .word-at .ensures .0 in omega arith)) in let ar = node-ends (tn .0) _ (c .before .before .before .before .before .before .before .before .before .before .before .before .temporal-ends .ensures) in let pc = sym (c .before .before .before .before .before .piece-of .ensures) ∙ c .before .before .before .piece3 .given .1 in let ch = name-piece (c .before .before .before .before .before .before .before .before .before .before .before .before .before .before .before .before .before .before .before .before .before .args .writing) (settingsIn (c .before .before .before .before .before .before .before .before .before .before .before .before .before .before .before .before .before .before .before .before .before .args .set .now)) ar _ _ _ pc in absurd (c .before .inside2 .ensures .1 (not-true (c .before .inside2 .result) (c .if3 .taken)) (ch .inside .starts) (ch .inside .order) (ch .inside .ends))
 
 write-operands-sub-rest : (t : ℕ) → write-operands-lts.Need-sub-rest (write-operands-calls t) (write-operands-at t) write-operands.Post write-operands-Inv-loop write-operands-μ-loop
 write-operands-sub-rest t c = let h = c .before .inside2 .ensures .0 (not-false (c .before .inside2 .result) (c .if3 .left)) in h .1
@@ -790,13 +790,13 @@ write-operands-loop-less-3 : (t : ℕ) → write-operands-lts.Need-loop-less-3 (
 write-operands-loop-less-3 t c = search needs
 
 write-operands-loop-again-3 : (t : ℕ) → write-operands-lts.Need-loop-again-3 (write-operands-calls t) (write-operands-at t) write-operands.Post write-operands-Inv-loop write-operands-μ-loop
-write-operands-loop-again-3 t c = (c .before .before .put .kept .1 .0 ∙ c .before .before .before .before .before .before .before .before .before .before .before .before .before .before .loop .inv .0, omega arith, λ t e f a b. let tn = temporal-node (sym (c .before .before .before .before .before .before .before .before .before .before .before .before .before .before .before .before .before .before .before .before .is-temporal .ensures) ∙ not-false (c .before .before .before .before .before .before .before .before .before .before .before .before .before .before .before .before .before .before .before .before .is-temporal .result) (c .before .before .before .before .before .before .before .before .before .before .before .before .before .before .before .before .before .before .before .if1 .left)) (node-of (c .before .before .before .before .before .before .before .before .before .before .before .before .before .before .before .before .before .before .before .before .before .before .before .before .before .before .before .args .s .now) (c .before .before .before .before .before .before .before .before .before .before .before .before .before .before .before .before .before .before .before .before .before .before .before .word-at .result) (c .before .before .before .before .before .before .before .before .before .before .before .before .before .before .before .before .before .before .before .before .before .before .word-at2 .result) (c .before .before .before .before .before .before .before .before .before .before .before .before .before .before .before .before .before .before .before .before .before .end-of .result) t e f (c .before .before .before .before .before .before .before .before .before .before .before .before .before .before .before .before .before .before .before .before .before .before .before .word-at .ensures .0) (c .before .before .before .before .before .before .before .before .before .before .before .before .before .before .before .before .before .before .before .before .before .before .word-at2 .ensures .0) (c .before .before .before .before .before .before .before .before .before .before .before .before .before .before .before .before .before .before .before .before .before .end-of .ensures) (let q = c .before .before .before .before .before .before .before .before .before .before .before .before .before .before .before .before .before .before .before .before .before .before .before .word-at .ensures .0 in omega arith) (let q = c .before .before .before .before .before .before .before .before .before .before .before .before .before .before .before .before .before .before .before .before .before .before .before .word-at .ensures .0 in omega arith)) in let ar = node-ends (tn .0) _ (c .before .before .before .before .before .before .before .before .before .before .before .before .before .before .before .before .before .before .temporal-ends .ensures) in let hb = c .before .before .before .before .before .before .before .before .before .before .before .before .before .before .before .before .before .template-of .ensures .1 in let lb : length (c .before .before .before .before .before .before .before .before .before .before .before .before .before .before .before .before .before .template-of .result .codes) ≡ 24 = search (needs, c .before .before .before .before .before .before .before .before .before .before .before .before .before .before .before .before .before .template-of .ok) in let pc = sym (c .before .before .before .before .before .before .before .before .before .before .before .piece-of .ensures) ∙ c .before .before .before .before .before .before .before .before .before .piece3 .given .1 in name-step (settingsIn (c .before .before .before .before .before .before .before .before .before .before .before .before .before .before .before .before .before .before .before .before .before .before .before .before .before .before .before .args .set .now)) ar (c .before .before .before .before .before .before .before .before .before .before .before .before .before .before .before .before .before .template-of .result .codes) (c .before .before .before .before .before .before .before .before .before .before .before .before .before .before .before .before .before .template-of .result .len) (c .before .before .before .before .before .before .before .before .before .before .before .before .before .before .loop .k) (omega arith) (omega arith) (c .before .before .before .before .before .before .before .before .before .before .before .before .before .before .loop .inv .2 t e f a b) _ _ pc (lays-of (c .before .before .before .before .rest .ensures) (lays (c .before .before .put .ensures))))
+write-operands-loop-again-3 t c = (c .before .before .put .kept .1 .0 ∙ c .before .before .before .before .before .before .before .before .before .before .before .before .before .before .loop .inv .0, omega arith, λ t e f a b. let tn = temporal-node (sym (c .before .before .before .before .before .before .before .before .before .before .before .before .before .before .before .before .before .before .before .before .is-temporal .ensures) ∙ not-false (c .before .before .before .before .before .before .before .before .before .before .before .before .before .before .before .before .before .before .before .before .is-temporal .result) (c .before .before .before .before .before .before .before .before .before .before .before .before .before .before .before .before .before .before .before .if1 .left)) (node-of (c .before .before .before .before .before .before .before .before .before .before .before .before .before .before .before .before .before .before .before .before .before .before .before .before .before .before .before .args .s .now) (c .before .before .before .before .before .before .before .before .before .before .before .before .before .before .before .before .before .before .before .before .before .before .before .word-at .result) (c .before .before .before .before .before .before .before .before .before .before .before .before .before .before .before .before .before .before .before .before .before .before .word-at2 .result) (c .before .before .before .before .before .before .before .before .before .before .before .before .before .before .before .before .before .before .before .before .before .end-of .result) t e f (c .before .before .before .before .before .before .before .before .before .before .before .before .before .before .before .before .before .before .before .before .before .before .before .word-at .ensures .0) (c .before .before .before .before .before .before .before .before .before .before .before .before .before .before .before .before .before .before .before .before .before .before .word-at2 .ensures .0) (c .before .before .before .before .before .before .before .before .before .before .before .before .before .before .before .before .before .before .before .before .before .end-of .ensures) (let q = c .before .before .before .before .before .before .before .before .before .before .before .before .before .before .before .before .before .before .before .before .before .before .before .word-at .ensures .0 in omega arith) (let q = c .before .before .before .before .before .before .before .before .before .before .before .before .before .before .before .before .before .before .before .before .before .before .before .word-at .ensures .0 in omega arith)) in let ar = node-ends (tn .0) _ (c .before .before .before .before .before .before .before .before .before .before .before .before .before .before .before .before .before .before .temporal-ends .ensures) in let hb = c .before .before .before .before .before .before .before .before .before .before .before .before .before .before .before .before .before .template-of .ensures .1 in let lb : length (c .before .before .before .before .before .before .before .before .before .before .before .before .before .before .before .before .before .template-of .result .codes) ≡ 24 = search (needs, c .before .before .before .before .before .before .before .before .before .before .before .before .before .before .before .before .before .template-of .ok) in let pc = sym (c .before .before .before .before .before .before .before .before .before .before .before .piece-of .ensures) ∙ c .before .before .before .before .before .before .before .before .before .piece3 .given .1 in name-step (c .before .before .before .before .before .before .before .before .before .before .before .before .before .before .before .before .before .before .before .before .before .before .before .before .before .before .before .args .writing) (settingsIn (c .before .before .before .before .before .before .before .before .before .before .before .before .before .before .before .before .before .before .before .before .before .before .before .before .before .before .before .args .set .now)) ar (c .before .before .before .before .before .before .before .before .before .before .before .before .before .before .before .before .before .template-of .result .codes) (c .before .before .before .before .before .before .before .before .before .before .before .before .before .before .before .before .before .template-of .result .len) (c .before .before .before .before .before .before .before .before .before .before .before .before .before .before .loop .k) (omega arith) (omega arith) (c .before .before .before .before .before .before .before .before .before .before .before .before .before .before .loop .inv .2 t e f a b) _ _ pc (lays-of (c .before .before .before .before .rest .ensures) (lays (c .before .before .put .ensures))))
 
 write-operands-same-length-4 : (t : ℕ) → write-operands-lts.Need-same-length-4 (write-operands-calls t) (write-operands-at t) write-operands.Post write-operands-Inv-loop write-operands-μ-loop
 write-operands-same-length-4 t c = search needs
 
 write-operands-returns-4 : (t : ℕ) → write-operands-lts.Need-returns-4 (write-operands-calls t) (write-operands-at t) write-operands.Post write-operands-Inv-loop write-operands-μ-loop
-write-operands-returns-4 t c = λ t e f a b. let tn = temporal-node (sym (c .before .before .before .before .before .before .before .is-temporal .ensures) ∙ not-false (c .before .before .before .before .before .before .before .is-temporal .result) (c .before .before .before .before .before .before .if1 .left)) (node-of (c .before .before .before .before .before .before .before .before .before .before .before .before .before .before .args .s .now) (c .before .before .before .before .before .before .before .before .before .before .word-at .result) (c .before .before .before .before .before .before .before .before .before .word-at2 .result) (c .before .before .before .before .before .before .before .before .end-of .result) t e f (c .before .before .before .before .before .before .before .before .before .before .word-at .ensures .0) (c .before .before .before .before .before .before .before .before .before .word-at2 .ensures .0) (c .before .before .before .before .before .before .before .before .end-of .ensures) (let q = c .before .before .before .before .before .before .before .before .before .before .word-at .ensures .0 in omega arith) (let q = c .before .before .before .before .before .before .before .before .before .before .word-at .ensures .0 in omega arith)) in let ar = node-ends (tn .0) _ (c .before .before .before .before .before .temporal-ends .ensures) in lays-of (all-filled _ (c .before .before .before .before .template-of .result .codes) (c .before .before .before .before .template-of .result .len) (c .before .loop .k) (omega arith) ∙ sym (c .before .before .before .before .template-of .ensures .0 (settingsIn (c .before .before .before .before .before .before .before .before .before .before .before .before .before .before .args .set .now)) t (tn .0) (tn .1) ar)) (c .before .loop .inv .2 t e f a b)
+write-operands-returns-4 t c = λ t e f a b. let tn = temporal-node (sym (c .before .before .before .before .before .before .before .is-temporal .ensures) ∙ not-false (c .before .before .before .before .before .before .before .is-temporal .result) (c .before .before .before .before .before .before .if1 .left)) (node-of (c .before .before .before .before .before .before .before .before .before .before .before .before .before .before .args .s .now) (c .before .before .before .before .before .before .before .before .before .before .word-at .result) (c .before .before .before .before .before .before .before .before .before .word-at2 .result) (c .before .before .before .before .before .before .before .before .end-of .result) t e f (c .before .before .before .before .before .before .before .before .before .before .word-at .ensures .0) (c .before .before .before .before .before .before .before .before .before .word-at2 .ensures .0) (c .before .before .before .before .before .before .before .before .end-of .ensures) (let q = c .before .before .before .before .before .before .before .before .before .before .word-at .ensures .0 in omega arith) (let q = c .before .before .before .before .before .before .before .before .before .before .word-at .ensures .0 in omega arith)) in let ar = node-ends (tn .0) _ (c .before .before .before .before .before .temporal-ends .ensures) in lays-of (all-filled _ (c .before .before .before .before .template-of .result .codes) (c .before .before .before .before .template-of .result .len) (c .before .loop .k) (omega arith) ∙ sym (c .before .before .before .before .template-of .ensures .0 (c .before .before .before .before .before .before .before .before .before .before .before .before .before .before .args .writing) (settingsIn (c .before .before .before .before .before .before .before .before .before .before .before .before .before .before .args .set .now)) t (tn .0) (tn .1) ar)) (c .before .loop .inv .2 t e f a b)
 
 abbrev write-others-calls : ℕ → write-others-lts.Claims
 write-others-calls t = (
@@ -966,10 +966,10 @@ write-spatial-put-requires : (t : ℕ) → write-spatial-lts.Need-put-requires (
 write-spatial-put-requires t c κs = search needs
 
 write-spatial-same-length : (t : ℕ) → write-spatial-lts.Need-same-length (write-spatial-calls t) (write-spatial-at t) write-spatial.Post
-write-spatial-same-length t c = c .before .before .put .kept .1 .0 ∙ c .before .before .before .before .before .before .before .put-reduced2 .kept .1 .1 .0 ∙ c .before .before .before .before .before .before .before .before .before .before .before .to-sql-impl2 .kept .1 .1 .1 .0 ∙ c .before .before .before .before .before .before .before .before .before .before .before .before .before .before .before .before .put-either2 .kept .1 .1 .1 .0 ∙ c .before .before .before .before .before .before .before .before .before .before .before .before .before .before .before .before .before .before .before .before .before .before .put-reduced .kept .1 .1 .0 ∙ c .before .before .before .before .before .before .before .before .before .before .before .before .before .before .before .before .before .before .before .before .before .before .before .before .before .before .to-sql-impl .kept .1 .1 .1 .0 ∙ c .before .before .before .before .before .before .before .before .before .before .before .before .before .before .before .before .before .before .before .before .before .before .before .before .before .before .before .before .before .before .before .put-either .kept .1 .1 .1 .0 ∙ c .before .before .before .before .before .before .before .before .before .before .before .before .before .before .before .before .before .before .before .before .before .before .before .before .before .before .before .before .before .before .before .before .before .before .before .before .before .put-word .kept .1 .1 .0
+write-spatial-same-length t c = c .before .before .put .kept .1 .0 ∙ c .before .before .before .before .before .before .before .put-reduced2 .kept .1 .1 .0 ∙ c .before .before .before .before .before .before .before .before .before .before .before .to-sql-impl2 .kept .1 .1 .1 .1 .0 ∙ c .before .before .before .before .before .before .before .before .before .before .before .before .before .before .before .before .put-either2 .kept .1 .1 .1 .0 ∙ c .before .before .before .before .before .before .before .before .before .before .before .before .before .before .before .before .before .before .before .before .before .before .put-reduced .kept .1 .1 .0 ∙ c .before .before .before .before .before .before .before .before .before .before .before .before .before .before .before .before .before .before .before .before .before .before .before .before .before .before .to-sql-impl .kept .1 .1 .1 .1 .0 ∙ c .before .before .before .before .before .before .before .before .before .before .before .before .before .before .before .before .before .before .before .before .before .before .before .before .before .before .before .before .before .before .before .put-either .kept .1 .1 .1 .0 ∙ c .before .before .before .before .before .before .before .before .before .before .before .before .before .before .before .before .before .before .before .before .before .before .before .before .before .before .before .before .before .before .before .before .before .before .before .before .before .put-word .kept .1 .1 .0
 
 write-spatial-returns : (t : ℕ) → write-spatial-lts.Need-returns (write-spatial-calls t) (write-spatial-at t) write-spatial.Post
-write-spatial-returns t c = λ t nd h. spatial-step (settingsIn (c .before .before .before .before .before .before .before .before .before .before .before .before .before .before .before .before .before .before .before .before .before .before .before .before .before .before .before .before .before .before .before .before .before .before .before .before .before .before .before .before .before .before .before .before .before .before .before .before .args .set .now)) nd h (c .before .before .before .before .before .before .before .before .before .before .before .before .before .before .before .before .before .before .before .before .before .before .before .before .before .before .before .before .before .before .before .before .before .before .before .before .before .before .before .before .before .before .before .is-kind .ensures) (c .before .before .before .before .before .before .before .before .before .before .before .before .before .before .before .before .before .before .before .before .before .before .before .before .before .before .before .before .before .before .before .before .before .before .before .before .before .before .before .before .before .is-kind2 .ensures) (c .before .before .before .before .before .before .before .before .before .before .before .before .before .before .before .before .before .before .before .before .before .before .before .before .before .before .before .before .before .before .before .before .before .before .before .before .before .before .before .before .reduce-precision .ensures) (c .before .before .before .before .before .before .before .before .before .before .before .before .before .before .before .before .before .before .before .before .before .before .before .before .before .before .before .before .before .before .before .before .before .before .before .before .before .before .before .reduce-precision2 .ensures) (c .before .before .before .before .before .before .before .before .before .before .before .before .before .before .before .before .before .before .before .before .before .before .before .before .before .before .before .before .before .before .before .before .before .before .before .before .before .put-word .ensures) (lays (c .before .before .before .before .before .before .before .before .before .before .before .before .before .before .before .before .before .before .before .before .before .before .before .before .before .before .before .before .before .before .before .put-either .ensures)) (c .before .before .before .before .before .before .before .before .before .before .before .before .before .before .before .before .before .before .before .before .before .before .before .before .before .before .to-sql-impl .ensures) (c .before .before .before .before .before .before .before .before .before .before .before .before .before .before .before .before .before .before .before .before .before .before .put-reduced .ensures) (lays (c .before .before .before .before .before .before .before .before .before .before .before .before .before .before .before .before .put-either2 .ensures)) (c .before .before .before .before .before .before .before .before .before .before .before .to-sql-impl2 .ensures) (c .before .before .before .before .before .before .before .put-reduced2 .ensures) (lays (c .before .before .put .ensures))
+write-spatial-returns t c = λ t nd h. spatial-step (c .before .before .before .before .before .before .before .before .before .before .before .before .before .before .before .before .before .before .before .before .before .before .before .before .before .before .before .before .before .before .before .before .before .before .before .before .before .before .before .before .before .before .before .before .before .before .before .before .args .writing) (settingsIn (c .before .before .before .before .before .before .before .before .before .before .before .before .before .before .before .before .before .before .before .before .before .before .before .before .before .before .before .before .before .before .before .before .before .before .before .before .before .before .before .before .before .before .before .before .before .before .before .before .args .set .now)) nd h (c .before .before .before .before .before .before .before .before .before .before .before .before .before .before .before .before .before .before .before .before .before .before .before .before .before .before .before .before .before .before .before .before .before .before .before .before .before .before .before .before .before .before .before .is-kind .ensures) (c .before .before .before .before .before .before .before .before .before .before .before .before .before .before .before .before .before .before .before .before .before .before .before .before .before .before .before .before .before .before .before .before .before .before .before .before .before .before .before .before .before .is-kind2 .ensures) (c .before .before .before .before .before .before .before .before .before .before .before .before .before .before .before .before .before .before .before .before .before .before .before .before .before .before .before .before .before .before .before .before .before .before .before .before .before .before .before .before .reduce-precision .ensures) (c .before .before .before .before .before .before .before .before .before .before .before .before .before .before .before .before .before .before .before .before .before .before .before .before .before .before .before .before .before .before .before .before .before .before .before .before .before .before .before .reduce-precision2 .ensures) (c .before .before .before .before .before .before .before .before .before .before .before .before .before .before .before .before .before .before .before .before .before .before .before .before .before .before .before .before .before .before .before .before .before .before .before .before .before .put-word .ensures) (lays (c .before .before .before .before .before .before .before .before .before .before .before .before .before .before .before .before .before .before .before .before .before .before .before .before .before .before .before .before .before .before .before .put-either .ensures)) (c .before .before .before .before .before .before .before .before .before .before .before .before .before .before .before .before .before .before .before .before .before .before .before .before .before .before .to-sql-impl .ensures) (c .before .before .before .before .before .before .before .before .before .before .before .before .before .before .before .before .before .before .before .before .before .before .put-reduced .ensures) (lays (c .before .before .before .before .before .before .before .before .before .before .before .before .before .before .before .before .put-either2 .ensures)) (c .before .before .before .before .before .before .before .before .before .before .before .to-sql-impl2 .ensures) (c .before .before .before .before .before .before .before .put-reduced2 .ensures) (lays (c .before .before .put .ensures))
 
 pub +to-sql-impl+write-between+write-bound+write-infix+write-items+write-monadic+write-operands+write-others+write-spatial-spec :
     {M : Type 1} → statement M

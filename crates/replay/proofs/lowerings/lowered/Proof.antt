@@ -9,14 +9,14 @@ use Rattle.replay.proofs.lowerings.lowered.Tie as tie
 returns : tie.Need-returns
 returns c = search needs
 
-slice-relend-prefix-to-sql : tie.Need-slice-relend-prefix-to-sql
-slice-relend-prefix-to-sql c = search needs
+slice-relend-prefix-lower : tie.Need-slice-relend-prefix-lower
+slice-relend-prefix-lower c = search needs
 
-slice-aggregate-to-sql : tie.Need-slice-aggregate-to-sql
-slice-aggregate-to-sql c = sym (length-take-le _ _ (omega arith))
+slice-aggregate-lower : tie.Need-slice-aggregate-lower
+slice-aggregate-lower c = sym (length-take-le _ _ (omega arith))
 
-to-sql-requires : tie.Need-to-sql-requires
-to-sql-requires c κs = search needs
+lower-requires : tie.Need-lower-requires
+lower-requires c κs = search needs
 
 found-of-requires : tie.Need-found-of-requires
 found-of-requires c κs = search needs
@@ -32,9 +32,9 @@ lowered-spec =
     tie.close
     (tie.spec
     returns
-    slice-relend-prefix-to-sql
-    slice-aggregate-to-sql
-    to-sql-requires
+    slice-relend-prefix-lower
+    slice-aggregate-lower
+    lower-requires
     found-of-requires
     same-length
     returns-2)
