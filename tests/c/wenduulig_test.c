@@ -20,7 +20,9 @@ struct bytes {
 static const struct writing {
     int64_t (*to_sql)(const uint8_t *, size_t, const uint8_t *, size_t, uint8_t *, size_t);
     const char *name, *after;
-} first_call = {wenduulig_to_sql, "to_sql", ""}, second_call = {wenduulig_to_geopackage_sql, "to_geopackage_sql", ".000Z"};
+} first_call = {wenduulig_to_sql, "to_sql", ""}, second_call = {wenduulig_to_geopackage_sql, "to_geopackage_sql", ".000Z"},
+  /* what is tested is reading, on texts of the first */
+  before_reading = {wenduulig_to_sql, "read", ""};
 
 static const struct writing *writing = &first_call;
 static int passed, failed;
@@ -759,6 +761,7 @@ int main(void)
 {
     test_lowering(&first_call);
     test_lowering(&second_call);
+    writing = &before_reading;
     test_truths();
     test_reading_refusals();
     test_quotes();

@@ -1,4 +1,5 @@
-"""The Strs of a tree in its text: a character of its own stands for each value, so that nothing of it is taken for another part of the text."""
+"""The Strs of a tree in its text: a character of its own stands for each value, so that nothing of it is taken for another part of the text. And the
+timestamps of a tree or a text as a GeoPackage stores them."""
 import re
 
 from answers import sqlite
@@ -6,6 +7,7 @@ from model.records import children
 from model.strings import quoted
 
 STAND_IN = 0xf0000    # the first of these characters
+STAMP = re.compile(r"'(\d{4}-\d\d-\d\dT\d\d:\d\d:\d\d)'")
 
 
 def replaced(tree, kind, change):
@@ -24,6 +26,11 @@ def with_texts(tree, change):
 def as_stored(tree):
     """The tree with a Str in the place of each timestamp, as a GeoPackage stores it: the Rust's text of this is the second call's of the tree."""
     return replaced(tree, 'timestamp', lambda *fields: ('str', 0, '%04d-%02d-%02dT%02d:%02d:%02d.000Z' % fields))
+
+
+def with_milliseconds(text):
+    """The text with .000Z after the seconds of each timestamp; no Str of it may look like one."""
+    return STAMP.sub(r"'\1.000Z'", text)
 
 
 def values_of(tree):

@@ -12,13 +12,12 @@ Writes nothing and exits with 1 if one of these differs, or if there are fewer c
 import collections
 import os
 import random
-import re
 import sys
 
 sys.path.insert(0, os.path.join(os.path.dirname(os.path.abspath(__file__)), '..'))
 from answers import counts, instants, rust, sqlite, stored
 from answers.counts import shown
-from answers.literals import Literals, with_texts
+from answers.literals import Literals, with_milliseconds, with_texts
 from answers.make_lowering_answers import TAKEN
 from generators import filters, stamps, texts, trees
 from model import calls, lowering, records
@@ -31,7 +30,6 @@ RANDOM, SEED = 4000, 4
 SAMPLE, SMALL = 700, 500    # of the random trees those that are stored, and how long their texts are at most
 ROWS, OTHERS, JOINED = 10, 3, 200    # for each predicate rows of 24-byte values, and others; filters of several predicates
 CASES = {'lowerings': 2160, 'texts': 1624, 'readings': 2783, 'by datetime': 1790, 'where the first call reads otherwise': 148}
-STAMP = re.compile(r"'(\d{4}-\d\d-\d\dT\d\d:\d\d:\d\d)'")
 SHEET = settings_record(SHEET_SETTINGS)
 
 
@@ -43,7 +41,7 @@ def expected(oracle, cases):
     literals, differ, out = Literals(), 0, []
     bare = [(settings, with_texts(tree, literals.stand_in)) for settings, tree in cases]
     for (settings, tree), (letter, text) in zip(cases, rust.answers(oracle, bare)):
-        right, first = (literals.put(one).encode() for one in (STAMP.sub(r"'\1.000Z'", text.decode()), text.decode()))
+        right, first = (literals.put(one).encode() for one in (with_milliseconds(text.decode()), text.decode()))
         own = [lowering.text(settings, tree, writing).encode() for writing in (GEOPACKAGE, lowering.RUST)]
         if letter != 'T' or own != [right, first]:
             differ += shown('Rust, model', [(letter, right[:200], own[0][:200])])

@@ -56,6 +56,9 @@ class NoTable:
     def column(self, name):
         return Column()
 
+    def held(self, name):
+        return {}
+
     def forms(self, name):
         return {}
 
@@ -78,16 +81,20 @@ class Table:
 
     def __init__(self, package, name, spatialite, srid, writing):
         self.package, self.name, self.spatialite, self.srid, self.writing = package, name, spatialite, srid, writing
-        self.forms = functools.lru_cache(None)(self.forms)    # asked for each place of a filter
+        self.held = functools.lru_cache(None)(self.held)    # asked for each place of a filter
         systems = package.geometries(name)
         self.columns = {column.lower(): Column(declared, nullable, systems.get(column.lower())) for column, declared, nullable in package.declared(name)}
 
     def column(self, name):
         return self.columns.get(name.lower(), Column())
 
+    def held(self, name):
+        """Of the instants that the column holds an example of each form."""
+        return self.package.forms(self.name, name)
+
     def forms(self, name):
-        """Of the instants that the column holds an example of each form; where it holds none, of those that it is declared for."""
-        return self.package.forms(self.name, name) or declared_form(self.column(name))
+        """The same; where it holds none, of those that it is declared for."""
+        return self.held(name) or declared_form(self.column(name))
 
     def has_null(self, name):
         return self.column(name).nullable and self.package.has_null(self.name, name)

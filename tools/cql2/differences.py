@@ -17,8 +17,8 @@ TABLE = [
                'the interval ends before it starts, so that t_disjoint picks every row and t_intersects none',
                'write the earlier instant first'),
     Difference(looking.other_form, 'a written instant beside instants of another form',
-               'the instant is written %(written)s, and those of %(column)s are as %(example)s: they are compared as texts, and a value of that very '
-               'instant is not equal to it but %(lies)s it',
+               'the instant is written %(written)s, and %(column)s %(has)s instants as %(example)s: they are compared as texts, and a value of that '
+               'very instant is not equal to it but %(lies)s it',
                '%(instead)s'),
     Difference(looking.date_and_timestamp, 'a date beside a timestamp',
                'dates and timestamps are compared as texts, so that a day comes before its own midnight and is never equal to it',

@@ -127,6 +127,7 @@ class GeoPackage:
 
     def ask(self, sql):
         """All rows of a question of this command's own."""
+        self.watch()
         try:
             return self.connection.execute(sql).fetchall()
         except sqlite3.Error as e:
@@ -140,7 +141,8 @@ class GeoPackage:
         """For every row its key and what SQLite makes of the text: 1, 0 or None."""
         return self.execute('SELECT %s, (%s) FROM %s' % (quoted(key), sql, quoted(table))).fetchall()
 
-    def execute(self, sql):
+    def watch(self):
+        """Says on a terminal that a search goes on, where it takes long."""
         started = time.monotonic()
 
         def tick():
@@ -149,6 +151,9 @@ class GeoPackage:
             return 0
 
         self.connection.set_progress_handler(tick, 1000000)
+
+    def execute(self, sql):
+        self.watch()
         try:
             return self.connection.execute(sql)
         except sqlite3.Error as e:

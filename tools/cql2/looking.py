@@ -5,11 +5,11 @@ import re
 from .columns import BOOLEAN, DATE, DATETIME, GEOMETRY, NUMBER, NUMBERS, STORED, TEXT, TEXTS, TIMESTAMP, UNKNOWN, form
 from .encode import KNOWN
 from .geopackage import without_accents
-from .reading import Number
+from .reading import Number, shortened
 from .writing import AFTER, GEOPACKAGE, RUST
 
-# A part of the filter: its value, its place, and what it lies in, the outermost first.
-Part = collections.namedtuple('Part', 'value place above')
+# A part of the filter: its value, its place, what it lies in, the outermost first, and the whole filter.
+Part = collections.namedtuple('Part', 'value place above whole')
 COMPARISONS = ('=', '<>', '<', '>', '<=', '>=')
 ARITHMETIC = ('+', '-', '*', '/', 'div', '%', '^')
 LOGIC = ('and', 'or', 'not')
@@ -17,9 +17,10 @@ FOLDS = ('casei', 'accenti')
 TEMPORAL, SPATIAL = ([name for name in KNOWN if name.startswith(start)] for start in ('t_', 's_'))
 
 
-def walk(value, place='$', above=()):
+def walk(value, place='$', above=(), whole=None):
     """Every part of a filter, parents first."""
-    yield Part(value, place, above)
+    whole = whole or Whole(value)
+    yield Part(value, place, above, whole)
     inside, at = [], place
     if isinstance(value, list):
         inside = value
@@ -28,7 +29,22 @@ def walk(value, place='$', above=()):
     elif isinstance(value, dict) and 'interval' in value:
         inside, at = value['interval'], place + '.interval'
     for k, x in enumerate(inside):
-        yield from walk(x, '%s[%d]' % (at, k), above + (value,))
+        yield from walk(x, '%s[%d]' % (at, k), above + (value,), whole)
+
+
+class Whole:
+    """A filter, and what is asked of it as a whole."""
+
+    def __init__(self, value):
+        self.value, self.beside = value, None
+
+    def forms(self, table):
+        """The forms of instants in the columns that stand beside written ones: there is one writing for all."""
+        if self.beside is None:
+            compared = [[x for x, _ in operands(part)] for part in walk(self.value)]
+            names = {property_of(x) for some in compared if any(map(instant, some)) for x in some if property_of(x)}
+            self.beside = {one for name in names for one in table.forms(name)}
+        return self.beside
 
 
 def operator(value):
@@ -143,17 +159,20 @@ def operands(part):
         return [(value, at) for _, _, value, at in used(part)]
     if name == 'in' and isinstance(part.value['args'][1], list):
         return [(part.value['args'][0], place + '[0]')] + [(x, '%s[1][%d]' % (place, k)) for k, x in enumerate(part.value['args'][1])]
+    if lists_equal(part) == (True, True):    # of one value each: written as a comparison in brackets
+        return [(x[0], '%s[%d][0]' % (place, k)) for k, x in enumerate(part.value['args'])]
     if name in COMPARISONS + ARITHMETIC + ('between', 'like'):
         return [(x, '%s[%d]' % (place, k)) for k, x in enumerate(part.value['args'])]
     return []
 
 
 def family(value, table):
-    """The family of values that an operand has. A column that is declared DATE and holds longer instants is none of dates."""
+    """The family of values that an operand has. A column that is declared DATE or DATETIME has that of the instants which it holds."""
     name = property_of(value)
     if name:
         declared = table.column(name).family
-        return DATETIME if declared == DATE and any(len(one) > len('YYYY-MM-DD') for one in table.forms(name)) else declared
+        forms = table.forms(name) if declared in (DATE, DATETIME) else ()
+        return declared if not forms else DATETIME if any(len(one) > len('YYYY-MM-DD') for one in forms) else DATE
     if isinstance(value, bool):
         return BOOLEAN
     if isinstance(value, Number) or operator(value) in ARITHMETIC:
@@ -185,22 +204,22 @@ RIGHT = {'above': (('>=', '<', 't_before'), ('<=', '>', 't_after')), 'below': ((
 
 
 def lies(one, other):
-    """How a value of one form lies to its own instant as written in another: of two that begin alike the longer one is above, but one with an offset
-    from UTC has another time of day."""
-    if re.search('[+-]00(:?00)?$', one[10:]):
+    """How a value of one form lies to its own instant as written in another: of two that begin alike the longer one is above. What is no plain time of
+    day, as one with an offset from UTC or the name of a zone, may be another instant than it begins with."""
+    if not re.fullmatch(r'(T00:00(:00(\.0+)?)?Z?)?', one[10:]):
         return 'above or below'
     return 'above' if one.startswith(other) else 'below' if other.startswith(one) else 'above or below'
 
 
 def one_form(value, forms, writing):
-    """The way to write an instant as a column holds it."""
+    """The way to write an instant as the columns hold it that stand beside written ones."""
     stored = {form(STORED): GEOPACKAGE, form(STORED)[:19]: RUST}
     if set(forms) == {form(STORED)[:10]}:
         return 'write a date'
-    if len(forms) > 1 or not set(forms) & set(stored):
-        return 'have the column hold them in one form, as ' + STORED
-    other = stored[min(forms)]
-    return ', and '.join(['write a timestamp'] * ('date' in value) + ['take --writing ' + other] * (writing != other))
+    mixed = len(forms) > 1 or not set(forms) & set(stored)
+    other = GEOPACKAGE if mixed else stored[min(forms)]
+    return ', and '.join(['have the columns hold instants in one form, as ' + STORED] * mixed + ['write a timestamp'] * ('date' in value)
+                         + ['take --writing ' + other] * (writing != other))
 
 
 def other_form(part, table):
@@ -209,14 +228,15 @@ def other_form(part, table):
     columns = [property_of(x) for x, _ in found if property_of(x) and family(x, table) in (DATETIME, TEXT, UNKNOWN)]
     for x, place in found:
         for column in columns if instant(x) else ():
-            text, forms = written(x, table.writing), table.forms(column)
-            others = {one: example for one, example in forms.items() if one != form(text)}
+            text = written(x, table.writing)
+            others = {one: example for one, example in table.forms(column).items() if one != form(text)}
             ways = {lies(one, form(text)) for one in others}
             how = min(ways) if len(ways) == 1 else 'above or below'
             right = RIGHT[how][bool(instant(found[0][0]))]
             if others and name not in right:
-                yield place, {'written': text, 'column': column, 'example': max(others.values()), 'lies': how,
-                              'instead': one_form(x, forms, table.writing) + ('; %s and %s are right as they are' % right[:2] if right else '')}
+                instead = one_form(x, part.whole.forms(table), table.writing) + ('; %s and %s are right as they are' % right[:2] if right else '')
+                yield place, {'written': text, 'column': column, 'has': 'holds' if table.held(column) else 'is declared for',
+                              'example': shortened(max(others.values())), 'lies': how, 'instead': instead}
                 return
 
 
@@ -244,7 +264,7 @@ def other_type(part, table):
     kinds |= {DATE} if name in TEMPORAL else {NUMBER} if name in ARITHMETIC or name == 'between' else TAKES.get(name, set())
     for x, place in found:
         column = column_of(x)
-        kind = family(x, table) if column else UNKNOWN
+        kind = table.column(column).family if column else UNKNOWN
         clash = next((bad for good, bad in CLASHES if kind in good), set())
         if kinds & clash:
             yield place, {'column': column, 'kind': kind, 'other': sorted(kinds & clash)[0]}

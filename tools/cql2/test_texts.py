@@ -4,11 +4,11 @@
   ORACLE=FILE python3 -m unittest discover -s tools     those of the command and of the programs; FILE is the oracle program"""
 import json
 import os
-import re
 import sys
 import unittest
 
 sys.path.insert(0, os.path.join(os.path.dirname(os.path.abspath(__file__)), '..'))
+from answers.literals import with_milliseconds
 from model import checker
 from model import lowering as model
 from model.records import encode
@@ -161,14 +161,6 @@ def sql_of(data, writing=RUST):
     return lowering.lower(records.settings(*SETTINGS), tree_of(data), writing)
 
 
-STAMP = re.compile(r"'(\d{4}-\d\d-\d\dT\d\d:\d\d:\d\d)'")
-
-
-def as_stored(text):
-    """The text with .000Z in each timestamp; no Str of the cases here looks like one."""
-    return STAMP.sub(r"'\1.000Z'", text)
-
-
 class Texts(unittest.TestCase):
     @classmethod
     def setUpClass(cls):
@@ -188,11 +180,11 @@ class Texts(unittest.TestCase):
                 self.assertEqual(sql_of(data), text)
 
     def test_texts_of_the_second_call(self):
-        """By hand and by the model: only timestamps are others, and some cases have one."""
+        """By hand and by the model: only timestamps are others, and some cases have one. No Str of the cases looks like one."""
         longer = 0
         for data, text in [*self.cases(), *APOSTROPHES]:
             with self.subTest(data):
-                due = as_stored(text)
+                due = with_milliseconds(text)
                 self.assertEqual(sql_of(data, GEOPACKAGE), due)
                 self.assertEqual(model.text(SETTINGS, checker.tree_of(tree_of(data).encode()), GEOPACKAGE), due)
                 longer += due != text

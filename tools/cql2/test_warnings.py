@@ -111,7 +111,7 @@ CASES = [
 # and what the warning says of the way out.
 RIGHT = {'equal': None, 'above': (('>=', '<', 't_before'), ('<=', '>', 't_after')), 'below': (('<=', '>', 't_after'), ('>=', '<', 't_before')),
          'above or below': ((), ())}    # the operators (the column first, then the written instant first) that are right on every row and have no warning
-ONE_FORM, TO_RUST, TO_GEOPACKAGE = 'have the column hold them in one form', 'take --writing rust', 'take --writing geopackage'
+ONE_FORM, TO_RUST, TO_GEOPACKAGE = 'have the columns hold instants in one form, as ' + LONG, 'take --writing rust', 'take --writing geopackage'
 FORMS = [
     ('DATETIME', [LONG], {'rust': ('above', TO_GEOPACKAGE), 'geopackage': ('equal', '')}),
     ('TEXT', [LONG], {'rust': ('above', TO_GEOPACKAGE), 'geopackage': ('equal', '')}),
@@ -122,6 +122,7 @@ FORMS = [
     ('TEXT', ['2026-03-01T12:00:00Z'], {'rust': ('above', ONE_FORM), 'geopackage': ('above or below', ONE_FORM)}),
     ('TEXT', ['2026-03-01T12:00:00+00:00'], {'rust': ('above or below', ONE_FORM), 'geopackage': ('above or below', ONE_FORM)}),
     ('TEXT', ['2026-03-01T12:00Z', LONG], {'rust': ('above or below', ONE_FORM), 'geopackage': ('above or below', ONE_FORM)}),
+    ('TEXT', ['2026-03-01T12:00:00 CET'], {'rust': ('above or below', ONE_FORM), 'geopackage': ('above or below', ONE_FORM)}),
     ('TEXT', ['2026-03-01 12:00:00'], {'rust': ('above or below', ONE_FORM), 'geopackage': ('above or below', ONE_FORM)}),
     ('TEXT', ['2026-03-01T12:00'], {'rust': ('below', ONE_FORM), 'geopackage': ('below', ONE_FORM)}),
 ]
@@ -238,6 +239,26 @@ class Warnings(unittest.TestCase):
                 self.assertTrue(self.picked(path, text) == due or not silent, (word, text, values))
                 self.assertTrue(silent or len(lines) == 1 and says in lines[0], lines)
             where.package.connection.close()
+
+    def test_words_about_forms(self):
+        """What is said of the columns, and of the way out, by each writing."""
+        zone, many = [['2026-03-01T00:30:00+01:00[Europe/Berlin]']], [['2026-03-01' + 'x' * 10 ** 6]]
+        both, apart = op('t_during', interval(A, B), interval(NOON, NOON)), op('and', op('=', A, NOON), op('=', B, NOON))
+        mixed, rust, geopackage = [[LONG, SHORT]], ('--writing', 'rust'), ('--writing', 'geopackage')
+        for data, kinds, rows, words, due in (
+                (op('>=', A, {'date': '2026-03-01'}), [TEXT], zone, geopackage, 'but above or below it; %s, and write a timestamp' % ONE_FORM),
+                (op('>=', A, {'date': '2026-03-01'}), [TEXT], zone, rust, '%s, and write a timestamp, and %s' % (ONE_FORM, TO_GEOPACKAGE)),
+                (both, [TEXT] * 2, mixed, geopackage, 'b holds instants as %s: ' % SHORT), (both, [TEXT] * 2, mixed, geopackage, '; ' + ONE_FORM),
+                (both, [TEXT] * 2, mixed, rust, '; %s, and %s' % (ONE_FORM, TO_GEOPACKAGE)), (apart, [TEXT] * 2, mixed, geopackage, '; ' + ONE_FORM),
+                (apart, [TEXT] * 2, mixed, rust, '; %s, and %s' % (ONE_FORM, TO_GEOPACKAGE)),
+                (op('a_equals', [A], [NOON]), ['DATETIME'], [[LONG]], rust, 'warning at $.args[1][0]: the instant is written %s, and a holds' % SHORT),
+                (op('=', A, NOON), [TEXT], many, geopackage, 'a holds instants as 2026-03-01%s…: ' % ('x' * 29)),
+                (op('=', A, NOON), ['DATETIME'], [], rust, 'a is declared for instants as %s: ' % LONG),
+                (op('=', A, 5), [DATE], [[LONG]], geopackage, 'a is declared for date values and meets number values')):
+            lines = self.told(data, '-g', self.package(kinds, rows), *words)[1]
+            self.assertTrue(len(lines) == 1 and due in lines[0] and len(lines[0]) < 500, (due, lines))
+        for data, kinds, rows in ((op('=', A, B), [DATE, 'DATETIME'], [['2026-03-01'] * 2]), (op('a_equals', [A], [NOON]), ['DATETIME'], [[LONG]])):
+            self.assertEqual(self.told(data, '-g', self.package(kinds, rows), '--strict')[1], [])
 
     def test_a_file_of_utf_16(self):
         """Its texts are ordered by the bytes that it holds, and equal as ever."""

@@ -8,7 +8,7 @@ use std::mem;
 ///
 /// Where the source holds an `f64`, a `Zoned` or a geometry, this holds what document 01 writes in their place: [`Num`],
 /// civil fields ([`Date`], [`Timestamp`]) and a WKT text ([`G`]). Any tree may be built; the proved checker behind
-/// [`to_sql`](crate::to_sql) refuses what breaks a rule.
+/// [`to_sql`](crate::to_sql) and [`to_geopackage_sql`](crate::to_geopackage_sql) refuses what breaks a rule.
 ///
 /// A tree may be as deep as memory allows: encoding, cloning, comparing, hashing, showing and dropping use no recursion
 /// (so `E` implements `Drop`; take parts out of it by reference or by [`std::mem::take`]).

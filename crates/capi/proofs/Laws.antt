@@ -6,7 +6,7 @@ use lib.ListN.{length}
 use lib.Dec.{ltb}
 use mathlib.Core.Path.{_≡_, refl, sym, ap, _∙_, subst}
 use native.Mathlib.Omega.{arith}
-use lib.IntN.{ℤ, pos, negsuc, _-ℤ_}
+use lib.IntN.{ℤ, pos, negsuc, natAbs, _-ℤ_}
 use mir.Syntax.{w32, w64}
 use mir.Val.{SFits, toZ, ofZ}
 use mir.Facts.{toZ-pos, toZ-ofZ}
@@ -22,7 +22,7 @@ use Rattle.tree.specs.Accepted.{accepted}
 use Rattle.gpkg.specs.Text.{text}
 use Rattle.gpkg.specs.declared.Lowered.{Lowered}
 use Rattle.gpkg.specs.declared.Lowered.the-variants.{Text, Refused}
-use Rattle.gpkg.specs.Lowered.{Heard, answer, fitted, heard, lowering}
+use Rattle.gpkg.specs.Lowered.{Heard, refusal, answer, fitted, heard, lowering}
 use Rattle.capi.specs.LengthWords.{lengthOf}
 use Rattle.capi.specs.Numbers.{minus, loweringNumber}
 
@@ -85,24 +85,29 @@ length-back n h = toZ-pos w64 {n = n} (omega arith)
 pub short-answer : (w : Writing) (settings tree : List ℕ) (room : ℕ) {found : Lowered} → found ≡ answer (lowering w settings tree room) → lengthOf found ≤ 65535
 short-answer w settings tree room e = subst (λ (l : Lowered). lengthOf l ≤ 65535) (sym e) (short w settings tree room)
 
-number-below : (r : Refusal) → numberOf r < 256
-number-below BadSettings = omega arith
-number-below TreeTooLong = omega arith
-number-below BadFrame = omega arith
-number-below TooDeep = omega arith
-number-below BadKindOrOperator = omega arith
-number-below BadField = omega arith
-number-below BadOperand = omega arith
-number-below TextTooLong = omega arith
-number-below BufferTooShort = omega arith
-number-below InputTooLong = omega arith
-number-below BadRow = omega arith
-number-below BadText = omega arith
-number-below MissingColumn = omega arith
+-- a number of at most five digits, of either sign, fits
+small-fits : (z : ℤ) → natAbs z ≤ 65535 → SFits w64 z
+small-fits (pos n) h = record { sfits = omega arith }
+small-fits (negsuc n) h = record { sfits = omega arith }
+
+refusal-small : (r : Refusal) → natAbs (loweringNumber (refusal (numberOf r))) ≤ 65535
+refusal-small BadSettings = omega arith
+refusal-small TreeTooLong = omega arith
+refusal-small BadFrame = omega arith
+refusal-small TooDeep = omega arith
+refusal-small BadKindOrOperator = omega arith
+refusal-small BadField = omega arith
+refusal-small BadOperand = omega arith
+refusal-small TextTooLong = omega arith
+refusal-small BufferTooShort = omega arith
+refusal-small InputTooLong = omega arith
+refusal-small BadRow = omega arith
+refusal-small BadText = omega arith
+refusal-small MissingColumn = omega arith
 
 number-fits : (l : Lowered) → lengthOf l ≤ 65535 → SFits w64 (loweringNumber (heard l))
 number-fits (Text n) h = length-fits n h
-number-fits (Refused r) h = fits64 (numberOf r) (number-below r)
+number-fits (Refused r) h = small-fits (loweringNumber (refusal (numberOf r))) (refusal-small r)
 
 -- the number of an answer, read back from an i64, is that of what is heard
 pub said-back : (l : Lowered) {z : ℤ} {said : Heard} → z ≡ loweringNumber (heard l) → heard l ≡ said → lengthOf l ≤ 65535 → toZ w64 (ofZ w64 z) ≡ loweringNumber said

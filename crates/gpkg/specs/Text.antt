@@ -1,4 +1,4 @@
--- The SQL text of a tree, case by case as `to_sql_impl` (src/ds/gpkg.rs): document 01, "The lowering".
+-- The SQL text of a tree, case by case as `to_sql_impl` (src/ds/gpkg.rs): document 01, "The lowering"; by the writing: document 02, slip 4.
 use Prim.Native.Nat.{ℕ}
 use mathlib.Core.List.{List, [], _∷_, _++_}
 use mathlib.Core.Bool.{Bool, false}

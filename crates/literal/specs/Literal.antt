@@ -1,5 +1,5 @@
 -- The texts of the leaves: document 01, "Records" and "The lowering", as `to_sql_impl` and `qstr_to_sql` (src/ds/gpkg.rs) write them, but for
--- the apostrophes of a Str.
+-- the apostrophes of a Str and for timestamps in GeoPackage's writing (document 02, slips 2 and 4).
 use Prim.Native.Nat.{ℕ, zero, suc, _+_, _/_, _%_, _^_}
 use mathlib.Core.List.{List, [], _∷_, _++_}
 use mathlib.Core.Bool.{Bool}

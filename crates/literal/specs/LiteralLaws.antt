@@ -13,7 +13,7 @@ use Rattle.prelude.specs.Choice.{pick}
 use Rattle.prelude.specs.Bytes.{bytes}
 use Rattle.literal.specs.declared.Writing.{Writing}
 use Rattle.literal.specs.declared.Writing.the-variants.{Rust, GeoPackage}
-use Rattle.literal.specs.Literal.{low, digits, decimal, pointed, plain, quoted, collate, spatialText, date, clock, afterSeconds, timestamp, Slot, openEnd, dateText, timestampText, unboundedText}
+use Rattle.literal.specs.Literal.{low, digits, decimal, pointed, plain, quoted, collate, spatialText, date, clock, afterSeconds, timestamp, Slot, openEnd, timestampText, unboundedText}
 
 -- ---- digits
 
@@ -180,10 +180,6 @@ date-ten y m d = refl
 pub clock-eight : (hour minute second : ℕ) → length (clock hour minute second) ≡ 8
 unfolding clock low
 clock-eight hour minute second = refl
-
-pub length-date : (y m d : ℕ) → length (dateText y m d) ≡ 12
-unfolding quoted date low
-length-date y m d = refl
 
 pub length-timestamp : (w : Writing) (y m d hour minute second : ℕ) → length (timestampText w y m d hour minute second) ≡ 21 + length (afterSeconds w)
 unfolding quoted timestamp afterSeconds date clock low

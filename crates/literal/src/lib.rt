@@ -1,4 +1,5 @@
-// The texts of the leaves (src/ds/gpkg.rs, `to_sql_impl` and `qstr_to_sql`, but for the apostrophes of a Str), each written whole or not at all.
+// The texts of the leaves (src/ds/gpkg.rs, `to_sql_impl` and `qstr_to_sql`, but for the apostrophes of a Str and for GeoPackage's timestamps), each
+// written whole or not at all.
 ghost use mathlib.Core.Path.{_≡_};
 ghost use Prim.Native.Nat.{_+_, _/_, _%_, _^_, _≤_, _<_};
 ghost use lib.ListN.{length};

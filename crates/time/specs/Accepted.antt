@@ -1,4 +1,5 @@
--- An accepted filter with its text, and a row: the terms in which the theorems of demands 2 and 3 are stated (document 01, "Truth").
+-- An accepted filter with its text, and a row: the terms in which the theorems of demands 2 and 3 are stated (document 01, "Truth"; by the
+-- writing: document 02, slip 4).
 use Prim.Native.Nat.{ℕ, _≤_}
 use mathlib.Core.Path.{_≡_}
 use mathlib.Core.List.{List}

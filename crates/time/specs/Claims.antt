@@ -1,5 +1,6 @@
 -- What demand 3 claims: of two answers that they are alike or opposite, of thirteen that exactly one is true and the other twelve are false; and
--- the three sentences of the demand, over texts that lowering answers and over reading's answers on them (document 01, "Truth").
+-- the three sentences of the demand, over texts that lowering answers and over reading's answers on them (document 01, "Truth"; document 02,
+-- slip 4, for the second call's texts).
 use Prim.Native.Nat.{ℕ}
 use mathlib.Core.Path.{_≡_}
 use mathlib.Core.List.{List}
