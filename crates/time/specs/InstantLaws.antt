@@ -187,8 +187,14 @@ millisecond-parts s e =
     record { point = eqb-true (getD s 19 0) 46 (a .0); tens = b .0; last = c .0; zone = eqb-true (getD s 23 0) 90 (c .1) }
 
 module _ (x y : List ℕ) where
-  date-order : 10 ≤ length x → 10 ≤ length y → DateParts x → DateParts y
-      → from x y 0 ≡ step (yearOf x) (yearOf y) (step (twoAt x 5) (twoAt y 5) (step (twoAt x 8) (twoAt y 8) (from x y 10)))
+  -- by year, month and day, and then as r says; and by hour, minute and second besides
+  abbrev by-date : Ordering → Ordering
+  by-date r = step (yearOf x) (yearOf y) (step (twoAt x 5) (twoAt y 5) (step (twoAt x 8) (twoAt y 8) r))
+
+  abbrev by-time : Ordering → Ordering
+  by-time r = by-date (step (twoAt x 11) (twoAt y 11) (step (twoAt x 14) (twoAt y 14) (step (twoAt x 17) (twoAt y 17) r)))
+
+  date-order : 10 ≤ length x → 10 ≤ length y → DateParts x → DateParts y → from x y 0 ≡ by-date (from x y 10)
   date-order h k p q =
       two-from x y 0 (omega arith) (omega arith) (p .century) (q .century)
       ∙ ap (λ r. step (twoAt x 0) (twoAt y 0) r) (two-from x y 2 (omega arith) (omega arith) (p .year) (q .year))
@@ -213,13 +219,8 @@ module _ (x y : List ℕ) where
       (sign-from x y 16 58 (omega arith) (omega arith) (p .colon') (q .colon') ∙ two-from x y 17 (omega arith) (omega arith) (p .second) (q .second)))
 
   -- a date and a time of day
-  stamp-order : 19 ≤ length x → 19 ≤ length y → DateParts x → DateParts y → TimeParts x → TimeParts y
-      → from x y 0
-      ≡ step (yearOf x) (yearOf y) (step (twoAt x 5) (twoAt y 5) (step (twoAt x 8) (twoAt y 8)
-      (step (twoAt x 11) (twoAt y 11) (step (twoAt x 14) (twoAt y 14) (step (twoAt x 17) (twoAt y 17) (from x y 19))))))
-  stamp-order h k p q t u =
-      date-order (omega arith) (omega arith) p q
-      ∙ ap (λ r. step (yearOf x) (yearOf y) (step (twoAt x 5) (twoAt y 5) (step (twoAt x 8) (twoAt y 8) r))) (time-order h k t u)
+  stamp-order : 19 ≤ length x → 19 ≤ length y → DateParts x → DateParts y → TimeParts x → TimeParts y → from x y 0 ≡ by-time (from x y 19)
+  stamp-order h k p q t u = date-order (omega arith) (omega arith) p q ∙ ap by-date (time-order h k t u)
 
   millisecond-order : 24 ≤ length x → 24 ≤ length y → MillisecondParts x → MillisecondParts y
       → from x y 19 ≡ step (threeAt x 20) (threeAt y 20) (from x y 24)
@@ -246,7 +247,7 @@ fields-order ten x y e f =
     let l : length x ≡ 10 = eqb-true (length x) 10 (a .0) in
     let m : length y ≡ 10 = eqb-true (length y) 10 (b .0) in
     date-order x y (omega arith) (omega arith) (date-parts x (a .1)) (date-parts y (b .1))
-    ∙ ap (λ r. step (yearOf x) (yearOf y) (step (twoAt x 5) (twoAt y 5) (step (twoAt x 8) (twoAt y 8) r))) (at-end x y 10 l m)
+    ∙ ap (by-date x y) (at-end x y 10 l m)
 fields-order nineteen x y e f =
     let a = both-true (eqb (length x) 19) (both (beginsDate x) (goesOnTime x)) e in
     let b = both-true (eqb (length y) 19) (both (beginsDate y) (goesOnTime y)) f in
@@ -255,10 +256,7 @@ fields-order nineteen x y e f =
     let l : length x ≡ 19 = eqb-true (length x) 19 (a .0) in
     let m : length y ≡ 19 = eqb-true (length y) 19 (b .0) in
     stamp-order x y (omega arith) (omega arith) (date-parts x (c .0)) (date-parts y (d .0)) (time-parts x (c .1)) (time-parts y (d .1))
-    ∙ ap
-    (λ r. step (yearOf x) (yearOf y) (step (twoAt x 5) (twoAt y 5) (step (twoAt x 8) (twoAt y 8)
-    (step (twoAt x 11) (twoAt y 11) (step (twoAt x 14) (twoAt y 14) (step (twoAt x 17) (twoAt y 17) r))))))
-    (at-end x y 19 l m)
+    ∙ ap (by-time x y) (at-end x y 19 l m)
 fields-order twentyFour x y e f =
     let a = both-true (eqb (length x) 24) (both (beginsDate x) (both (goesOnTime x) (goesOnMilliseconds x))) e in
     let b = both-true (eqb (length y) 24) (both (beginsDate y) (both (goesOnTime y) (goesOnMilliseconds y))) f in
@@ -269,9 +267,7 @@ fields-order twentyFour x y e f =
     let l : length x ≡ 24 = eqb-true (length x) 24 (a .0) in
     let m : length y ≡ 24 = eqb-true (length y) 24 (b .0) in
     stamp-order x y (omega arith) (omega arith) (date-parts x (c .0)) (date-parts y (d .0)) (time-parts x (g .0)) (time-parts y (h .0))
-    ∙ ap
-    (λ r. step (yearOf x) (yearOf y) (step (twoAt x 5) (twoAt y 5) (step (twoAt x 8) (twoAt y 8)
-    (step (twoAt x 11) (twoAt y 11) (step (twoAt x 14) (twoAt y 14) (step (twoAt x 17) (twoAt y 17) r))))))
+    ∙ ap (by-time x y)
     (millisecond-order x y (omega arith) (omega arith) (millisecond-parts x (g .1)) (millisecond-parts y (h .1))
     ∙ ap (λ r. step (threeAt x 20) (threeAt y 20) r) (at-end x y 24 l m))
 
@@ -435,22 +431,20 @@ module _ (y m d h i s : ℕ) (e : validDate y m d ≡ true) (f : validTime h i s
   timestamp-instant nineteen q = and-also (date-begins y m d e (time [])) (time-goes-on [])
   timestamp-instant twentyFour q = and-also (date-begins y m d e (time (bytes ".000Z"))) (and-also (time-goes-on (bytes ".000Z")) refl)
 
+  six-fields : (more : List ℕ)
+      → yearOf (stamp more) ∷ twoAt (stamp more) 5 ∷ twoAt (stamp more) 8 ∷ twoAt (stamp more) 11 ∷ twoAt (stamp more) 14 ∷ twoAt (stamp more) 17 ∷ []
+      ≡ y ∷ m ∷ d ∷ h ∷ i ∷ s ∷ []
+  six-fields more =
+      let a = year-back y m d e (time more) in
+      let b = month-back y m d e (time more) in
+      let c = day-back y m d e (time more) in
+      let p = hour-back more in
+      let r = minute-back more in
+      let t = second-back more in
+      cc
+
   pub timestamp-fields : (w : Width) → written w ≡ TIMESTAMP → fields w (literal.timestamp (writingOf w) y m d h i s) ≡ writtenFields w (timestamp y m d h i s)
   unfolding fields literal.timestamp literal.afterSeconds literal.clock literal.date literal.low
   timestamp-fields ten q = absurd (omega arith)
-  timestamp-fields nineteen q =
-      let a = year-back y m d e (time []) in
-      let b = month-back y m d e (time []) in
-      let c = day-back y m d e (time []) in
-      let p = hour-back [] in
-      let r = minute-back [] in
-      let t = second-back [] in
-      cc
-  timestamp-fields twentyFour q =
-      let a = year-back y m d e (time (bytes ".000Z")) in
-      let b = month-back y m d e (time (bytes ".000Z")) in
-      let c = day-back y m d e (time (bytes ".000Z")) in
-      let p = hour-back (bytes ".000Z") in
-      let r = minute-back (bytes ".000Z") in
-      let t = second-back (bytes ".000Z") in
-      cc
+  timestamp-fields nineteen q = six-fields []
+  timestamp-fields twentyFour q = ap (λ (l : List ℕ). l ++ (0 ∷ [])) (six-fields (bytes ".000Z"))
