@@ -41,8 +41,7 @@ class Whole:
     def forms(self, table):
         """The forms of instants in the columns that stand beside written ones: there is one writing for all."""
         if self.beside is None:
-            compared = [[x for x, _ in operands(part)] for part in walk(self.value)]
-            names = {property_of(x) for some in compared if any(map(instant, some)) for x in some if property_of(x)}
+            names = {column for part in walk(self.value) for _, _, column, _ in beside(part)}
             self.beside = {one for name in names for one in table.forms(name)}
         return self.beside
 
@@ -97,9 +96,12 @@ def joined(value, name):
 # ---- time
 
 
-# Of an interval on the left and on the right: the ends that the text compares, and those whose columns it guards, if not all.
+# Of two intervals: which end of the left one the text compares with which of the right one, 0 the start and 1 the end, if not like with like.
+LIKE, ACROSS = ((0, 0), (1, 1)), ((0, 1), (1, 0))
+COMPARED = {'t_after': ((0, 1),), 't_before': ((1, 0),), 't_meets': ((1, 0),), 't_metBy': ((0, 1),), 't_disjoint': ACROSS, 't_intersects': ACROSS,
+            't_overlaps': ((0, 0), (1, 0), (1, 1)), 't_overlappedBy': ((0, 0), (0, 1), (1, 1))}
+# Of an interval on the left and on the right: the ends whose columns the text guards, if not all.
 BOTH = ((0, 1), (0, 1))
-USED = {'t_after': ((0,), (1,)), 't_before': ((1,), (0,)), 't_meets': ((1,), (0,)), 't_metBy': ((0,), (1,))}
 GUARDED = {'t_after': ((1,), (0,)), 't_before': ((0,), (1,)), 't_meets': ((0,), (1,)), 't_metBy': ((1,), (0,)), 't_disjoint': BOTH}
 BY_EQUALITY = ('t_equals', 't_finishes', 't_finishedBy', 't_meets', 't_metBy')    # an interval's end is compared by = alone
 
@@ -116,7 +118,8 @@ def ends(part, which):
 
 
 def used(part):
-    return list(ends(part, USED.get(operator(part.value), BOTH)))
+    """The ends that the text compares."""
+    return list(ends(part, [sorted(set(side)) for side in zip(*COMPARED.get(operator(part.value), LIKE))]))
 
 
 def open_end(part, table):
@@ -164,6 +167,25 @@ def operands(part):
     if name in COMPARISONS + ARITHMETIC + ('between', 'like'):
         return [(x, '%s[%d]' % (place, k)) for k, x in enumerate(part.value['args'])]
     return []
+
+
+def compared(part):
+    """The pairs of operands that the part compares, the left one first."""
+    name = operator(part.value)
+    if name in TEMPORAL:
+        left, right = ([end for end in used(part) if end[0] == side] for side in (0, 1))
+        return [((x, p), (y, q)) for _, j, x, p in left for _, k, y, q in right if None in (j, k) or (j, k) in COMPARED.get(name, LIKE)]
+    found = operands(part)
+    return [(found[0], other) for other in found[1:]]
+
+
+def beside(part):
+    """Of each comparison of a column with a written instant: the instant, its place, the column, and whether the instant stands first."""
+    for (x, at), (y, place) in compared(part):
+        if instant(x) and property_of(y):
+            yield x, at, property_of(y), True
+        if property_of(x) and instant(y):
+            yield y, place, property_of(x), False
 
 
 def family(value, table):
@@ -223,21 +245,20 @@ def one_form(value, forms, writing):
 
 
 def other_form(part, table):
-    """A written instant beside a column that holds instants of another form; where instants of two forms are written that is told."""
-    found, name = operands(part) if not any(date_and_timestamp(part, table)) else [], operator(part.value)
-    columns = [property_of(x) for x, _ in found if property_of(x) and family(x, table) in (DATETIME, TEXT, UNKNOWN)]
-    for x, place in found:
-        for column in columns if instant(x) else ():
-            text = written(x, table.writing)
-            others = {one: example for one, example in table.forms(column).items() if one != form(text)}
-            ways = {lies(one, form(text)) for one in others}
-            how = min(ways) if len(ways) == 1 else 'above or below'
-            right = RIGHT[how][bool(instant(found[0][0]))]
-            if others and name not in right:
-                instead = one_form(x, part.whole.forms(table), table.writing) + ('; %s and %s are right as they are' % right[:2] if right else '')
-                yield place, {'written': text, 'column': column, 'has': 'holds' if table.held(column) else 'is declared for',
-                              'example': shortened(max(others.values())), 'lies': how, 'instead': instead}
-                return
+    """A written instant that is compared with a column which holds instants of another form; where instants of two forms are written that is told."""
+    for x, place, column, first in beside(part) if not any(date_and_timestamp(part, table)) else ():
+        if family({'property': column}, table) not in (DATETIME, TEXT, UNKNOWN):
+            continue
+        text = written(x, table.writing)
+        others = {one: example for one, example in table.forms(column).items() if one != form(text)}
+        ways = {lies(one, form(text)) for one in others}
+        how = min(ways) if len(ways) == 1 else 'above or below'
+        right = RIGHT[how][first]
+        if others and operator(part.value) not in right:
+            instead = one_form(x, part.whole.forms(table), table.writing) + ('; %s and %s are right as they are' % right[:2] if right else '')
+            yield place, {'written': text, 'column': column, 'has': 'holds' if table.held(column) else 'is declared for',
+                          'example': shortened(max(others.values())), 'lies': how, 'instead': instead}
+            return
 
 
 def number_as_text(part, table):

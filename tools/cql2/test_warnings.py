@@ -248,7 +248,10 @@ class Warnings(unittest.TestCase):
         for data, kinds, rows, words, due in (
                 (op('>=', A, {'date': '2026-03-01'}), [TEXT], zone, geopackage, 'but above or below it; %s, and write a timestamp' % ONE_FORM),
                 (op('>=', A, {'date': '2026-03-01'}), [TEXT], zone, rust, '%s, and write a timestamp, and %s' % (ONE_FORM, TO_GEOPACKAGE)),
-                (both, [TEXT] * 2, mixed, geopackage, 'b holds instants as %s: ' % SHORT), (both, [TEXT] * 2, mixed, geopackage, '; ' + ONE_FORM),
+                (both, [TEXT] * 2, mixed, geopackage, 'warning at $.args[1].interval[1]: the instant is written %s, and b holds instants as %s: ' % (LONG, SHORT)),
+                (both, [TEXT] * 2, mixed, rust, 'warning at $.args[1].interval[0]: the instant is written %s, and a holds instants as %s: ' % (SHORT, LONG)),
+                (op('t_meets', interval(A, B), interval(NOON, NOON)), [TEXT] * 2, mixed, geopackage, 'warning at $.args[1].interval[0]: '),
+                (both, [TEXT] * 2, mixed, geopackage, '; ' + ONE_FORM),
                 (both, [TEXT] * 2, mixed, rust, '; %s, and %s' % (ONE_FORM, TO_GEOPACKAGE)), (apart, [TEXT] * 2, mixed, geopackage, '; ' + ONE_FORM),
                 (apart, [TEXT] * 2, mixed, rust, '; %s, and %s' % (ONE_FORM, TO_GEOPACKAGE)),
                 (op('a_equals', [A], [NOON]), ['DATETIME'], [[LONG]], rust, 'warning at $.args[1][0]: the instant is written %s, and a holds' % SHORT),
@@ -257,7 +260,9 @@ class Warnings(unittest.TestCase):
                 (op('=', A, 5), [DATE], [[LONG]], geopackage, 'a is declared for date values and meets number values')):
             lines = self.told(data, '-g', self.package(kinds, rows), *words)[1]
             self.assertTrue(len(lines) == 1 and due in lines[0] and len(lines[0]) < 500, (due, lines))
-        for data, kinds, rows in ((op('=', A, B), [DATE, 'DATETIME'], [['2026-03-01'] * 2]), (op('a_equals', [A], [NOON]), ['DATETIME'], [[LONG]])):
+        apart = [op(name, interval(A, NOON), interval(B, NOON)) for name in ('t_during', 't_equals', 't_startedBy')]    # no column meets an instant
+        for data, kinds, rows in ((op('=', A, B), [DATE, 'DATETIME'], [['2026-03-01'] * 2]), (op('a_equals', [A], [NOON]), ['DATETIME'], [[LONG]]),
+                                  *((one, [TEXT] * 2, [[SHORT, SHORT]]) for one in apart)):
             self.assertEqual(self.told(data, '-g', self.package(kinds, rows), '--strict')[1], [])
 
     def test_a_file_of_utf_16(self):
