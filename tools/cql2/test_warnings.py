@@ -11,17 +11,18 @@ import unittest
 
 from demo import log
 
-from . import columns, differences, geopackage, proved, records, spatialite
+from . import columns, differences, geopackage, looking, proved, records, spatialite
 from .reading import read_filter
 from .test_errors import run
 from .test_geopackage import COLLATIONS, PICKS
-from .test_texts import A, B, C, D, DAY, SETTINGS, interval, op, point, tree_of
+from .test_texts import A, B, C, D, DAY, SETTINGS, interval, op, point, sql_of, tree_of
 from .writing import ARGUMENTS
 
 TEXT, INTEGER, DATE = 'TEXT', 'INTEGER', 'DATE'
 F = {'property': 'fid'}
 UTF_16 = 'a GeoPackage whose texts are UTF-16'
 FORM = 'a written instant beside instants of another form'
+INSTANTS = ('t_after', 't_before', 't_disjoint', 't_equals', 't_intersects')    # these take instants too
 
 
 def casei(x):
@@ -260,10 +261,19 @@ class Warnings(unittest.TestCase):
                 (op('=', A, 5), [DATE], [[LONG]], geopackage, 'a is declared for date values and meets number values')):
             lines = self.told(data, '-g', self.package(kinds, rows), *words)[1]
             self.assertTrue(len(lines) == 1 and due in lines[0] and len(lines[0]) < 500, (due, lines))
-        apart = [op(name, interval(A, NOON), interval(B, NOON)) for name in ('t_during', 't_equals', 't_startedBy')]    # no column meets an instant
+        unmet = [op(name, interval(A, NOON), interval(B, NOON)) for name in ('t_during', 't_equals', 't_startedBy')]    # no column meets an instant
         for data, kinds, rows in ((op('=', A, B), [DATE, 'DATETIME'], [['2026-03-01'] * 2]), (op('a_equals', [A], [NOON]), ['DATETIME'], [[LONG]]),
-                                  *((one, [TEXT] * 2, [[SHORT, SHORT]]) for one in apart)):
+                                  *((one, [TEXT] * 2, [[SHORT, SHORT]]) for one in unmet)):
             self.assertEqual(self.told(data, '-g', self.package(kinds, rows), '--strict')[1], [])
+
+    def test_compared_ends(self):
+        """The pairs that are looked at are those of the text."""
+        for name in looking.TEMPORAL:
+            for x, y in ((interval(A, B), interval(C, D)), (A, interval(C, D)), (interval(A, B), C), (A, C)):
+                if name in INSTANTS or 'interval' in x and 'interval' in y:
+                    told = re.findall('([abcd]) (?:[<>=]|!=) ([abcd])', sql_of(op(name, x, y)))
+                    found = looking.compared(next(looking.walk(op(name, x, y))))
+                    self.assertEqual({frozenset(pair) for pair in told}, {frozenset(end['property'] for end, _ in pair) for pair in found}, (name, told))
 
     def test_a_file_of_utf_16(self):
         """Its texts are ordered by the bytes that it holds, and equal as ever."""
