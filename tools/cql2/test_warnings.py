@@ -15,6 +15,7 @@ from . import columns, differences, geopackage, looking, proved, records, spatia
 from .reading import read_filter
 from .test_errors import run
 from .test_geopackage import COLLATIONS, PICKS
+from .test_silence import INSTANTS
 from .test_texts import A, B, C, D, DAY, SETTINGS, interval, op, point, sql_of, tree_of
 from .writing import ARGUMENTS
 
@@ -22,7 +23,6 @@ TEXT, INTEGER, DATE = 'TEXT', 'INTEGER', 'DATE'
 F = {'property': 'fid'}
 UTF_16 = 'a GeoPackage whose texts are UTF-16'
 FORM = 'a written instant beside instants of another form'
-INSTANTS = ('t_after', 't_before', 't_disjoint', 't_equals', 't_intersects')    # these take instants too
 
 
 def casei(x):
