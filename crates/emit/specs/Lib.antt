@@ -4,3 +4,4 @@ pub mod Emit
 pub mod LaysWords
 -- Laws.
 pub mod EmitLaws
+pub mod RoomLaws

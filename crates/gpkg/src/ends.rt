@@ -58,8 +58,8 @@ pub(crate) fn put_flat(flat: Flat, out: &mut [u8], at: usize) -> usize
     ensures { λ r. ⌜ Lays countLimit at (flatText flat) (now (out .entry)) (now (out .exit)) r ⌝ }
 {
     match flat {
-        Flat::Words(code) => sql::put_part(code, out, at),
-        Flat::Opened => literal::put_unbounded(out, at),
+        Flat::Words(code) => part::put_part(code, out, at),
+        Flat::Opened => instant::put_unbounded(out, at),
         Flat::Nothing => emit::put(b"NULL", out, at),
     }
 }

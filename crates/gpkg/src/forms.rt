@@ -249,7 +249,7 @@ fn put_precision(set: &[u8], out: &mut [u8], at: usize) -> usize
     ensures { λ r. ⌜ Lays countLimit at (precise (settingsIn (now (set .entry)) .precision)) (now (out .entry)) (now (out .exit)) r ⌝ }
 {
     let here = emit::put(b"1E-", out, at);
-    literal::put_decimal(record::byte_at(set, PRECISION_AT), out, here)
+    number::put_decimal(record::byte_at(set, PRECISION_AT), out, here)
 }
 
 // What closes a side with its precision reduced.

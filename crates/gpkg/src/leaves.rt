@@ -74,19 +74,19 @@ pub(crate) fn name_of(flags: usize, set: &[u8]) -> &[u8]
 fn qstr_to_sql(s: &[u8], set: &[u8], out: &mut [u8], at: usize) -> usize
     ensures { λ r. ⌜ Lays countLimit at (quoted (doubled (drop 7 (now (s .entry)))) ++ collation (settingsIn (now (set .entry))) (getD (now (s .entry)) 6 0)) (now (out .entry)) (now (out .exit)) r ⌝ }
 {
-    let end = literal::put_str(rest(s, STR_TEXT), out, at);
+    let end = quote::put_str(rest(s, STR_TEXT), out, at);
     let flags = record::byte_at(s, BODY);
     if flags == PLAIN {
         return end;
     }
-    literal::put_collate(name_of(flags, set), out, end)
+    quote::put_collate(name_of(flags, set), out, end)
 }
 
 fn put_date(s: &[u8], out: &mut [u8], at: usize) -> usize
     ensures { λ r. ⌜ Lays countLimit at (dateText (le16 (now (s .entry)) 6) (getD (now (s .entry)) 8 0) (getD (now (s .entry)) 9 0)) (now (out .entry)) (now (out .exit)) r ⌝ }
 {
     let y = record::word_at(s, BODY);
-    literal::put_date(
+    instant::put_date(
         y,
         record::byte_at(s, MONTH),
         record::byte_at(s, DAY),
@@ -103,7 +103,7 @@ fn put_timestamp(s: &[u8], writing: Writing, out: &mut [u8], at: usize) -> usize
     let d = record::byte_at(s, DAY);
     let hour = record::byte_at(s, HOUR);
     let minute = record::byte_at(s, MINUTE);
-    literal::put_timestamp(
+    instant::put_timestamp(
         writing,
         y,
         m,
@@ -122,9 +122,9 @@ pub(crate) fn put_leaf(s: &[u8], set: &[u8], writing: Writing, out: &mut [u8], a
 {
     match record::word_at(s, KIND) {
         NULL => emit::put(b"NULL", out, at),
-        UNBOUNDED => literal::put_unbounded(out, at),
+        UNBOUNDED => instant::put_unbounded(out, at),
         BOOL => literal::put_bool(record::byte_at(s, BODY) == 1, out, at),
-        NUM => literal::put_num(
+        NUM => number::put_num(
             tree::mantissa_at(s, BODY),
             record::byte_at(s, SCALE) as u8,
             out,
@@ -133,7 +133,7 @@ pub(crate) fn put_leaf(s: &[u8], set: &[u8], writing: Writing, out: &mut [u8], a
         STR => qstr_to_sql(s, set, out, at),
         DATE => put_date(s, out, at),
         TIMESTAMP => put_timestamp(s, writing, out, at),
-        SPATIAL => literal::put_spatial(record::dword_at(s, BODY), rest(s, SPATIAL_TEXT), out, at),
+        SPATIAL => number::put_spatial(record::dword_at(s, BODY), rest(s, SPATIAL_TEXT), out, at),
         _ => emit::put(rest(s, BODY), out, at),
     }
 }

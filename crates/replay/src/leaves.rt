@@ -38,17 +38,17 @@ fn from(s: &[u8], i: usize) -> &[u8] {
 
 // A Str is its text in quotes, apostrophes doubled, and then the collation that its flags ask for.
 fn write_str(body: &[u8], out: &mut [u8]) -> usize {
-    let end = literal::put_str(from(body, 1), out, START);
+    let end = quote::put_str(from(body, 1), out, START);
     match byte_at(body, 0) {
         PLAIN => end,
-        CI => literal::put_collate(b"NC", out, end),
-        AI => literal::put_collate(b"NA", out, end),
-        _ => literal::put_collate(b"NCA", out, end),
+        CI => quote::put_collate(b"NC", out, end),
+        AI => quote::put_collate(b"NA", out, end),
+        _ => quote::put_collate(b"NCA", out, end),
     }
 }
 
 fn write_date(body: &[u8], out: &mut [u8]) -> usize {
-    literal::put_date(
+    instant::put_date(
         word_at(body, 0),
         byte_at(body, 2),
         byte_at(body, 3),
@@ -58,7 +58,7 @@ fn write_date(body: &[u8], out: &mut [u8]) -> usize {
 }
 
 fn write_timestamp(body: &[u8], out: &mut [u8]) -> usize {
-    literal::put_timestamp(
+    instant::put_timestamp(
         Writing::Rust,
         word_at(body, 0),
         byte_at(body, 2),
@@ -74,9 +74,9 @@ fn write_timestamp(body: &[u8], out: &mut [u8]) -> usize {
 fn write_leaf(kind: usize, body: &[u8], out: &mut [u8]) -> usize {
     match kind {
         NULL => emit::put(b"NULL", out, START),
-        UNBOUNDED => literal::put_unbounded(out, START),
+        UNBOUNDED => instant::put_unbounded(out, START),
         BOOL => literal::put_bool(byte_at(body, 0) != 0, out, START),
-        NUM => literal::put_num(
+        NUM => number::put_num(
             tree::mantissa_at(body, 0),
             byte_at(body, 8) as u8,
             out,
@@ -85,7 +85,7 @@ fn write_leaf(kind: usize, body: &[u8], out: &mut [u8]) -> usize {
         STR => write_str(body, out),
         DATE => write_date(body, out),
         TIMESTAMP => write_timestamp(body, out),
-        SPATIAL => literal::put_spatial(dword_at(body, 0), from(body, 4), out, START),
+        SPATIAL => number::put_spatial(dword_at(body, 0), from(body, 4), out, START),
         _ => START,
     }
 }

@@ -1,19 +1,17 @@
 -- A run of bytes that grows by one, and a text laid after what a template holds.
 use mathlib.Core.Path.{_≡_, refl, ap, sym, _∙_}
 use mathlib.Core.List.{List, [], _∷_, _++_, append-assoc}
-use Prim.Native.Nat.{ℕ, zero, suc, _+_, _-_, _≤_, _<_}
+use Prim.Native.Nat.{ℕ, suc, _+_, _-_, _<_}
 use native.Mathlib.Numerals.{add-one}
 use native.Mathlib.Omega.{arith}
 use lib.ListN.{length, take, getD, set}
-use lib.Dec.{ltb}
-use borrow.Author.Tests.{ltb-false}
 use lib.Seq.{take-suc, take-suc-set}
 use mathlib.Core.Bool.{Bool, true, false}
 use Rattle.prelude.specs.Choice.{pick}
 use Rattle.prelude.specs.Bytes.{bytes}
 use Rattle.sql.specs.Condition.{Cond, and, or, isNotNull, notNull, brackets, print, checkId, checkIds}
 use Rattle.sql.specs.TemplateLaws.{digit-part}
-use Rattle.sql.specs.Template.{templateOf, spelt, partOf, wordsOf, parts, guardedText, guardedBothText, checkIdText, checkIdsText, eitherText}
+use Rattle.sql.specs.Template.{templateOf, spelt, partOf, parts, guardedText, guardedBothText, checkIdText, checkIdsText, eitherText}
 
 pub grow : (b b₀ s : List ℕ) (n k : ℕ) → n + k < length b → k < length s → take (n + k) b ≡ take n b₀ ++ take k s
     → take (n + (k + 1)) (set b (n + k) (getD s k 0)) ≡ take n b₀ ++ take (k + 1) s
@@ -62,23 +60,3 @@ two-guards column i j base = go (column i) (column j)
 pub either-or : (c d : Cond) → eitherText (templateOf c) (templateOf d) ≡ templateOf (or (brackets c) (brackets d))
 unfolding print eitherText
 either-or c d = ap (λ (l : List ℕ). bytes "(" ++ l) (sym (append-assoc (templateOf c) (bytes ")") (bytes " OR (" ++ (templateOf d ++ bytes ")"))))
-
--- ---- codes that have no words
-
--- a number that is at least k and not k
-pub past : (c k : ℕ) → k ≤ c → (c ≡ k → ⊥) → suc k ≤ c
-past c k h f = omega arith
-
-none-there : (ls : List (List ℕ)) (k : ℕ) → length ls ≤ k → getD ls k [] ≡ []
-none-there [] k h = refl
-none-there (l ∷ ls) zero h = absurd (let v : ⊥ = omega arith in v)
-none-there (l ∷ ls) (suc k) h = none-there ls k (omega arith)
-
--- a code past the table has none
-pub other-words : (c : ℕ) → (4 ≤ c → 18 ≤ c) → [] ≡ wordsOf c
-unfolding wordsOf partOf parts
-other-words c f = go (ltb c 4) refl
-  where
-    go : (b : Bool) → ltb c 4 ≡ b → [] ≡ pick b [] (partOf c)
-    go true q = refl
-    go false q = sym (none-there parts c (f (ltb-false c 4 q)))

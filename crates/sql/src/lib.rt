@@ -4,9 +4,8 @@ ghost use mathlib.Core.List.{_++_};
 ghost use mathlib.Core.Bool.{true, false};
 ghost use Prim.Native.Nat.{_+_, _≤_, _<_};
 ghost use lib.ListN.{length};
-ghost use Rattle.emit.specs.Emit.{countLimit, Puts};
 ghost use Rattle.sql.specs.Ends.{isColumn, columns, startOf, stopOf, unfoldExpressions};
-ghost use Rattle.sql.specs.Template.{held, spelt, wordsOf, templateOf, guardedText, guardedBothText, checkIdText, checkIdsText, eitherText};
+ghost use Rattle.sql.specs.Template.{held, spelt, templateOf, guardedText, guardedBothText, checkIdText, checkIdsText, eitherText};
 ghost use Rattle.sql.specs.Translators.{tAfter, tBefore, tContains, tDisjoint, tDuring, tEquals, tFinishedBy, tFinishes, tIntersects, tMeets, tMetBy, tOverlappedBy, tOverlaps, tStartedBy, tStarts, translate};
 use op::T_AFTER;
 use op::T_BEFORE;
@@ -58,46 +57,46 @@ const E2: u8 = 2;
 const E3: u8 = 3;
 
 // `(`
-const OPEN: u8 = 4;
+pub const OPEN: u8 = 4;
 
 // `)`
-const CLOSE: u8 = 5;
+pub const CLOSE: u8 = 5;
 
 // `))`
-const CLOSE_BOTH: u8 = 6;
+pub const CLOSE_BOTH: u8 = 6;
 
 // ` > `
-const GREATER: u8 = 7;
+pub const GREATER: u8 = 7;
 
 // ` < `
-const LESS: u8 = 8;
+pub const LESS: u8 = 8;
 
 // ` = `
-const EQUAL: u8 = 9;
+pub const EQUAL: u8 = 9;
 
 // ` != `
-const UNEQUAL: u8 = 10;
+pub const UNEQUAL: u8 = 10;
 
 // `"`
-const QUOTE: u8 = 11;
+pub const QUOTE: u8 = 11;
 
 // `" IS NOT NULL AND (`
-const IS_NOT_NULL: u8 = 12;
+pub const IS_NOT_NULL: u8 = 12;
 
 // `" IS NOT NULL AND "`
-const IS_NOT_NULL_QUOTE: u8 = 13;
+pub const IS_NOT_NULL_QUOTE: u8 = 13;
 
 // `" NOT NULL AND (`
-const NOT_NULL: u8 = 14;
+pub const NOT_NULL: u8 = 14;
 
 // `) OR (`
-const OR: u8 = 15;
+pub const OR: u8 = 15;
 
 // `) AND (`
-const AND: u8 = 16;
+pub const AND: u8 = 16;
 
 // `NOT((`
-const NOT: u8 = 17;
+pub const NOT: u8 = 17;
 
 fn is_column(e: End) -> bool
     ensures { λ r. ⌜ r ≡ isColumn e ⌝ }
@@ -388,29 +387,6 @@ pub fn temporal_sql(op: usize, a: bool, b: bool, e: [End; 4]) -> Template
         T_OVERLAPS => t_overlaps_sql(a, b, e),
         T_STARTED_BY => t_started_by_sql(a, b, e),
         _ => t_starts_sql(a, b, e),
-    }
-}
-
-// Writes the words of a code from 4 on; the ends are written by whoever knows them.
-pub fn put_part(code: u8, out: &mut [u8], at: usize) -> usize
-    ensures { λ r. ⌜ Puts countLimit at (wordsOf code) (now (out .entry)) (now (out .exit)) r ⌝ }
-{
-    match code {
-        OPEN => emit::put(b"(", out, at),
-        CLOSE => emit::put(b")", out, at),
-        CLOSE_BOTH => emit::put(b"))", out, at),
-        GREATER => emit::put(b" > ", out, at),
-        LESS => emit::put(b" < ", out, at),
-        EQUAL => emit::put(b" = ", out, at),
-        UNEQUAL => emit::put(b" != ", out, at),
-        QUOTE => emit::put(b"\"", out, at),
-        IS_NOT_NULL => emit::put(b"\" IS NOT NULL AND (", out, at),
-        IS_NOT_NULL_QUOTE => emit::put(b"\" IS NOT NULL AND \"", out, at),
-        NOT_NULL => emit::put(b"\" NOT NULL AND (", out, at),
-        OR => emit::put(b") OR (", out, at),
-        AND => emit::put(b") AND (", out, at),
-        NOT => emit::put(b"NOT((", out, at),
-        _ => emit::ended(at, 0),
     }
 }
 

@@ -1,5 +1,0 @@
--- What the proofs of several functions use.
-mod Signed
-mod Laws
-mod DoubledLaws
-mod SearchLaws
