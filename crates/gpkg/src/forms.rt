@@ -7,7 +7,7 @@ ghost use Rattle.record.specs.Record.{le16};
 ghost use lib.ListN.{length, getD};
 ghost use lib.Dec.{eqb};
 ghost use Rattle.prelude.specs.Bytes.{bytes};
-ghost use Rattle.prelude.specs.Choice.{pick, both, negated, between, either};
+ghost use Rattle.prelude.specs.Choice.{pick, both, negated, between};
 ghost use Rattle.emit.specs.Emit.{countLimit};
 ghost use Rattle.emit.specs.LaysWords.{Lays};
 ghost use Rattle.op.specs.Spelling.{word};

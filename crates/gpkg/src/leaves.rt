@@ -74,12 +74,12 @@ pub(crate) fn name_of(flags: usize, set: &[u8]) -> &[u8]
 fn qstr_to_sql(s: &[u8], set: &[u8], out: &mut [u8], at: usize) -> usize
     ensures { λ r. ⌜ Lays countLimit at (quoted (doubled (drop 7 (now (s .entry)))) ++ collation (settingsIn (now (set .entry))) (getD (now (s .entry)) 6 0)) (now (out .entry)) (now (out .exit)) r ⌝ }
 {
-    let end = quote::put_str(rest(s, STR_TEXT), out, at);
+    let end = literal::put_str(rest(s, STR_TEXT), out, at);
     let flags = record::byte_at(s, BODY);
     if flags == PLAIN {
         return end;
     }
-    quote::put_collate(name_of(flags, set), out, end)
+    literal::put_collate(name_of(flags, set), out, end)
 }
 
 fn put_date(s: &[u8], out: &mut [u8], at: usize) -> usize

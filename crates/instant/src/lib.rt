@@ -7,7 +7,7 @@ ghost use Rattle.prelude.specs.Bytes.{bytes};
 ghost use Rattle.emit.specs.Emit.{countLimit, Puts};
 ghost use Rattle.literal.specs.Literal.{unboundedText, date, clock, afterSeconds, dateText, timestampText};
 use literal::Writing;
-use number::digit_of;
+use literal::digit_of;
 
 // How many bytes a timestamp's text has without milliseconds, its two quotation marks included.
 const TIMESTAMP: usize = 21;
@@ -56,7 +56,7 @@ pub fn put_date(y: usize, m: usize, d: usize, out: &mut [u8], at: usize) -> usiz
     ensures { λ r. ⌜ Puts countLimit at (dateText y m d) (now (out .entry)) (now (out .exit)) r ⌝ }
 {
     let text = date_of(y, m, d);
-    quote::put_quoted(&text, out, at)
+    literal::put_quoted(&text, out, at)
 }
 
 // How many bytes a timestamp's text has.

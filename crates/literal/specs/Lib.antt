@@ -1,4 +1,6 @@
 -- What is to be believed.
 pub mod Literal
+-- Words of private contracts.
+pub mod SearchWords
 -- Laws.
 pub mod LiteralLaws

@@ -6,16 +6,10 @@ ghost use lib.IntN.{natAbs};
 ghost use Rattle.emit.specs.Emit.{countLimit, Puts};
 ghost use Rattle.literal.specs.Literal.{low, decimal, plain, sign, numText, spatialText};
 ghost use Rattle.literal.specs.LiteralLaws.{shown};
+use literal::digit_of;
 
 // How many bytes `ST_GeomFromText('', )` has.
 const GEOMETRY: usize = 21;
-
-// The last digit of n.
-pub fn digit_of(n: usize) -> u8
-    ensures { λ r. ⌜ r ≡ 48 + n % 10 ⌝ }
-{
-    b'0' + (n % 10) as u8
-}
 
 // Fills a part with the last digits of n, the last one first; answers what is before them.
 fn fill_low(n: usize, part: &mut [u8]) -> usize
@@ -167,7 +161,7 @@ pub fn put_spatial(srid: usize, w: &[u8], out: &mut [u8], at: usize) -> usize
         return emit::ended(at, n);
     }
     let text = emit::put(b"ST_GeomFromText(", out, at);
-    let comma = quote::put_quoted(w, out, text);
+    let comma = literal::put_quoted(w, out, text);
     let number = emit::put(b", ", out, comma);
     let close = put_decimal(srid, out, number);
     emit::put(b")", out, close)

@@ -38,12 +38,12 @@ fn from(s: &[u8], i: usize) -> &[u8] {
 
 // A Str is its text in quotes, apostrophes doubled, and then the collation that its flags ask for.
 fn write_str(body: &[u8], out: &mut [u8]) -> usize {
-    let end = quote::put_str(from(body, 1), out, START);
+    let end = literal::put_str(from(body, 1), out, START);
     match byte_at(body, 0) {
         PLAIN => end,
-        CI => quote::put_collate(b"NC", out, end),
-        AI => quote::put_collate(b"NA", out, end),
-        _ => quote::put_collate(b"NCA", out, end),
+        CI => literal::put_collate(b"NC", out, end),
+        AI => literal::put_collate(b"NA", out, end),
+        _ => literal::put_collate(b"NCA", out, end),
     }
 }
 

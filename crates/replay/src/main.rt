@@ -22,16 +22,10 @@ mod trees;
 enum Kind {
     Operators,
     Trees,
-    KeywordTrees,
-    TextTrees,
     Leaves,
     Lowerings,
-    TextLowerings,
     GeoPackageLowerings,
     Readings,
-    KeywordReadings,
-    TextReadings,
-    GeoPackageReadings,
 }
 
 // More cases than any file has.
@@ -46,58 +40,29 @@ fn wide(x: u8) -> usize
     x as usize
 }
 
-// The word that a line begins with.
-fn begin_line(kind: Kind) {
-    match kind {
-        Kind::Operators => write(b"operators: "),
-        Kind::Trees => write(b"trees: "),
-        Kind::KeywordTrees => write(b"keyword_trees: "),
-        Kind::TextTrees => write(b"text_trees: "),
-        Kind::Leaves => write(b"leaves: "),
-        Kind::Lowerings => write(b"lowerings: "),
-        Kind::TextLowerings => write(b"text_lowerings: "),
-        Kind::GeoPackageLowerings => write(b"geopackage_lowerings: "),
-        Kind::Readings => write(b"readings: "),
-        Kind::KeywordReadings => write(b"keyword_readings: "),
-        Kind::TextReadings => write(b"text_readings: "),
-        Kind::GeoPackageReadings => write(b"geopackage_readings: "),
-    }
-}
-
-fn open_path(path: &[u8]) -> i32 {
-    let file = os::open_read(path);
-    if file < 0 {
-        os::fail(path);
-    }
-    file
+// A line begins with the name of the file.
+fn begin_line(name: &[u8]) {
+    write(name);
+    write(b": ");
 }
 
 // The file of cases, or a negative number and a line on standard error.
-fn open(kind: Kind) -> i32 {
-    match kind {
-        Kind::Operators => open_path(b"operators"),
-        Kind::Trees => open_path(b"trees"),
-        Kind::KeywordTrees => open_path(b"keyword_trees"),
-        Kind::TextTrees => open_path(b"text_trees"),
-        Kind::Leaves => open_path(b"leaves"),
-        Kind::Lowerings => open_path(b"lowerings"),
-        Kind::TextLowerings => open_path(b"text_lowerings"),
-        Kind::GeoPackageLowerings => open_path(b"geopackage_lowerings"),
-        Kind::Readings => open_path(b"readings"),
-        Kind::KeywordReadings => open_path(b"keyword_readings"),
-        Kind::TextReadings => open_path(b"text_readings"),
-        Kind::GeoPackageReadings => open_path(b"geopackage_readings"),
+fn open(name: &[u8]) -> i32 {
+    let file = os::open_read(name);
+    if file < 0 {
+        os::fail(name);
     }
+    file
 }
 
 // How many parts a case has.
 fn parts_of(kind: Kind) -> usize {
     match kind {
         Kind::Operators => 1,
-        Kind::Trees | Kind::KeywordTrees | Kind::TextTrees => 3,
+        Kind::Trees => 3,
         Kind::Leaves => 2,
-        Kind::Lowerings | Kind::TextLowerings | Kind::GeoPackageLowerings => 4,
-        Kind::Readings | Kind::KeywordReadings | Kind::TextReadings | Kind::GeoPackageReadings => 3,
+        Kind::Lowerings | Kind::GeoPackageLowerings => 4,
+        Kind::Readings => 3,
     }
 }
 
@@ -105,12 +70,11 @@ fn parts_of(kind: Kind) -> usize {
 fn judged<'a>(kind: Kind, place: u64, a: &'a [u8], b: &'a [u8], c: &'a [u8], d: &'a [u8]) -> Turn {
     match kind {
         Kind::Operators => operators::judged(a, place as usize),
-        Kind::Trees | Kind::KeywordTrees | Kind::TextTrees => trees::judged(a, b, c),
+        Kind::Trees => trees::judged(a, b, c),
         Kind::Leaves => leaves::judged(a, b),
-        Kind::Lowerings | Kind::TextLowerings => lowerings::judged(Writing::Rust, a, b, c, d),
+        Kind::Lowerings => lowerings::judged(Writing::Rust, a, b, c, d),
         Kind::GeoPackageLowerings => lowerings::judged(Writing::GeoPackage, a, b, c, d),
-        Kind::Readings | Kind::KeywordReadings | Kind::TextReadings | Kind::GeoPackageReadings =>
-            readings::judged(a, b, c),
+        Kind::Readings => readings::judged(a, b, c),
     }
 }
 
@@ -138,13 +102,13 @@ fn next_case(
     }
 }
 
-fn say_broken(kind: Kind) {
-    begin_line(kind);
+fn say_broken(name: &[u8]) {
+    begin_line(name);
     write(b"the file of cases is broken\n");
 }
 
-fn say_other(kind: Kind, place: u64, want: u8, found: u8) {
-    begin_line(kind);
+fn say_other(name: &[u8], place: u64, want: u8, found: u8) {
+    begin_line(name);
     say(b"case ", place);
     say(b": stored ", want as u64);
     say(b", found ", found as u64);
@@ -152,11 +116,11 @@ fn say_other(kind: Kind, place: u64, want: u8, found: u8) {
 }
 
 // Counts the case at its answer; where another answer is found, a line says so.
-fn count(kind: Kind, counts: &mut [u64; 16], place: u64, want: u8, found: u8)
+fn count(name: &[u8], counts: &mut [u64; 16], place: u64, want: u8, found: u8)
     ensures { λ r. ⌜ now (counts .exit) ≡ tallied (now (counts .entry)) want found ⌝ }
 {
     if want != found {
-        say_other(kind, place, want, found);
+        say_other(name, place, want, found);
         return;
     }
     if ANSWERS <= found {
@@ -168,6 +132,7 @@ fn count(kind: Kind, counts: &mut [u64; 16], place: u64, want: u8, found: u8)
 
 // How many cases there are, and how many of each answer are as stored, at the answer's number.
 fn replay_all(
+    name: &[u8],
     kind: Kind,
     file: i32,
     a: &mut [u8],
@@ -181,11 +146,11 @@ fn replay_all(
         match next_case(kind, file, done, a, b, c, d) {
             Turn::End => return done,
             Turn::Broken => {
-                say_broken(kind);
+                say_broken(name);
                 return done;
             }
             Turn::Case { want, found } => {
-                count(kind, counts, done, want, found);
+                count(name, counts, done, want, found);
                 done += 1;
             }
         }
@@ -193,24 +158,20 @@ fn replay_all(
     done
 }
 
-fn report(kind: Kind, done: u64, counts: [u64; 16]) {
-    begin_line(kind);
+fn report(name: &[u8], kind: Kind, done: u64, counts: [u64; 16]) {
+    begin_line(name);
     match kind {
         Kind::Operators => operators::report(done, counts),
-        Kind::Trees | Kind::KeywordTrees | Kind::TextTrees => trees::report(done, counts),
+        Kind::Trees => trees::report(done, counts),
         Kind::Leaves => leaves::report(done, counts),
-        Kind::Lowerings | Kind::TextLowerings | Kind::GeoPackageLowerings => lowerings::report(
-            done,
-            counts,
-        ),
-        Kind::Readings | Kind::KeywordReadings | Kind::TextReadings | Kind::GeoPackageReadings =>
-            readings::report(done, counts),
+        Kind::Lowerings | Kind::GeoPackageLowerings => lowerings::report(done, counts),
+        Kind::Readings => readings::report(done, counts),
     }
     write(b"\n");
 }
 
-fn replay(kind: Kind) {
-    let file = open(kind);
+fn replay(name: &[u8], kind: Kind) {
+    let file = open(name);
     if file < 0 {
         return;
     }
@@ -219,22 +180,31 @@ fn replay(kind: Kind) {
     let mut c = io::large_buffer();
     let mut d = io::large_buffer();
     let mut counts = [0u64; 16];
-    let done = replay_all(kind, file, &mut a, &mut b, &mut c, &mut d, &mut counts);
+    let done = replay_all(
+        name,
+        kind,
+        file,
+        &mut a,
+        &mut b,
+        &mut c,
+        &mut d,
+        &mut counts,
+    );
     libc::close(file);
-    report(kind, done, counts);
+    report(name, kind, done, counts);
 }
 
 fn main() {
-    replay(Kind::Operators);
-    replay(Kind::Trees);
-    replay(Kind::KeywordTrees);
-    replay(Kind::TextTrees);
-    replay(Kind::Leaves);
-    replay(Kind::Lowerings);
-    replay(Kind::TextLowerings);
-    replay(Kind::GeoPackageLowerings);
-    replay(Kind::Readings);
-    replay(Kind::KeywordReadings);
-    replay(Kind::TextReadings);
-    replay(Kind::GeoPackageReadings);
+    replay(b"operators", Kind::Operators);
+    replay(b"trees", Kind::Trees);
+    replay(b"keyword_trees", Kind::Trees);
+    replay(b"text_trees", Kind::Trees);
+    replay(b"leaves", Kind::Leaves);
+    replay(b"lowerings", Kind::Lowerings);
+    replay(b"text_lowerings", Kind::Lowerings);
+    replay(b"geopackage_lowerings", Kind::GeoPackageLowerings);
+    replay(b"readings", Kind::Readings);
+    replay(b"keyword_readings", Kind::Readings);
+    replay(b"text_readings", Kind::Readings);
+    replay(b"geopackage_readings", Kind::Readings);
 }

@@ -7,10 +7,10 @@ use Rattle.replay.proofs.replay_all.Statement.{statement}
 use Rattle.replay.proofs.replay_all.Tie as tie
 
 abbrev Inv-loop : tie.InvT-loop
-Inv-loop kind file a₀ b₀ c₀ d₀ counts₀ done₀ a b c d counts done = (length a ≡ length a₀) × (length b ≡ length b₀) × (length c ≡ length c₀) × (length d ≡ length d₀) × (done ≤ 1000000)
+Inv-loop name kind file a₀ b₀ c₀ d₀ counts₀ done₀ a b c d counts done = (length a ≡ length a₀) × (length b ≡ length b₀) × (length c ≡ length c₀) × (length d ≡ length d₀) × (done ≤ 1000000)
 
 abbrev μ-loop : tie.MeasureT-loop
-μ-loop kind file a₀ b₀ c₀ d₀ counts₀ done₀ a b c d counts done = 1000000 - done
+μ-loop name kind file a₀ b₀ c₀ d₀ counts₀ done₀ a b c d counts done = 1000000 - done
 
 loop-holds : tie.Need-loop-holds Inv-loop μ-loop
 loop-holds c = search needs

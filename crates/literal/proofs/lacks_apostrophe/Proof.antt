@@ -6,10 +6,10 @@ use native.Mathlib.Omega.{arith}
 use lib.ListN.{length}
 use borrow.Author.Needs.{needs}
 use borrow.Author.Tests.{not-true, not-false}
-use Rattle.quote.specs.SearchWords.{Searched}
-use Rattle.quote.proofs.SearchLaws.{searched-start, searched-both, searched-end}
-use Rattle.quote.proofs.lacks_apostrophe.Statement.{statement}
-use Rattle.quote.proofs.lacks_apostrophe.Tie as tie
+use Rattle.literal.specs.SearchWords.{Searched}
+use Rattle.literal.proofs.SearchLaws.{searched-start, searched-both, searched-end}
+use Rattle.literal.proofs.lacks_apostrophe.Statement.{statement}
+use Rattle.literal.proofs.lacks_apostrophe.Tie as tie
 
 abbrev Inv-loop : tie.InvT-loop
 Inv-loop s last i₀ i = (i ≤ length s) × Searched s 0 i true

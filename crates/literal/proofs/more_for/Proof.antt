@@ -3,8 +3,8 @@ use mathlib.Core.Path.{ap}
 use native.Mathlib.Omega.{arith}
 use lib.ListN.{length}
 use Rattle.string.specs.QuoteLaws.{doubled-mark, doubled-other}
-use Rattle.quote.proofs.more_for.Statement.{statement}
-use Rattle.quote.proofs.more_for.Tie as tie
+use Rattle.literal.proofs.more_for.Statement.{statement}
+use Rattle.literal.proofs.more_for.Tie as tie
 
 returns : tie.Need-returns
 returns c = (omega arith, ap length (doubled-mark _ (c .if1 .taken)))

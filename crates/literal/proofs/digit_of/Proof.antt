@@ -1,7 +1,7 @@
 -- `literal::digit_of` meets its contract: the digits stand from the byte 48 on.
 use borrow.Author.Needs.{needs}
-use Rattle.number.proofs.digit_of.Statement.{statement}
-use Rattle.number.proofs.digit_of.Tie as tie
+use Rattle.literal.proofs.digit_of.Statement.{statement}
+use Rattle.literal.proofs.digit_of.Tie as tie
 
 cast-result : tie.Need-cast-result
 cast-result c = search needs

@@ -2,12 +2,12 @@
 use native.Mathlib.Omega.{arith}
 use mathlib.Core.Path.{sym}
 use borrow.Author.Needs.{needs}
 use Rattle.literal.specs.Literal.{collate}
 use Rattle.literal.specs.LiteralLaws.{length-collate}
 use Rattle.emit.specs.RoomLaws.{no-room, room, front}
 use Rattle.emit.specs.EmitLaws.{wrote, wrote-then, wrote-puts}
-use Rattle.quote.proofs.put_collate.Statement.{statement}
-use Rattle.quote.proofs.put_collate.Tie as tie
+use Rattle.literal.proofs.put_collate.Statement.{statement}
+use Rattle.literal.proofs.put_collate.Tie as tie
 
 add-n : tie.Need-add-n
 add-n c = search needs

@@ -1,7 +1,7 @@
 -- `literal::lacks_still` meets its contract: each branch is a case of the definition.
 use borrow.Author.Tests.{eq-eqb, ne-eqb}
-use Rattle.quote.proofs.lacks_still.Statement.{statement}
-use Rattle.quote.proofs.lacks_still.Tie as tie
+use Rattle.literal.proofs.lacks_still.Statement.{statement}
+use Rattle.literal.proofs.lacks_still.Tie as tie
 
 returns : tie.Need-returns
 returns c = simp (eq-eqb _ _ (c .if1 .taken))

@@ -7,8 +7,8 @@ use borrow.Author.Tests.{eq-eqb, ne-eqb}
 use Rattle.prelude.specs.Choice.{all, negated}
 use Rattle.prelude.specs.ChoiceLaws.{all-next, all-not, all-end}
 use Rattle.string.specs.QuoteLaws.{noMark}
-use Rattle.quote.proofs.lacks_singly.Statement.{statement}
-use Rattle.quote.proofs.lacks_singly.Tie as tie
+use Rattle.literal.proofs.lacks_singly.Statement.{statement}
+use Rattle.literal.proofs.lacks_singly.Tie as tie
 
 abbrev Inv-loop : tie.InvT-loop
 Inv-loop s i₀ i = (i ≤ length s) × (all noMark s ≡ all noMark (drop i s))

@@ -11,7 +11,7 @@ use borrow.Author.Tests.{ltb-true, ltb-false}
 use Rattle.prelude.specs.Choice.{both, all}
 use Rattle.prelude.specs.ChoiceLaws.{both-true}
 use Rattle.string.specs.QuoteLaws.{noMark}
-use Rattle.quote.specs.SearchWords.{Searched}
+use Rattle.literal.specs.SearchWords.{Searched}
 
 -- one byte that is an apostrophe
 one-found : (s : List ℕ) (k : ℕ) → k < length s → noMark (getD s k 0) ≡ false → all noMark s ≡ false

@@ -3,12 +3,12 @@ use native.Mathlib.Omega.{arith}
 use mathlib.Core.Path.{sym}
 use borrow.Author.Needs.{needs}
 use Rattle.prelude.specs.Bytes.{bytes}
 use Rattle.literal.specs.Literal.{quoted}
 use Rattle.literal.specs.LiteralLaws.{length-quoted}
 use Rattle.emit.specs.RoomLaws.{no-room, room, front}
 use Rattle.emit.specs.EmitLaws.{wrote, wrote-then, wrote-puts}
-use Rattle.quote.proofs.put_quoted.Statement.{statement}
-use Rattle.quote.proofs.put_quoted.Tie as tie
+use Rattle.literal.proofs.put_quoted.Statement.{statement}
+use Rattle.literal.proofs.put_quoted.Tie as tie
 
 add-n : tie.Need-add-n
 add-n c = search needs

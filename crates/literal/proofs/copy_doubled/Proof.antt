@@ -2,9 +2,9 @@
 use Prim.Native.Nat.{_-_}
 use native.Mathlib.Omega.{arith}
 use lib.ListN.{length, getD, length-set}
-use Rattle.quote.proofs.DoubledLaws.{Laid, laid-start, laid-length, laid-room, laid-second, laid-mark, laid-other, laid-end}
-use Rattle.quote.proofs.copy_doubled.Statement.{statement}
-use Rattle.quote.proofs.copy_doubled.Tie as tie
+use Rattle.literal.proofs.DoubledLaws.{Laid, laid-start, laid-length, laid-room, laid-second, laid-mark, laid-other, laid-end}
+use Rattle.literal.proofs.copy_doubled.Statement.{statement}
+use Rattle.literal.proofs.copy_doubled.Tie as tie
 
 abbrev Inv-loop : tie.InvT-loop
 Inv-loop s out₀ at i₀ k₀ out i k = Laid s out₀ at out i k

@@ -6,9 +6,9 @@ use lib.ListN.{length, take}
 use lib.Seq.{take-all}
 use borrow.Author.Needs.{needs}
 use Rattle.string.specs.Quote.{doubled}
-use Rattle.quote.proofs.DoubledLaws.{step-length}
-use Rattle.quote.proofs.apostrophes.Statement.{statement}
-use Rattle.quote.proofs.apostrophes.Tie as tie
+use Rattle.literal.proofs.DoubledLaws.{step-length}
+use Rattle.literal.proofs.apostrophes.Statement.{statement}
+use Rattle.literal.proofs.apostrophes.Tie as tie
 
 abbrev Inv-loop : tie.InvT-loop
 Inv-loop s n₀ i₀ n i = (i ≤ length s) × (n ≤ i) × (length (doubled (take i s)) ≡ i + n)

@@ -8,13 +8,13 @@ use borrow.Author.Needs.{needs}
 use Rattle.prelude.specs.Bytes.{bytes}
 use Rattle.string.specs.Quote.{doubled}
 use Rattle.string.specs.QuoteLaws.{no-mark-doubled}
 use Rattle.literal.specs.Literal.{quoted}
 use Rattle.literal.specs.LiteralLaws.{length-quoted}
 use Rattle.emit.specs.RoomLaws.{no-room, room, front}
-use Rattle.quote.proofs.DoubledLaws.{length-written, too-long, laid-then}
+use Rattle.literal.proofs.DoubledLaws.{length-written, too-long, laid-then}
 use Rattle.emit.specs.EmitLaws.{puts-of, wrote, wrote-then, wrote-puts}
-use Rattle.quote.proofs.put_str.Statement.{statement}
-use Rattle.quote.proofs.put_str.Tie as tie
+use Rattle.literal.proofs.put_str.Statement.{statement}
+use Rattle.literal.proofs.put_str.Tie as tie
 
 lacks-apostrophe-requires : tie.Need-lacks-apostrophe-requires
 lacks-apostrophe-requires c κs = search needs

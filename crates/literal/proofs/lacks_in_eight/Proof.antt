@@ -2,10 +2,10 @@
 use Prim.Native.Nat.{_-_, _≤_}
 use native.Mathlib.Omega.{arith}
 use borrow.Author.Needs.{needs}
-use Rattle.quote.specs.SearchWords.{Searched}
-use Rattle.quote.proofs.SearchLaws.{searched-start, searched-next, searched-told}
-use Rattle.quote.proofs.lacks_in_eight.Statement.{statement}
-use Rattle.quote.proofs.lacks_in_eight.Tie as tie
+use Rattle.literal.specs.SearchWords.{Searched}
+use Rattle.literal.proofs.SearchLaws.{searched-start, searched-next, searched-told}
+use Rattle.literal.proofs.lacks_in_eight.Statement.{statement}
+use Rattle.literal.proofs.lacks_in_eight.Tie as tie
 
 abbrev Inv-loop : tie.InvT-loop
 Inv-loop s i lacks₀ k₀ lacks k = (k ≤ 8) × Searched s i k lacks

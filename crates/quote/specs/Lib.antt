@@ -1,2 +1,0 @@
--- Words of private contracts.
-pub mod SearchWords
