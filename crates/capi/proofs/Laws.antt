@@ -19,10 +19,10 @@ use Rattle.literal.specs.declared.Writing.{Writing}
 use Rattle.tree.specs.Tree.{Tree, Settings}
 use Rattle.tree.specs.Parse.{Read, refused, got, also}
 use Rattle.tree.specs.Accepted.{accepted}
-use Rattle.gpkg.specs.Text.{text}
-use Rattle.gpkg.specs.declared.Lowered.{Lowered}
-use Rattle.gpkg.specs.declared.Lowered.the-variants.{Text, Refused}
-use Rattle.gpkg.specs.Lowered.{Heard, refusal, answer, fitted, heard, lowering}
+use Rattle.text.specs.Text.{text}
+use Rattle.text.specs.declared.Lowered.{Lowered}
+use Rattle.text.specs.declared.Lowered.the-variants.{Text, Refused}
+use Rattle.text.specs.Lowered.{Heard, refusal, answer, fitted, heard, lowering}
 use Rattle.capi.specs.LengthWords.{lengthOf}
 use Rattle.capi.specs.Numbers.{minus, loweringNumber}
 

@@ -1,7 +1,7 @@
 -- The length that an answer of lowering tells (src/lib.rt).
 use Prim.Native.Nat.{ℕ}
-use Rattle.gpkg.specs.declared.Lowered.{Lowered}
-use Rattle.gpkg.specs.declared.Lowered.the-variants.{Text, Refused}
+use Rattle.text.specs.declared.Lowered.{Lowered}
+use Rattle.text.specs.declared.Lowered.the-variants.{Text, Refused}
 
 abbrev pub lengthOf : Lowered → ℕ
 lengthOf (Text n) = n

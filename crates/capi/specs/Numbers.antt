@@ -1,7 +1,7 @@
 -- The number that a caller in C hears for each answer of document 01, "What a caller hears", as docs/DECISIONS.md assigns them.
 use Prim.Native.Nat.{ℕ}
 use lib.IntN.{ℤ, pos, negℤ}
-use Rattle.gpkg.specs.Lowered as lowered
+use Rattle.text.specs.Lowered as lowered
 use Rattle.truth.specs.Reading as reading
 
 abbrev pub minus : ℕ → ℤ

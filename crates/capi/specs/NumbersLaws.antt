@@ -6,9 +6,9 @@ use lib.ListN.{getD}
 use lib.IntN.{ℤ, pos, negsuc}
 use Rattle.refusal.specs.declared.Refusal.{Refusal}
 use Rattle.refusal.specs.declared.Refusal.the-variants.{BadSettings, TreeTooLong, BadFrame, TooDeep, BadKindOrOperator, BadField, BadOperand, TextTooLong, BufferTooShort, InputTooLong, BadRow, BadText, MissingColumn}
-use Rattle.gpkg.specs.declared.Lowered.{Lowered}
-use Rattle.gpkg.specs.declared.Lowered.the-variants.{Text, Refused as NoText}
-use Rattle.gpkg.specs.Lowered as lowered
+use Rattle.text.specs.declared.Lowered.{Lowered}
+use Rattle.text.specs.declared.Lowered.the-variants.{Text, Refused as NoText}
+use Rattle.text.specs.Lowered as lowered
 use Rattle.truth.specs.declared.Reading.{Reading}
 use Rattle.truth.specs.declared.Reading.the-variants.{True, False, Unknown, Refused as NoTruth}
 use Rattle.truth.specs.Reading as reading

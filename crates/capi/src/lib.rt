@@ -4,7 +4,7 @@ ghost use Prim.Native.Nat.{_<_, _≤_};
 ghost use lib.ListN.{length};
 ghost use Rattle.refusal.specs.Number.{numberOf};
 ghost use Rattle.literal.specs.declared.Writing.the-variants.{Rust, GeoPackage};
-ghost use Rattle.gpkg.specs.Lowered.{heard, leaves, lengthLimit, lowering, said};
+ghost use Rattle.text.specs.Lowered.{heard, leaves, lengthLimit, lowering, said};
 ghost use Rattle.truth.specs.Reading as reading;
 ghost use Rattle.capi.specs.LengthWords.{lengthOf};
 ghost use Rattle.capi.specs.Numbers.{minus, loweringNumber, readingNumber};

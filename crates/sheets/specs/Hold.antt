@@ -22,8 +22,8 @@ use Rattle.tree.specs.Accepted as tree-accepted
 use Rattle.literal.specs.Literal as literal-literal
 use Rattle.sql.specs.Condition as sql-condition
 use Rattle.sql.specs.Translators as sql-translators
-use Rattle.gpkg.specs.Text as gpkg-text
-use Rattle.gpkg.specs.Lowered as gpkg-lowered
+use Rattle.text.specs.Text as gpkg-text
+use Rattle.text.specs.Lowered as gpkg-lowered
 use Rattle.order.specs.Order as order-order
 use Rattle.row.specs.Row as row-row
 use Rattle.truth.specs.Lex as truth-lex

@@ -13,7 +13,7 @@ use Rattle.op.specs.declared.Op.the-variants.{Eq, CaseI, AccentI, SWithin, TAft
 use Rattle.tree.specs.Tree.{Tree, null, unbounded, num, str, date, timestamp, spatial, id, monadic, dyadic, function, array, interval, none, _then_, encode}
 use Rattle.tree.specs.Parse.{Read, refused, got}
 use Rattle.literal.specs.declared.Writing.{Writing}
-use Rattle.gpkg.specs.Lowered.{lowering}
+use Rattle.text.specs.Lowered.{lowering}
 use Rattle.truth.specs.declared.Reading.{Reading}
 use Rattle.truth.specs.declared.Reading.the-variants.{True, False, Unknown, Refused}
 use Rattle.truth.specs.Reading.{readingOf}

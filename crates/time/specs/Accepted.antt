@@ -8,7 +8,7 @@ use Rattle.tree.specs.Tree.{Tree, Settings, Bytes}
 use Rattle.tree.specs.Parse.{got}
 use Rattle.tree.specs.Accepted.{accepted}
 use Rattle.literal.specs.declared.Writing.{Writing}
-use Rattle.gpkg.specs.Lowered.{lowering}
+use Rattle.text.specs.Lowered.{lowering}
 use Rattle.row.specs.Row.{Column, rowOf, columns}
 use Rattle.truth.specs.Reading.{rowLimit}
 

@@ -27,7 +27,7 @@ use Rattle.literal.specs.declared.Writing.the-variants.{Rust, GeoPackage}
 use Rattle.literal.specs.Literal as literal
 use Rattle.sql.specs.Condition as sql
 use Rattle.sql.specs.Translators as translators
-use Rattle.gpkg.specs.Text as gpkg
+use Rattle.text.specs.Text as gpkg
 use Rattle.row.specs.Row.{Value, val, Column, look}
 use Rattle.row.specs.Row as row
 use Rattle.truth.specs.declared.Truth.the-variants.{True, False, Unknown, Missing}

@@ -31,8 +31,8 @@ use Rattle.literal.specs.declared.Writing.the-variants.{Rust, GeoPackage}
 use Rattle.literal.specs.Literal as literal
 use Rattle.literal.specs.Literal.{Slot, alone, firstEnd, secondEnd, startSlot, stopSlot, low}
 use Rattle.sql.specs.Translators.{translate}
-use Rattle.gpkg.specs.Text as gpkg
-use Rattle.gpkg.specs.Text.{children, bare, monadicText, dyadicText, endText, startText, stopText}
+use Rattle.text.specs.Text as gpkg
+use Rattle.text.specs.Text.{children, bare, monadicText, dyadicText, endText, startText, stopText}
 use Rattle.row.specs.Row.{Column}
 use Rattle.truth.specs.declared.Kind.{Kind}
 use Rattle.truth.specs.declared.Truth.{Truth}

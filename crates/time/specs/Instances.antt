@@ -18,7 +18,7 @@ use Rattle.tree.specs.Parse.{got}
 use Rattle.tree.specs.Accepted.{accepted}
 use Rattle.literal.specs.declared.Writing.{Writing}
 use Rattle.literal.specs.declared.Writing.the-variants.{Rust, GeoPackage}
-use Rattle.gpkg.specs.Lowered.{lowering}
+use Rattle.text.specs.Lowered.{lowering}
 use Rattle.row.specs.Row.{Column, val, rowOf, columns}
 use Rattle.truth.specs.declared.Reading.the-variants.{True as SaysTrue, False as SaysFalse, Unknown as SaysUnknown}
 use Rattle.truth.specs.Grammar.{truthOf}
@@ -50,8 +50,8 @@ use Rattle.tree.specs.Accepted as tree-accepted
 use Rattle.literal.specs.Literal as literal-literal
 use Rattle.sql.specs.Condition as sql-condition
 use Rattle.sql.specs.Translators as sql-translators
-use Rattle.gpkg.specs.Text as gpkg-text
-use Rattle.gpkg.specs.Lowered as gpkg-lowered
+use Rattle.text.specs.Text as gpkg-text
+use Rattle.text.specs.Lowered as gpkg-lowered
 use Rattle.order.specs.Order as order-order
 use Rattle.row.specs.Row as row-row
 use Rattle.truth.specs.Lex as truth-lex

@@ -28,8 +28,8 @@ use Rattle.literal.specs.declared.Writing.{Writing}
 use Rattle.literal.specs.Literal.{startSlot, stopSlot}
 use Rattle.sql.specs.Condition as sql
 use Rattle.sql.specs.Translators.{translate}
-use Rattle.gpkg.specs.Text as gpkg
-use Rattle.gpkg.specs.Lowered.{lengthLimit, fitted, lowering}
+use Rattle.text.specs.Text as gpkg
+use Rattle.text.specs.Lowered.{lengthLimit, fitted, lowering}
 use Rattle.row.specs.Row.{Column, Found, absent, has, val}
 use Rattle.row.specs.Row as row
 use Rattle.truth.specs.declared.Truth.{Truth}

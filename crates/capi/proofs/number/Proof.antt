@@ -1,8 +1,8 @@
 -- `capi::number` meets its contract: a length fits as it is short, a refusal's number as it is below 256.
 use mathlib.Core.Path.{sym, ap, _∙_, subst}
 use Prim.Native.Nat.{_≤_}
-use Rattle.gpkg.specs.declared.Lowered.{Lowered}
-use Rattle.gpkg.specs.Lowered.{heard}
+use Rattle.text.specs.declared.Lowered.{Lowered}
+use Rattle.text.specs.Lowered.{heard}
 use Rattle.capi.specs.LengthWords.{lengthOf}
 use Rattle.capi.specs.Numbers.{loweringNumber}
 use Rattle.capi.proofs.Laws.{wide-fits, back64, length-fits, length-back}

@@ -1,0 +1,80 @@
+-- The four ends of a temporal node in its record, and the pieces of its condition (src/ends.rt).
+use Prim.Native.Nat.{ℕ}
+use mathlib.Core.Path.{_≡_}
+use mathlib.Core.List.{List, []}
+use mathlib.Core.Bool.{Bool, true, false}
+use lib.ListN.{getD}
+use lib.Dec.{ltb, eqb}
+use Rattle.prelude.specs.Choice.{pick}
+use Rattle.tree.specs.Kinds.{DYADIC}
+use Rattle.text.specs.ClassWords.{temporalNumber}
+use Rattle.tree.specs.Tree.{Tree, Settings, encode, null, unbounded}
+use Rattle.tree.specs.Tests.{byOperator, isInterval, isId, startOf, stopOf, endsOf}
+use Rattle.literal.specs.declared.Writing.{Writing}
+use Rattle.literal.specs.Literal.{nullText, unboundedText}
+use Rattle.sql.specs.Ends.{isColumn}
+use Rattle.sql.specs.Ends as sqlEnds
+use Rattle.sql.specs.declared.Operand as operand
+use Rattle.sql.specs.Template.{wordsOf}
+use Rattle.sql.specs.declared.End as end
+use Rattle.sql.specs.declared.End.the-variants.{Column, Instant, Other, Open, Null}
+use Rattle.text.specs.Text.{text}
+use Rattle.text.specs.declared.ends.Flat as flat
+use Rattle.text.specs.declared.ends.Flat.the-variants.{Words, Opened, Nothing}
+use Rattle.text.specs.declared.ends.Piece as piece
+use Rattle.text.specs.declared.ends.Piece.the-variants as pieces
+use Rattle.text.specs.RecordWords.{sound, Inside, part}
+
+-- an end in s is the tree x
+abbrev pub Here : List ℕ → end.End → Tree → Type 0
+Here s (Column a e) x = Inside s a e × (part s a e ≡ encode x)
+Here s (Instant a e) x = Inside s a e × (part s a e ≡ encode x)
+Here s (Other a e) x = Inside s a e × (part s a e ≡ encode x)
+Here s Open x = x ≡ unbounded
+Here s Null x = x ≡ null
+
+pub record Is (s : List ℕ) (e : end.End) (x : Tree) : Type 0 where
+  pub column : isColumn e ≡ isId x
+  pub fit : sound x ≡ true
+  pub here : Here s e x
+
+-- the text that a digit of a template stands for
+abbrev pub slot : Writing → Settings → List Tree → ℕ → List ℕ
+slot w g xs j = text w g (getD xs j null)
+
+-- four ends are four trees
+pub record Are (s : List ℕ) (e : List end.End) (xs : List Tree) : Type 0 where
+  pub is0 : Is s (getD e 0 (Column 0 0)) (getD xs 0 null)
+  pub is1 : Is s (getD e 1 (Column 0 0)) (getD xs 1 null)
+  pub is2 : Is s (getD e 2 (Column 0 0)) (getD xs 2 null)
+  pub is3 : Is s (getD e 3 (Column 0 0)) (getD xs 3 null)
+
+-- the pieces of a template
+abbrev pub endPiece : end.End → piece.Piece
+endPiece (Column a e) = pieces.Name a e
+endPiece (Instant a e) = pieces.Node a e
+endPiece (Other a e) = pieces.Node a e
+endPiece Open = pieces.Plain Opened
+endPiece Null = pieces.Plain Nothing
+
+unfoldable pub pieceOf : ℕ → end.End → piece.Piece
+pieceOf code x = pick (ltb code 4) (endPiece x) (pieces.Plain (Words code))
+
+unfoldable pub flatText : flat.Flat → List ℕ
+flatText (Words code) = wordsOf code
+flatText Opened = unboundedText
+flatText Nothing = nullText
+
+-- what an operand is
+pub record IsOperand (s : List ℕ) (o : operand.Operand) (x : Tree) : Type 0 where
+  pub split : sqlEnds.isInterval o ≡ isInterval x
+  pub starts : Is s (sqlEnds.startOf o) (startOf x)
+  pub stops : Is s (sqlEnds.stopOf o) (stopOf x)
+
+-- a temporal node, by the numbers of kind and operator
+unfoldable pub temporalOf : ℕ → ℕ → Bool
+temporalOf kind op = pick (eqb kind DYADIC) (temporalNumber op) false
+
+-- the ends of a node of two operands
+unfoldable pub nodeEnds : Tree → List Tree
+nodeEnds = byOperator (λ t. []) (λ o t r. []) (λ o t u r s. endsOf t u)
