@@ -1,7 +1,6 @@
 ghost use mathlib.Core.Path.{_≡_};
 ghost use Prim.Native.Nat.{_<_};
-ghost use Rattle.prelude.specs.Choice.{between};
-ghost use Rattle.op.specs.Op.{opNumber, opOf, isArithmetic, isArray, isComparison, isXtdComparison, isSpatial, isTemporal, isInstantOrInterval, isNullable};
+ghost use Rattle.op.specs.Op.{opNumber, opOf};
 ghost use Rattle.op.specs.SpellingTable.{Lies, Spells, placeIn};
 
 // The operators of src/op.rs, in its order.
@@ -295,75 +294,6 @@ pub fn op_of(n: usize) -> Named
         IS_NOT_NULL => Named::Is(Op::IsNotNull),
         _ => Named::NoOp,
     }
-}
-
-fn within(lo: usize, n: usize, hi: usize) -> bool
-    ensures { λ r. ⌜ r ≡ between lo n hi ⌝ }
-{
-    if lo <= n { n <= hi } else { false }
-}
-
-// The class tests of src/op.rs. Operators of one class stand together in the enum, so a class is a range or two of numbers.
-pub fn arithmetic(op: Op) -> bool
-    ensures { λ r. ⌜ r ≡ isArithmetic op ⌝ }
-{
-    within(PLUS, op_number(op), EXP)
-}
-
-pub fn array(op: Op) -> bool
-    ensures { λ r. ⌜ r ≡ isArray op ⌝ }
-{
-    within(A_EQUALS, op_number(op), A_OVERLAPS)
-}
-
-pub fn comparison(op: Op) -> bool
-    ensures { λ r. ⌜ r ≡ isComparison op ⌝ }
-{
-    let n = op_number(op);
-    if within(EQ, n, GTE) {
-        return true;
-    }
-    within(IS_NULL, n, IS_NOT_NULL)
-}
-
-pub fn xtd_comparison(op: Op) -> bool
-    ensures { λ r. ⌜ r ≡ isXtdComparison op ⌝ }
-{
-    within(IS_LIKE, op_number(op), IS_NOT_IN_LIST)
-}
-
-pub fn spatial(op: Op) -> bool
-    ensures { λ r. ⌜ r ≡ isSpatial op ⌝ }
-{
-    within(S_INTERSECTS, op_number(op), S_CONTAINS)
-}
-
-pub fn temporal(op: Op) -> bool
-    ensures { λ r. ⌜ r ≡ isTemporal op ⌝ }
-{
-    within(T_AFTER, op_number(op), T_STARTS)
-}
-
-pub fn instant_or_interval(op: Op) -> bool
-    ensures { λ r. ⌜ r ≡ isInstantOrInterval op ⌝ }
-{
-    let n = op_number(op);
-    if within(T_AFTER, n, T_BEFORE) {
-        return true;
-    }
-    if n == T_DISJOINT {
-        return true;
-    }
-    if n == T_EQUALS {
-        return true;
-    }
-    n == T_INTERSECTS
-}
-
-pub fn nullable(op: Op) -> bool
-    ensures { λ r. ⌜ r ≡ isNullable op ⌝ }
-{
-    within(IS_NULL, op_number(op), IS_NOT_NULL)
 }
 
 // The spellings of `Op::to_sql`. First stands, by operator number, where each begins; it ends where the next one begins, and one that ends where

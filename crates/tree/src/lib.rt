@@ -364,8 +364,8 @@ fn and(a: bool, b: bool) -> bool
 fn fit(o: Op, a: Shape, b: Shape) -> bool
     ensures { λ r. ⌜ r ≡ fits o a b ⌝ }
 {
-    if op::temporal(o) {
-        if op::instant_or_interval(o) {
+    if class::temporal(o) {
+        if class::instant_or_interval(o) {
             return and(sound_shape(a), sound_shape(b));
         }
         return and(interval_shape(a), interval_shape(b));
