@@ -1,9 +1,9 @@
--- `tree::settings_body` meets its contract: name after name, each where the one before it ends.
+-- `settings::settings_body` meets its contract: name after name, each where the one before it ends.
 use mathlib.Core.Path.{sym, _∙_}
-use Rattle.tree.proofs.Laws as laws
+use Rattle.settings.proofs.Laws as laws
 use borrow.Author.Needs.{needs}
-use Rattle.tree.proofs.settings_body.Statement.{statement}
-use Rattle.tree.proofs.settings_body.Tie as tie
+use Rattle.settings.proofs.settings_body.Statement.{statement}
+use Rattle.settings.proofs.settings_body.Tie as tie
 
 byte-at-requires : tie.Need-byte-at-requires
 byte-at-requires c κs = search needs

@@ -1,10 +1,10 @@
--- `tree::signed_of` meets its contract: above 2^63 the number is −1 less what it lacks of 2^64 − 1, and that difference fits.
+-- `record::signed_of` meets its contract: above 2^63 the number is −1 less what it lacks of 2^64 − 1, and that difference fits.
 use mathlib.Core.Path.{_∙_}
 use mir.Facts.{toZ-ofZ}
-use Rattle.tree.proofs.Laws as laws
+use Rattle.record.proofs.Laws as laws
 use borrow.Author.Needs.{needs}
-use Rattle.tree.proofs.signed_of.Statement.{statement}
-use Rattle.tree.proofs.signed_of.Tie as tie
+use Rattle.record.proofs.signed_of.Statement.{statement}
+use Rattle.record.proofs.signed_of.Tie as tie
 
 cast-result : tie.Need-cast-result
 cast-result c = search needs

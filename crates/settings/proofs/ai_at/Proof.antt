@@ -1,7 +1,7 @@
--- `tree::ai_at` meets its contract: a length byte and as many bytes of the first name come before.
+-- `settings::ai_at` meets its contract: a length byte and as many bytes of the first name come before.
 use borrow.Author.Needs.{needs}
-use Rattle.tree.proofs.ai_at.Statement.{statement}
-use Rattle.tree.proofs.ai_at.Tie as tie
+use Rattle.settings.proofs.ai_at.Statement.{statement}
+use Rattle.settings.proofs.ai_at.Tie as tie
 
 add-result : tie.Need-add-result
 add-result c = search needs

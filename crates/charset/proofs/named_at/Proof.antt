@@ -1,10 +1,10 @@
--- `tree::named_at` meets its contract: the length byte says how far the name reaches, and whether that is within the bytes.
+-- `charset::named_at` meets its contract: the length byte says how far the name reaches, and whether that is within the bytes.
 use mathlib.Core.Path.{sym, _∙_}
 use native.Mathlib.Omega.{arith}
-use Rattle.tree.proofs.Laws as laws
+use Rattle.charset.proofs.Laws as laws
 use borrow.Author.Needs.{needs}
-use Rattle.tree.proofs.named_at.Statement.{statement}
-use Rattle.tree.proofs.named_at.Tie as tie
+use Rattle.charset.proofs.named_at.Statement.{statement}
+use Rattle.charset.proofs.named_at.Tie as tie
 
 shared-slice-read-wide : tie.Need-shared-slice-read-wide
 shared-slice-read-wide c = search needs

@@ -1,12 +1,11 @@
--- `tree::is_settings` meets its contract: the frame is that of one record of kind 100 and nothing more, then the body decides.
-use Rattle.tree.proofs.WalkLaws as walk
+-- `settings::is_settings` meets its contract: the frame is that of one record of kind 100 and nothing more, then the body decides.
 use borrow.Author.Tests.{eq-eqb, ne-eqb}
 use mathlib.Core.Path.{sym, _∙_}
 use native.Mathlib.Omega.{arith}
-use Rattle.tree.specs.Accepted.{isSettings, isFrame}
+use Rattle.settings.specs.Settings.{isSettings, isFrame}
 use borrow.Author.Needs.{needs}
-use Rattle.tree.proofs.is_settings.Statement.{statement}
-use Rattle.tree.proofs.is_settings.Tie as tie
+use Rattle.settings.proofs.is_settings.Statement.{statement}
+use Rattle.settings.proofs.is_settings.Tie as tie
 
 frame-at-requires : tie.Need-frame-at-requires
 frame-at-requires c κs = search needs
@@ -18,7 +17,7 @@ enum-known-kind : tie.Need-enum-known-kind
 enum-known-kind c = search needs
 
 settings-body-requires : tie.Need-settings-body-requires
-settings-body-requires c κs = omega (arith, walk.frame-within _ _ _ (sym (c .before .before .before .before .before .frame-at .ensures) ∙ c .before .before .before .kind .given .1))
+settings-body-requires c κs = search needs
 
 returns : tie.Need-returns
 unfolding isSettings isFrame

@@ -1,9 +1,9 @@
--- `tree::cai_at` meets its contract: the third name begins where the second ends.
+-- `settings::cai_at` meets its contract: the third name begins where the second ends.
 use native.Mathlib.Omega.{arith}
-use Rattle.tree.proofs.Laws as laws
+use Rattle.settings.proofs.Laws as laws
 use borrow.Author.Needs.{needs}
-use Rattle.tree.proofs.cai_at.Statement.{statement}
-use Rattle.tree.proofs.cai_at.Tie as tie
+use Rattle.settings.proofs.cai_at.Statement.{statement}
+use Rattle.settings.proofs.cai_at.Tie as tie
 
 ai-at-requires : tie.Need-ai-at-requires
 ai-at-requires c κs = search needs
