@@ -1,7 +1,7 @@
--- `keyword::within` meets its contract: each `return` is the case of the definition that its tests name.
+-- `word::within` meets its contract: each `return` is the case of the definition that its tests name.
 use borrow.Author.Tests.{le-leb, lt-leb}
-use Rattle.keyword.proofs.within.Statement.{statement}
-use Rattle.keyword.proofs.within.Tie as tie
+use Rattle.word.proofs.within.Statement.{statement}
+use Rattle.word.proofs.within.Tie as tie
 
 returns : tie.Need-returns
 returns c = simp (le-leb _ _ (c .if1 .taken))

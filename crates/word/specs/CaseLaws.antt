@@ -1,9 +1,9 @@
--- Laws of specs/Reserved.antt: bytes with their letters as capitals.
+-- Laws of specs/Case.antt: bytes with their letters as capitals.
 use Prim.Native.Nat.{ℕ}
 use mathlib.Core.Path.{_≡_}
 use mathlib.Core.List.{List}
 use lib.ListN.{length, getD, length-map, List·getD-map}
-use Rattle.keyword.specs.Reserved.{upper, uppers}
+use Rattle.word.specs.Case.{upper, uppers}
 
 pub upper-at : (a : List ℕ) (i : ℕ) → getD (uppers a) i 0 ≡ upper (getD a i 0)
 unfolding upper

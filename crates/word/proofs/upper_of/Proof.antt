@@ -1,11 +1,11 @@
--- `keyword::upper_of` meets its contract: each `return` is the case of the definition that its tests name.
-use Rattle.keyword.specs.Reserved.{upper}
+-- `word::upper_of` meets its contract: each `return` is the case of the definition that its tests name.
+use Rattle.word.specs.Case.{upper}
 use mathlib.Core.Path.{sym, _∙_}
 use native.Mathlib.Omega.{arith}
 use Rattle.prelude.specs.ChoiceLaws.{between-true}
 use borrow.Author.Needs.{needs}
-use Rattle.keyword.proofs.upper_of.Statement.{statement}
-use Rattle.keyword.proofs.upper_of.Tie as tie
+use Rattle.word.proofs.upper_of.Statement.{statement}
+use Rattle.word.proofs.upper_of.Tie as tie
 
 within-requires : tie.Need-within-requires
 within-requires c κs = search needs
