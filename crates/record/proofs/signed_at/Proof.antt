@@ -5,7 +5,6 @@ use mir.Syntax.{w64}
 use mir.Val.{SFits}
 use mir.Facts.{toZ-ofZ}
 use Rattle.record.proofs.Laws as laws
-use mathlib.Core.Path.{sym, ap, _∙_}
 use Rattle.record.specs.Record.{signed}
 use borrow.Author.Needs.{needs}
 use Rattle.record.proofs.signed_at.Statement.{statement}

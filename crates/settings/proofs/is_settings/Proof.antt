@@ -1,7 +1,5 @@
 -- `settings::is_settings` meets its contract: the frame is that of one record of kind 100 and nothing more, then the body decides.
 use borrow.Author.Tests.{eq-eqb, ne-eqb}
-use mathlib.Core.Path.{sym, _∙_}
-use native.Mathlib.Omega.{arith}
 use Rattle.settings.specs.Settings.{isSettings, isFrame}
 use borrow.Author.Needs.{needs}
 use Rattle.settings.proofs.is_settings.Statement.{statement}
