@@ -1,6 +1,8 @@
 ghost use mathlib.Core.Path.{_≡_};
+ghost use Prim.Native.Nat.{_<_};
 ghost use Rattle.prelude.specs.Choice.{between, all};
 ghost use Rattle.charset.specs.Charset.{letter, digit, nameStart, nameByte, freeWord, name, spatialByte, spatialText};
+ghost use Rattle.charset.specs.Named.{namedAt};
 ghost use Rattle.charset.specs.ClassWords.{classByte};
 
 // The most bytes of a name.
@@ -142,6 +144,27 @@ pub fn is_name(s: &[u8]) -> bool
                 return false;
             }
             return true;
+        }
+    }
+    false
+}
+
+fn wide(x: u8) -> usize
+    ensures { λ r. ⌜ (r ≡ x) × (r < 256) ⌝ }
+{
+    x as usize
+}
+
+// A length byte at i and as many bytes after it that are a name.
+pub fn named_at(s: &[u8], i: usize) -> bool
+    ensures { λ r. ⌜ r ≡ namedAt (now (s .entry)) i ⌝ }
+{
+    if i < s.len() {
+        let n = wide(s[i]);
+        if n < s.len() - i {
+            let from = i + 1;
+            let to = from + n;
+            return is_name(&s[from..to]);
         }
     }
     false

@@ -13,8 +13,9 @@ use lib.Seq.{drop-cons, drop-drop}
 use borrow.Author.Tests.{eq-eqb, ne-eqb, eqb-true, eqb-false, leb-true, ltb-false}
 use Rattle.prelude.specs.Choice.{pick, both, either, negated, between, some, same}
 use Rattle.prelude.specs.ChoiceLaws.{same-true}
-use Rattle.keyword.specs.Reserved.{upper, uppers, reserved}
-use Rattle.keyword.specs.CaseLaws.{upper-at, upper-length}
+use Rattle.word.specs.Case.{upper, uppers}
+use Rattle.keyword.specs.Reserved.{reserved}
+use Rattle.word.specs.CaseLaws.{upper-at, upper-length}
 use Rattle.keyword.specs.TableWords.{reservedList, placeIn, countIn, cut, wordsIn, Lists, hasBit, markOf, lacks, Covers}
 
 -- neither of two tests holds

@@ -3,5 +3,3 @@ pub mod Keywords
 pub mod Reserved
 -- Words of private contracts.
 pub mod TableWords
--- Laws.
-pub mod CaseLaws

@@ -5,10 +5,11 @@ ghost use mathlib.Core.Bool.{false};
 ghost use Prim.Native.Nat.{_+_, _*_, _≤_, _<_};
 ghost use lib.ListN.{length, getD, take, drop};
 ghost use Rattle.prelude.specs.Choice.{same};
-ghost use Rattle.keyword.specs.Reserved.{upper, uppers, reserved};
+ghost use Rattle.word.specs.Case.{upper, uppers};
+ghost use Rattle.keyword.specs.Reserved.{reserved};
 ghost use Rattle.keyword.specs.TableWords.{placeIn, countIn, Lists, hasBit, markOf, Covers};
-use crate::is_word;
-use crate::upper_of;
+use word::is_word;
+use word::upper_of;
 
 // The words by length. First stand, for each length from 0 to 17, three bytes: where its words begin, low byte first, and how many they are. Then
 // come the words, those of one length in the order of the alphabet.

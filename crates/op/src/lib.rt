@@ -1,7 +1,6 @@
 ghost use mathlib.Core.Path.{_≡_};
 ghost use Prim.Native.Nat.{_<_};
-ghost use Rattle.prelude.specs.Choice.{between};
-ghost use Rattle.op.specs.Op.{opNumber, opOf, isArithmetic, isArray, isComparison, isXtdComparison, isSpatial, isTemporal, isInstantOrInterval, isNullable};
+ghost use Rattle.op.specs.Op.{opNumber, opOf};
 ghost use Rattle.op.specs.SpellingTable.{Lies, Spells, placeIn};
 
 // The operators of src/op.rs, in its order.
@@ -239,131 +238,65 @@ pub fn op_number(op: Op) -> usize
 pub fn op_of(n: usize) -> Named
     ensures { λ r. ⌜ r ≡ opOf n ⌝ }
 {
-    match n {
-        PLUS => Named::Is(Op::Plus),
-        MINUS => Named::Is(Op::Minus),
-        MULT => Named::Is(Op::Mult),
-        DIV => Named::Is(Op::Div),
-        INT_DIV => Named::Is(Op::IntDiv),
-        MOD => Named::Is(Op::Mod),
-        EXP => Named::Is(Op::Exp),
-        NEG => Named::Is(Op::Neg),
-        EQ => Named::Is(Op::Eq),
-        NEQ => Named::Is(Op::Neq),
-        LT => Named::Is(Op::Lt),
-        GT => Named::Is(Op::Gt),
-        LTE => Named::Is(Op::Lte),
-        GTE => Named::Is(Op::Gte),
-        AND => Named::Is(Op::And),
-        OR => Named::Is(Op::Or),
-        CASE_I => Named::Is(Op::CaseI),
-        ACCENT_I => Named::Is(Op::AccentI),
-        S_INTERSECTS => Named::Is(Op::SIntersects),
-        S_EQUALS => Named::Is(Op::SEquals),
-        S_DISJOINT => Named::Is(Op::SDisjoint),
-        S_TOUCHES => Named::Is(Op::STouches),
-        S_WITHIN => Named::Is(Op::SWithin),
-        S_OVERLAPS => Named::Is(Op::SOverlaps),
-        S_CROSSES => Named::Is(Op::SCrosses),
-        S_CONTAINS => Named::Is(Op::SContains),
-        T_AFTER => Named::Is(Op::TAfter),
-        T_BEFORE => Named::Is(Op::TBefore),
-        T_CONTAINS => Named::Is(Op::TContains),
-        T_DISJOINT => Named::Is(Op::TDisjoint),
-        T_DURING => Named::Is(Op::TDuring),
-        T_EQUALS => Named::Is(Op::TEquals),
-        T_FINISHED_BY => Named::Is(Op::TFinishedBy),
-        T_FINISHES => Named::Is(Op::TFinishes),
-        T_INTERSECTS => Named::Is(Op::TIntersects),
-        T_MEETS => Named::Is(Op::TMeets),
-        T_MET_BY => Named::Is(Op::TMetBy),
-        T_OVERLAPPED_BY => Named::Is(Op::TOverlappedBy),
-        T_OVERLAPS => Named::Is(Op::TOverlaps),
-        T_STARTED_BY => Named::Is(Op::TStartedBy),
-        T_STARTS => Named::Is(Op::TStarts),
-        A_EQUALS => Named::Is(Op::AEquals),
-        A_CONTAINS => Named::Is(Op::AContains),
-        A_CONTAINED_BY => Named::Is(Op::AContainedBy),
-        A_OVERLAPS => Named::Is(Op::AOverlaps),
-        IS_LIKE => Named::Is(Op::IsLike),
-        IS_NOT_LIKE => Named::Is(Op::IsNotLike),
-        IS_BETWEEN => Named::Is(Op::IsBetween),
-        IS_NOT_BETWEEN => Named::Is(Op::IsNotBetween),
-        IS_IN_LIST => Named::Is(Op::IsInList),
-        IS_NOT_IN_LIST => Named::Is(Op::IsNotInList),
-        IS_NULL => Named::Is(Op::IsNull),
-        IS_NOT_NULL => Named::Is(Op::IsNotNull),
-        _ => Named::NoOp,
-    }
-}
-
-fn within(lo: usize, n: usize, hi: usize) -> bool
-    ensures { λ r. ⌜ r ≡ between lo n hi ⌝ }
-{
-    if lo <= n { n <= hi } else { false }
-}
-
-// The class tests of src/op.rs. Operators of one class stand together in the enum, so a class is a range or two of numbers.
-pub fn arithmetic(op: Op) -> bool
-    ensures { λ r. ⌜ r ≡ isArithmetic op ⌝ }
-{
-    within(PLUS, op_number(op), EXP)
-}
-
-pub fn array(op: Op) -> bool
-    ensures { λ r. ⌜ r ≡ isArray op ⌝ }
-{
-    within(A_EQUALS, op_number(op), A_OVERLAPS)
-}
-
-pub fn comparison(op: Op) -> bool
-    ensures { λ r. ⌜ r ≡ isComparison op ⌝ }
-{
-    let n = op_number(op);
-    if within(EQ, n, GTE) {
-        return true;
-    }
-    within(IS_NULL, n, IS_NOT_NULL)
-}
-
-pub fn xtd_comparison(op: Op) -> bool
-    ensures { λ r. ⌜ r ≡ isXtdComparison op ⌝ }
-{
-    within(IS_LIKE, op_number(op), IS_NOT_IN_LIST)
-}
-
-pub fn spatial(op: Op) -> bool
-    ensures { λ r. ⌜ r ≡ isSpatial op ⌝ }
-{
-    within(S_INTERSECTS, op_number(op), S_CONTAINS)
-}
-
-pub fn temporal(op: Op) -> bool
-    ensures { λ r. ⌜ r ≡ isTemporal op ⌝ }
-{
-    within(T_AFTER, op_number(op), T_STARTS)
-}
-
-pub fn instant_or_interval(op: Op) -> bool
-    ensures { λ r. ⌜ r ≡ isInstantOrInterval op ⌝ }
-{
-    let n = op_number(op);
-    if within(T_AFTER, n, T_BEFORE) {
-        return true;
-    }
-    if n == T_DISJOINT {
-        return true;
-    }
-    if n == T_EQUALS {
-        return true;
-    }
-    n == T_INTERSECTS
-}
-
-pub fn nullable(op: Op) -> bool
-    ensures { λ r. ⌜ r ≡ isNullable op ⌝ }
-{
-    within(IS_NULL, op_number(op), IS_NOT_NULL)
+    let op = match n {
+        PLUS => Op::Plus,
+        MINUS => Op::Minus,
+        MULT => Op::Mult,
+        DIV => Op::Div,
+        INT_DIV => Op::IntDiv,
+        MOD => Op::Mod,
+        EXP => Op::Exp,
+        NEG => Op::Neg,
+        EQ => Op::Eq,
+        NEQ => Op::Neq,
+        LT => Op::Lt,
+        GT => Op::Gt,
+        LTE => Op::Lte,
+        GTE => Op::Gte,
+        AND => Op::And,
+        OR => Op::Or,
+        CASE_I => Op::CaseI,
+        ACCENT_I => Op::AccentI,
+        S_INTERSECTS => Op::SIntersects,
+        S_EQUALS => Op::SEquals,
+        S_DISJOINT => Op::SDisjoint,
+        S_TOUCHES => Op::STouches,
+        S_WITHIN => Op::SWithin,
+        S_OVERLAPS => Op::SOverlaps,
+        S_CROSSES => Op::SCrosses,
+        S_CONTAINS => Op::SContains,
+        T_AFTER => Op::TAfter,
+        T_BEFORE => Op::TBefore,
+        T_CONTAINS => Op::TContains,
+        T_DISJOINT => Op::TDisjoint,
+        T_DURING => Op::TDuring,
+        T_EQUALS => Op::TEquals,
+        T_FINISHED_BY => Op::TFinishedBy,
+        T_FINISHES => Op::TFinishes,
+        T_INTERSECTS => Op::TIntersects,
+        T_MEETS => Op::TMeets,
+        T_MET_BY => Op::TMetBy,
+        T_OVERLAPPED_BY => Op::TOverlappedBy,
+        T_OVERLAPS => Op::TOverlaps,
+        T_STARTED_BY => Op::TStartedBy,
+        T_STARTS => Op::TStarts,
+        A_EQUALS => Op::AEquals,
+        A_CONTAINS => Op::AContains,
+        A_CONTAINED_BY => Op::AContainedBy,
+        A_OVERLAPS => Op::AOverlaps,
+        IS_LIKE => Op::IsLike,
+        IS_NOT_LIKE => Op::IsNotLike,
+        IS_BETWEEN => Op::IsBetween,
+        IS_NOT_BETWEEN => Op::IsNotBetween,
+        IS_IN_LIST => Op::IsInList,
+        IS_NOT_IN_LIST => Op::IsNotInList,
+        IS_NULL => Op::IsNull,
+        IS_NOT_NULL => Op::IsNotNull,
+        _ => {
+            return Named::NoOp;
+        }
+    };
+    Named::Is(op)
 }
 
 // The spellings of `Op::to_sql`. First stands, by operator number, where each begins; it ends where the next one begins, and one that ends where

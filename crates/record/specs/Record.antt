@@ -1,6 +1,7 @@
 -- A record's frame and little-endian numbers: document 01, "Records". Trees, settings and rows are made of such records.
 use Prim.Native.Nat.{ℕ, zero, suc, _+_, _-_, _*_, _/_, _%_}
 use mathlib.Core.List.{List, [], _∷_, _++_}
+use lib.IntN.{ℤ, pos, negsuc}
 use lib.ListN.{length, getD}
 use lib.Dec.{ltb}
 use Rattle.prelude.specs.Choice.{pick}
@@ -18,6 +19,10 @@ le32 s i = le16 s i + le16 s (i + 2) * 65536
 -- eight bytes at i, the low one first
 abbrev pub le64 : List ℕ → ℕ → ℕ
 le64 s i = le32 s i + le32 s (i + 4) * 4294967296
+
+-- two's complement of 64 bits: below 2^63 the number itself, else the number less 2^64
+unfoldable pub signed : ℕ → ℤ
+signed n = pick (ltb n 9223372036854775808) (pos n) (negsuc (18446744073709551615 - n))
 
 -- Length, four bytes, then kind, two bytes, then body; the length counts kind and body.
 -- The record at the front of s: its kind, and where it ends.

@@ -2,7 +2,7 @@ ghost use mathlib.Core.Path.{_≡_};
 ghost use mathlib.Core.Bool.{true};
 ghost use Prim.Native.Nat.{_+_, _≤_, _<_};
 ghost use lib.ListN.{length, getD};
-ghost use Rattle.record.specs.Record.{le16, le32, le64, frame};
+ghost use Rattle.record.specs.Record.{le16, le32, le64, signed, frame};
 
 // Where a record's kind and its body begin; before the kind stands the length, which counts what comes after its own four bytes.
 pub const KIND: usize = 4;
@@ -136,4 +136,22 @@ pub fn qword_at(s: &[u8], at: usize) -> usize
         return 0;
     }
     dword_past(s, at) + dword_past(s, at + 4) * 4294967296
+}
+
+// Two's complement without a wrapping step: n less 2^64 is −1 less what n lacks of 2^64 − 1, and that fits.
+fn signed_of(n: usize) -> i64
+    ensures { λ r. ⌜ r ≡ signed n ⌝ }
+{
+    if n < 9223372036854775808 {
+        n as i64
+    } else {
+        -1 - ((18446744073709551615 - n) as i64)
+    }
+}
+
+// The eight bytes at `at` as a signed number.
+pub fn signed_at(s: &[u8], at: usize) -> i64
+    ensures { λ r. ⌜ r ≡ signed (le64 (now (s .entry)) at) ⌝ }
+{
+    signed_of(qword_at(s, at))
 }

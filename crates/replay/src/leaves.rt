@@ -77,7 +77,7 @@ fn write_leaf(kind: usize, body: &[u8], out: &mut [u8]) -> usize {
         UNBOUNDED => instant::put_unbounded(out, START),
         BOOL => literal::put_bool(byte_at(body, 0) != 0, out, START),
         NUM => number::put_num(
-            tree::mantissa_at(body, 0),
+            record::signed_at(body, 0),
             byte_at(body, 8) as u8,
             out,
             START,

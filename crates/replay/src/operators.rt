@@ -1,5 +1,5 @@
 // The list that the Rust itself printed of its operators. A case is a line of it: number, name, spelling, class bits.
-// A line is right if the crate `op` says the same of that number. The name is for the reader alone.
+// A line is right if the crates `op` and `class` say the same of that number. The name is for the reader alone.
 ghost use Prim.Native.Nat.{_≤_};
 ghost use lib.ListN.{length};
 use crate::cases::Turn;
@@ -48,14 +48,14 @@ fn behind(s: &[u8], b: u8) -> &[u8] {
 
 fn class_test(op: Op, place: usize) -> bool {
     match place {
-        0 => op::arithmetic(op),
-        1 => op::array(op),
-        2 => op::comparison(op),
-        3 => op::xtd_comparison(op),
-        4 => op::spatial(op),
-        5 => op::temporal(op),
-        6 => op::instant_or_interval(op),
-        _ => op::nullable(op),
+        0 => class::arithmetic(op),
+        1 => class::array(op),
+        2 => class::comparison(op),
+        3 => class::xtd_comparison(op),
+        4 => class::spatial(op),
+        5 => class::temporal(op),
+        6 => class::instant_or_interval(op),
+        _ => class::nullable(op),
     }
 }
 

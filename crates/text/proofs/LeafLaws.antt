@@ -8,9 +8,9 @@ use lib.IntN.{ℤ, natAbs}
 use lib.Dec.{eqb, leb}
 use borrow.Author.Tests.{leb-true, ltb-true}
 use Rattle.prelude.specs.Choice.{pick}
-use Rattle.record.specs.Record.{le, recordOf, le64}
+use Rattle.record.specs.Record.{le, recordOf, le64, signed}
 use Rattle.tree.specs.Limits.{mantissaLimit}
-use Rattle.tree.specs.Parse.{signed, mantissa}
+use Rattle.tree.specs.Parse.{mantissa}
 use Rattle.tree.specs.ByteLaws.{le16-le, le32-le, le64-le, signed-twos, twos-low}
 use Rattle.literal.specs.declared.Writing.{Writing}
 use Rattle.tree.specs.Tree.{Tree, Settings, encode, twos, dateBytes, null, unbounded, bool, num, str, date, timestamp, spatial, id, monadic, dyadic, function, array, interval, kindOf}

@@ -43,12 +43,12 @@ use op::S_TOUCHES;
 use op::Spelled;
 use record::BODY;
 use record::KIND;
+use settings::PRECISION_AT;
 use tree::AI;
 use tree::ARRAY;
 use tree::CAI;
 use tree::CI;
 use tree::MONADIC;
-use tree::PRECISION_AT;
 
 // What is written of an operator: its spelling (`Op::to_sql`), nothing where it has none.
 fn word_of(words: &[u8; 256], op: usize) -> &[u8]

@@ -3,7 +3,7 @@ ghost use mathlib.Core.Path.{_≡_};
 ghost use mathlib.Core.List.{_++_};
 ghost use Prim.Native.Nat.{_+_, _<_};
 ghost use Rattle.record.specs.Record.{le16};
-ghost use Rattle.tree.specs.Parse.{nameAt};
+ghost use Rattle.charset.specs.Named.{nameAt};
 ghost use lib.ListN.{getD, drop};
 ghost use Rattle.emit.specs.Emit.{countLimit};
 ghost use Rattle.emit.specs.LaysWords.{Lays};
@@ -16,10 +16,10 @@ use crate::records::rest;
 use literal::Writing;
 use record::BODY;
 use record::KIND;
+use settings::CI_AT;
 use tree::AI;
 use tree::BOOL;
 use tree::CI;
-use tree::CI_AT;
 use tree::DATE;
 use tree::NULL;
 use tree::NUM;
@@ -65,9 +65,9 @@ pub(crate) fn name_of(flags: usize, set: &[u8]) -> &[u8]
         return name_at(set, CI_AT);
     }
     if flags == AI {
-        return name_at(set, tree::ai_at(set));
+        return name_at(set, settings::ai_at(set));
     }
-    name_at(set, tree::cai_at(set))
+    name_at(set, settings::cai_at(set))
 }
 
 // A text in quotes, its apostrophes doubled, with the collation that its flags ask for.
@@ -125,7 +125,7 @@ pub(crate) fn put_leaf(s: &[u8], set: &[u8], writing: Writing, out: &mut [u8], a
         UNBOUNDED => instant::put_unbounded(out, at),
         BOOL => literal::put_bool(record::byte_at(s, BODY) == 1, out, at),
         NUM => number::put_num(
-            tree::mantissa_at(s, BODY),
+            record::signed_at(s, BODY),
             record::byte_at(s, SCALE) as u8,
             out,
             at,

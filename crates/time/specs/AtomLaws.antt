@@ -17,7 +17,8 @@ use Rattle.string.specs.Utf8.{valid}
 use Rattle.string.specs.Quote.{doubled, undoubled, closing, quotedSize}
 use Rattle.string.specs.QuoteLaws.{undoubled-doubled, closing-doubled, valid-doubled, unmarked, unmarked-valid, unmarked-doubled}
 use Rattle.keyword.specs.Keywords.{keywords}
-use Rattle.keyword.specs.Reserved.{upper, uppers, reserved, reservedWords}
+use Rattle.word.specs.Case.{upper, uppers}
+use Rattle.keyword.specs.Reserved.{reserved, reservedWords}
 use Rattle.truth.specs.declared.Kind.{Kind}
 use Rattle.truth.specs.declared.Kind.the-variants.{Name as NAME, Quoted as QUOTED, Text as TEXT, Open as OPEN, Lt as LT, Gt as GT, Le as LE, Ge as GE, Eq as EQ, Ne as NE, Not as NOT, Null as NULL, True as TRUE, False as FALSE, Is as IS}
 use Rattle.truth.specs.Lex.{Token, tokens, kind, body, rest, lexeme, quoteKind, run, wordKind, signKind, signMore}

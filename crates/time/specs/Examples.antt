@@ -13,6 +13,7 @@ use Rattle.order.specs.Order.{order, below}
 use Rattle.charset.specs.Charset as charset
 use Rattle.string.specs.Utf8 as utf8
 use Rattle.string.specs.Quote as quote
+use Rattle.word.specs.Case as case
 use Rattle.keyword.specs.Reserved as keyword
 use Rattle.keyword.specs.Keywords as keywords
 use Rattle.op.specs.declared.Op.the-variants.{Neg, Or, TAfter, TBefore, TContains, TDisjoint, TDuring, TEquals, TIntersects, TMeets, TMetBy, TOverlaps}
@@ -121,14 +122,14 @@ negated-end = dyadic TAfter (monadic Neg a) b
 no-filter :
     (timeFilter negated-end ≡ false) × (reads days negated-end ≡ SaysTrue) × (reads days (dyadic TBefore b (monadic Neg a)) ≡ Refused BadText)
     × (truthOn Rust days negated-end ≡ Unknown)
-unfolding timeFilter isOperand op.isTemporal op.isNullable op.isSpatial op.isArray some same truthOn temporalTruth condTruth translators.translate translators.tAfter translators.tBefore trees.isInterval trees.isId trees.isLiteral trees.isLiteralOrId trees.startOf trees.stopOf trees.endsOf gpkg.text gpkg.monadicText gpkg.dyadicText spelling.spelledAs sql.print placed.isBetween valueOn endOn look order grammar.holds grammar.value grammar.eval grammar.atomOf grammar.notNull grammar.nullTest grammar.fromAtom grammar.simple grammar.orE parse lex.run lex.wordKind lex.signKind lex.signMore lex.quoteKind lex.lexeme lex.cut lex.tokensIn lex.tokens lex.kind lex.body lex.rest charset.letter charset.digit charset.nameStart charset.nameByte keyword.upper keyword.reservedWords keywords.keywords keywords.keywordTexts keyword.reserved charset.name utf8.sequences utf8.goesOn utf8.valid quote.doubled quote.undoubled quote.closing quote.quotedSize choice.all literal.date literal.low treeAtom endAtom trees.byOperator trees.everywhere isEnd trees.first trees.second
+unfolding timeFilter isOperand op.isTemporal op.isNullable op.isSpatial op.isArray some same truthOn temporalTruth condTruth translators.translate translators.tAfter translators.tBefore trees.isInterval trees.isId trees.isLiteral trees.isLiteralOrId trees.startOf trees.stopOf trees.endsOf gpkg.text gpkg.monadicText gpkg.dyadicText spelling.spelledAs sql.print placed.isBetween valueOn endOn look order grammar.holds grammar.value grammar.eval grammar.atomOf grammar.notNull grammar.nullTest grammar.fromAtom grammar.simple grammar.orE parse lex.run lex.wordKind lex.signKind lex.signMore lex.quoteKind lex.lexeme lex.cut lex.tokensIn lex.tokens lex.kind lex.body lex.rest charset.letter charset.digit charset.nameStart charset.nameByte case.upper keyword.reservedWords keywords.keywords keywords.keywordTexts keyword.reserved charset.name utf8.sequences utf8.goesOn utf8.valid quote.doubled quote.undoubled quote.closing quote.quotedSize choice.all literal.date literal.low treeAtom endAtom trees.byOperator trees.everywhere isEnd trees.first trees.second
 no-filter = (refl, refl, refl, refl)
 
 -- A row that lacks a column: both texts are refused (13), and say neither true nor false nor unknown.
 lacking-column :
     (holds [] (dyadic TAfter a b) ≡ false) × (reads [] (dyadic TAfter a b) ≡ Refused MissingColumn)
     × (reads [] (dyadic TBefore b a) ≡ Refused MissingColumn)
-unfolding timeFilter isOperand op.isTemporal op.isNullable op.isSpatial op.isArray some same truthOn temporalTruth condTruth translators.translate translators.tAfter translators.tBefore trees.isInterval trees.isId trees.isLiteral trees.isLiteralOrId trees.startOf trees.stopOf trees.endsOf gpkg.text gpkg.monadicText gpkg.dyadicText spelling.spelledAs sql.print placed.isBetween valueOn endOn look order grammar.holds grammar.value grammar.eval grammar.atomOf grammar.notNull grammar.nullTest grammar.fromAtom grammar.simple grammar.orE parse lex.run lex.wordKind lex.signKind lex.signMore lex.quoteKind lex.lexeme lex.cut lex.tokensIn lex.tokens lex.kind lex.body lex.rest charset.letter charset.digit charset.nameStart charset.nameByte keyword.upper keyword.reservedWords keywords.keywords keywords.keywordTexts keyword.reserved charset.name utf8.sequences utf8.goesOn utf8.valid quote.doubled quote.undoubled quote.closing quote.quotedSize choice.all literal.date literal.low treeAtom endAtom trees.byOperator trees.everywhere isEnd trees.first trees.second holds
+unfolding timeFilter isOperand op.isTemporal op.isNullable op.isSpatial op.isArray some same truthOn temporalTruth condTruth translators.translate translators.tAfter translators.tBefore trees.isInterval trees.isId trees.isLiteral trees.isLiteralOrId trees.startOf trees.stopOf trees.endsOf gpkg.text gpkg.monadicText gpkg.dyadicText spelling.spelledAs sql.print placed.isBetween valueOn endOn look order grammar.holds grammar.value grammar.eval grammar.atomOf grammar.notNull grammar.nullTest grammar.fromAtom grammar.simple grammar.orE parse lex.run lex.wordKind lex.signKind lex.signMore lex.quoteKind lex.lexeme lex.cut lex.tokensIn lex.tokens lex.kind lex.body lex.rest charset.letter charset.digit charset.nameStart charset.nameByte case.upper keyword.reservedWords keywords.keywords keywords.keywordTexts keyword.reserved charset.name utf8.sequences utf8.goesOn utf8.valid quote.doubled quote.undoubled quote.closing quote.quotedSize choice.all literal.date literal.low treeAtom endAtom trees.byOperator trees.everywhere isEnd trees.first trees.second holds
 lacking-column = (refl, refl, refl)
 
 -- ---- Complement.
@@ -199,7 +200,7 @@ unfolding Good
 good n e = (omega arith, e)
 
 good-instants : Good (interval b c) 2
-unfolding Good charset.name charset.nameStart charset.nameByte charset.letter charset.digit keyword.upper keyword.reserved keyword.reservedWords keywords.keywords keywords.keywordTexts some same choice.all
+unfolding Good charset.name charset.nameStart charset.nameByte charset.letter charset.digit case.upper keyword.reserved keyword.reservedWords keywords.keywords keywords.keywordTexts some same choice.all
 good-instants = (omega arith, good (bytes "b") refl, good (bytes "c") refl)
 
 good-week : Good first-week 2

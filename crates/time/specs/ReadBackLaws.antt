@@ -16,7 +16,7 @@ use Rattle.truth.specs.Grammar.{Ast, neg, conj, disj, got, isComparison, simple
 use Rattle.truth.specs.Reading.{parse, bracketLimit}
 use Rattle.prelude.specs.Choice.{some, same}
 use Rattle.charset.specs.Charset.{letter, digit, nameStart, nameByte}
-use Rattle.keyword.specs.Reserved.{upper}
+use Rattle.word.specs.Case.{upper}
 
 -- what may stand after a word: nothing, a space or a closing bracket
 pub data Break : List ℕ → Type 0 where

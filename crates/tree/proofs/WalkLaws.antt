@@ -20,6 +20,8 @@ use Rattle.op.specs.declared.Op.{Op}
 use Rattle.op.specs.declared.Named.{Named}
 use Rattle.op.specs.declared.Named.the-variants.{Is, NoOp}
 use Rattle.op.specs.Op.{opOf, isTemporal, isInstantOrInterval}
+use Rattle.charset.specs.Named.{nameAt, past, namedAt}
+use Rattle.settings.specs.Settings.{isSettings}
 use Rattle.tree.specs.declared.Checked.{Checked}
 use Rattle.tree.specs.declared.Checked.the-variants.{Valid, Refused}
 use Rattle.tree.specs.declared.Shape.{Shape}
@@ -32,10 +34,10 @@ use Rattle.tree.specs.declared.Items.the-variants.{ItemsBad, ItemsAre}
 use Rattle.tree.specs.declared.First.the-variants.{Stop, Next}
 use Rattle.tree.specs.declared.Taken.the-variants.{Takes, Refuses}
 use Rattle.tree.specs.Tree.{Tree, Trees, null, unbounded, bool, num, str, date, timestamp, spatial, id, monadic, dyadic, function, array, interval, none, _then_}
-use Rattle.tree.specs.Parse.{Read, refused, got, also, Body, cons, end, exactly, many, items, nameAt, past, namedAt, emptyBody, boolBody, numBody, strBody, dateBody, timestampBody, spatialBody, leaf, mantissa, takesOne, takesTwo, allowed, operated, readMonadic, readDyadic, readFunction, choose, kinds, readKind, node, parse}
+use Rattle.tree.specs.Parse.{Read, refused, got, also, Body, cons, end, exactly, many, items, emptyBody, boolBody, numBody, strBody, dateBody, timestampBody, spatialBody, leaf, mantissa, takesOne, takesTwo, allowed, operated, readMonadic, readDyadic, readFunction, choose, kinds, readKind, node, parse}
 use Rattle.tree.specs.Placed.{isBetween, operands, noInterval, inPlace, inner, inners, placed}
 use Rattle.tree.specs.Tests.{first, second, count, everywhere, everywhereIn, byOperator, isInterval, isItems, isPair}
-use Rattle.tree.specs.Accepted.{settings, isSettings, accepted, verdict}
+use Rattle.tree.specs.Accepted.{settings, accepted, verdict}
 use Rattle.tree.specs.Limits.{depthLimit, treeLimit}
 use Rattle.tree.specs.WalkWords.{shapeOf, seen, seenOne, seenTwo, seenAll, ended, framed, firstOf, takenBy, taken, plainShape, pairShape, intervalShape, soundShape, fits, orMisplaced, leafOne, monadicOne, dyadicOne, functionOne, arrayOne, intervalOne}
 use Rattle.tree.specs.ParseLaws.{frame-whole, both-true}

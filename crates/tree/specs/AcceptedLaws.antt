@@ -16,12 +16,14 @@ use Rattle.record.specs.declared.Frame.{Frame}
 use Rattle.record.specs.declared.Frame.the-variants.{Broken, Whole}
 use Rattle.record.specs.Record.{frame, recordOf}
 use Rattle.charset.specs.Charset.{name}
+use Rattle.settings.specs.Settings.{precisionLimit, settingsKind, isFrame, ciAt, aiAt, caiAt, settingsBody, isSettings}
+use Rattle.charset.specs.Named.{nameAt, past, namedAt}
 use Rattle.tree.specs.declared.Checked.the-variants.{Valid}
-use Rattle.tree.specs.Limits.{treeLimit, depthLimit, precisionLimit}
-use Rattle.tree.specs.Tree.{Tree, Settings, settingsKind, encode, encodeSettings, counted, Bytes}
-use Rattle.tree.specs.Parse.{Read, refused, got, also, nameAt, past, namedAt, parse}
+use Rattle.tree.specs.Limits.{treeLimit, depthLimit}
+use Rattle.tree.specs.Tree.{Tree, Settings, encode, encodeSettings, counted, Bytes}
+use Rattle.tree.specs.Parse.{Read, refused, got, also, parse}
 use Rattle.tree.specs.Placed.{placed}
-use Rattle.tree.specs.Accepted.{settingsIn, isFrame, ciAt, aiAt, caiAt, settingsBody, isSettings, settings, accepted, verdict, said, heard}
+use Rattle.tree.specs.Accepted.{settingsIn, settings, accepted, verdict, said, heard}
 use Rattle.tree.specs.GoodWords.{Good}
 use Rattle.tree.specs.ByteLaws.{reads-drop}
 use Rattle.tree.specs.ParseLaws.{split, both-true, not-got, also-got, frame-record}

@@ -11,9 +11,8 @@ use lib.IntN.{ℤ, pos, negsuc, natAbs}
 use lib.Dec.{ltb}
 use borrow.Author.Tests.{lt-ltb, le-ltb}
 use Rattle.prelude.specs.Choice.{pick}
-use Rattle.record.specs.Record.{le, le64}
+use Rattle.record.specs.Record.{le, le64, signed}
 use Rattle.tree.specs.Tree.{Bytes, twos}
-use Rattle.tree.specs.Parse.{signed}
 
 pub bytes-drop : (n : ℕ) (s : List ℕ) → Bytes s → Bytes (drop n s)
 bytes-drop zero s h = h

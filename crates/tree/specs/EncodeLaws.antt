@@ -12,7 +12,7 @@ use lib.Dec.{leb, eqb}
 use borrow.Author.Tests.{le-ltb, le-leb}
 use Rattle.record.specs.declared.Frame.{Frame}
 use Rattle.record.specs.declared.Frame.the-variants.{Whole}
-use Rattle.record.specs.Record.{le16, le32, frame, le, recordOf}
+use Rattle.record.specs.Record.{le16, le32, frame, le, recordOf, signed}
 use Rattle.prelude.specs.Choice.{pick, both, between, all}
 use Rattle.charset.specs.Charset.{name, spatialByte}
 use Rattle.string.specs.Utf8.{valid}
@@ -20,9 +20,10 @@ use Rattle.civil.specs.Civil.{validDate, validTime, daysIn, yearLimit}
 use Rattle.op.specs.declared.Op.{Op}
 use Rattle.op.specs.Op.{opNumber}
 use Rattle.op.specs.OpLaws.{number-of, number-below}
+use Rattle.charset.specs.Named.{past, namedAt}
 use Rattle.tree.specs.Limits.{depthLimit, mantissaLimit, scaleLimit, flagsLimit, textLimit}
 use Rattle.tree.specs.Tree.{Tree, Trees, null, unbounded, bool, num, str, date, timestamp, spatial, id, monadic, dyadic, function, array, interval, none, _then_, twos, dateBytes, counted, encode, encodes}
-use Rattle.tree.specs.Parse.{Read, got, also, Body, cons, end, exactly, many, signed, mantissa, past, namedAt, emptyBody, boolBody, numBody, strBody, dateBody, timestampBody, spatialBody, leaf, takesOne, takesTwo, allowed, operated, readFunction, choose, kinds, readKind, node, parse}
+use Rattle.tree.specs.Parse.{Read, got, also, Body, cons, end, exactly, many, mantissa, emptyBody, boolBody, numBody, strBody, dateBody, timestampBody, spatialBody, leaf, takesOne, takesTwo, allowed, operated, readFunction, choose, kinds, readKind, node, parse}
 use Rattle.tree.specs.Tests.{first, second}
 use Rattle.tree.specs.GoodWords.{Good, AllGood}
 use Rattle.tree.specs.ByteLaws.{le16-le, le32-le, le64-le, signed-twos, twos-low}

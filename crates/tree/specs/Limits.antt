@@ -1,5 +1,5 @@
--- The limits of a tree, of its text and of the settings: document 01, "Records" and "What a caller hears". A name's limit stands in crate charset,
--- the years in crate civil.
+-- The limits of a tree and of its text: document 01, "Records" and "What a caller hears". A name's limit stands in crate charset, the years in
+-- crate civil, the precision in crate settings.
 use Prim.Native.Nat.{ℕ}
 
 -- What a call allows: the bytes of a tree, its levels, the root being 1, and the bytes of the SQL text.
@@ -30,6 +30,3 @@ flagsLimit = 3
 -- bytes of a Str or Spatial text in its record
 abbrev pub textLimit : ℕ
 textLimit = 4096
-
-abbrev pub precisionLimit : ℕ
-precisionLimit = 15

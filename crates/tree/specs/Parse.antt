@@ -2,7 +2,7 @@
 use Prim.Native.Nat.{ℕ, zero, suc, _+_, _-_}
 use mathlib.Core.List.{List, [], _∷_}
 use mathlib.Core.Bool.{Bool}
-use lib.IntN.{ℤ, pos, negsuc, natAbs}
+use lib.IntN.{ℤ, natAbs}
 use lib.ListN.{length, getD, take, drop}
 use lib.Dec.{ltb, leb, eqb}
 use Rattle.prelude.specs.Choice.{pick, both, either, negated, between}
@@ -10,8 +10,9 @@ use Rattle.refusal.specs.declared.Refusal.{Refusal}
 use Rattle.refusal.specs.declared.Refusal.the-variants.{BadFrame, TooDeep, BadKindOrOperator, BadField}
 use Rattle.record.specs.declared.Frame.{Frame}
 use Rattle.record.specs.declared.Frame.the-variants.{Broken, Whole}
-use Rattle.record.specs.Record.{le16, le32, le64, frame}
+use Rattle.record.specs.Record.{le16, le32, le64, signed, frame}
 use Rattle.charset.specs.Charset.{name, spatialText}
+use Rattle.charset.specs.Named.{nameAt, past, namedAt}
 use Rattle.string.specs.Utf8.{valid}
 use Rattle.civil.specs.Civil.{validDate, validTime}
 use Rattle.op.specs.declared.Op.{Op}
@@ -68,27 +69,13 @@ items body s = many body (length s) s
 
 -- Fields.
 
--- two's complement of 64 bits: below 2^63 the number itself, else the number less 2^64
-unfoldable pub signed : ℕ → ℤ
-signed n = pick (ltb n 9223372036854775808) (pos n) (negsuc (18446744073709551615 - n))
-
+-- the mantissa of a Num whose eight bytes begin at i
 abbrev pub mantissa : List ℕ → ℕ → ℤ
 mantissa s i = signed (le64 s i)
 
 -- a date in the four bytes at 0
 abbrev pub dateAt : List ℕ → Bool
 dateAt s = validDate (le16 s 0) (getD s 2 0) (getD s 3 0)
-
--- the name after the length byte at i, as far as there are bytes; and where it ends
-abbrev pub nameAt : List ℕ → ℕ → List ℕ
-nameAt s i = take (getD s i 0) (drop (i + 1) s)
-
-abbrev pub past : List ℕ → ℕ → ℕ
-past s i = i + 1 + getD s i 0
-
--- length byte and name at i are whole, and it is a name
-unfoldable pub namedAt : List ℕ → ℕ → Bool
-namedAt s i = both (leb (past s i) (length s)) (name (nameAt s i))
 
 -- Bodies without records: which are right.
 

@@ -25,9 +25,10 @@ use Rattle.op.specs.declared.Named.{Named}
 use Rattle.op.specs.declared.Named.the-variants.{Is, NoOp}
 use Rattle.op.specs.Op.{opNumber, opOf}
 use Rattle.op.specs.OpLaws.{of-number}
+use Rattle.charset.specs.Named.{nameAt, past, namedAt}
 use Rattle.tree.specs.Limits.{depthLimit, mantissaLimit, scaleLimit, flagsLimit, textLimit}
 use Rattle.tree.specs.Tree.{Tree, Trees, null, unbounded, bool, num, str, date, timestamp, spatial, id, monadic, dyadic, function, array, interval, none, _then_, twos, dateBytes, counted, encode, encodes, Bytes}
-use Rattle.tree.specs.Parse.{Read, refused, got, also, Body, cons, end, exactly, many, items, mantissa, nameAt, past, namedAt, emptyBody, boolBody, numBody, strBody, dateBody, timestampBody, spatialBody, leaf, takesOne, takesTwo, allowed, operated, readMonadic, readDyadic, readFunction, readArray, readInterval, Row, row, choose, kinds, node, parse}
+use Rattle.tree.specs.Parse.{Read, refused, got, also, Body, cons, end, exactly, many, items, mantissa, emptyBody, boolBody, numBody, strBody, dateBody, timestampBody, spatialBody, leaf, takesOne, takesTwo, allowed, operated, readMonadic, readDyadic, readFunction, readArray, readInterval, Row, row, choose, kinds, node, parse}
 use Rattle.tree.specs.Tests.{first, second, count}
 use Rattle.tree.specs.GoodWords.{Good, AllGood}
 use Rattle.tree.specs.ByteLaws.{bytes-drop, bytes-take, byte-at, reads-drop, le-at, reads-all, twos-signed}

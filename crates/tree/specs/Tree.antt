@@ -6,6 +6,7 @@ use lib.IntN.{ℤ, pos, negsuc}
 use lib.ListN.{length}
 use Rattle.prelude.specs.Choice.{pick}
 use Rattle.record.specs.Record.{le, recordOf}
+use Rattle.settings.specs.Settings.{settingsKind}
 use Rattle.op.specs.declared.Op.{Op}
 use Rattle.op.specs.Op.{opNumber}
 use Rattle.tree.specs.Kinds.{NULL, UNBOUNDED, BOOL, NUM, STR, DATE, TIMESTAMP, SPATIAL, ID, MONADIC, DYADIC, FUNCTION, ARRAY, INTERVAL}
@@ -100,9 +101,6 @@ pub record Settings : Type 0 where
   pub ci : List ℕ
   pub ai : List ℕ
   pub cai : List ℕ
-
-abbrev pub settingsKind : ℕ
-settingsKind = 100
 
 -- how the settings are written
 unfoldable pub encodeSettings : Settings → List ℕ

@@ -4,10 +4,11 @@ ghost use Prim.Native.Nat.{_+_, _-_, _<_};
 ghost use lib.IntN.{natAbs};
 ghost use lib.Dec.{leb};
 ghost use Rattle.prelude.specs.Choice.{pick, both};
+ghost use Rattle.record.specs.Record.{signed};
 ghost use Rattle.tree.specs.Limits.{mantissaLimit};
-ghost use Rattle.tree.specs.Parse.{signed, mantissa, namedAt, boolBody, numBody, strBody, dateBody, timestampBody, spatialBody, takesOne, takesTwo, readMonadic, readDyadic, readFunction, node, exactly, items};
+ghost use Rattle.tree.specs.Parse.{boolBody, numBody, strBody, dateBody, timestampBody, spatialBody, takesOne, takesTwo, readMonadic, readDyadic, readFunction, node, exactly, items};
 ghost use Rattle.tree.specs.Placed.{isBetween};
-ghost use Rattle.tree.specs.Accepted.{aiAt, caiAt, settingsBody, isSettings, accepted, verdict, said, heard};
+ghost use Rattle.tree.specs.Accepted.{accepted, verdict, said, heard};
 ghost use Rattle.tree.specs.WalkWords.{seen, seenOne, seenTwo, seenAll, firstOf, taken, plainShape, pairShape, intervalShape, soundShape, fits, orMisplaced, leafOne, monadicOne, dyadicOne, functionOne, arrayOne, intervalOne};
 use op::ACCENT_I;
 use op::CASE_I;
@@ -73,15 +74,6 @@ const FLAGS_LIMIT: usize = CAI;
 
 const TEXT_LIMIT: usize = 4096;
 
-const PRECISION_LIMIT: usize = 15;
-
-const SETTINGS_KIND: usize = 100;
-
-// Where the settings' precision byte stands, and where the first of their names begins, with its length byte.
-pub const PRECISION_AT: usize = 6;
-
-pub const CI_AT: usize = 7;
-
 // What checking settings and a tree answers.
 pub enum Checked {
     Valid,
@@ -129,39 +121,6 @@ fn wide(x: u8) -> usize
     ensures { λ r. ⌜ (r ≡ x) × (r < 256) ⌝ }
 {
     x as usize
-}
-
-// Two's complement without a wrapping step: n less 2^64 is −1 less what n lacks of 2^64 − 1, and that fits.
-fn signed_of(n: usize) -> i64
-    ensures { λ r. ⌜ r ≡ signed n ⌝ }
-{
-    if n < 9223372036854775808 {
-        n as i64
-    } else {
-        -1 - ((18446744073709551615 - n) as i64)
-    }
-}
-
-// The mantissa of a Num whose eight bytes begin at `at`.
-pub fn mantissa_at(s: &[u8], at: usize) -> i64
-    ensures { λ r. ⌜ r ≡ mantissa (now (s .entry)) at ⌝ }
-{
-    signed_of(record::qword_at(s, at))
-}
-
-// A length byte at i and as many bytes after it that are a name.
-fn named_at(s: &[u8], i: usize) -> bool
-    ensures { λ r. ⌜ r ≡ namedAt (now (s .entry)) i ⌝ }
-{
-    if i < s.len() {
-        let n = wide(s[i]);
-        if n < s.len() - i {
-            let from = i + 1;
-            let to = from + n;
-            return charset::is_name(&s[from..to]);
-        }
-    }
-    false
 }
 
 fn bool_body(s: &[u8]) -> bool
@@ -364,8 +323,8 @@ fn and(a: bool, b: bool) -> bool
 fn fit(o: Op, a: Shape, b: Shape) -> bool
     ensures { λ r. ⌜ r ≡ fits o a b ⌝ }
 {
-    if op::temporal(o) {
-        if op::instant_or_interval(o) {
+    if class::temporal(o) {
+        if class::instant_or_interval(o) {
             return and(sound_shape(a), sound_shape(b));
         }
         return and(interval_shape(a), interval_shape(b));
@@ -472,7 +431,7 @@ fn check_dyadic(s: &[u8], levels: usize) -> One
 fn check_function(s: &[u8], levels: usize) -> One
     ensures { λ r. ⌜ r ≡ seen (readFunction (node levels) (now (s .entry))) ⌝ }
 {
-    if named_at(s, 0) {
+    if charset::named_at(s, 0) {
         let from = 1 + wide(s[0]);
         function_one(check_many(&s[from..], levels))
     } else {
@@ -567,60 +526,12 @@ fn check_many(s: &[u8], levels: usize) -> Items
     Items::ItemsAre { plain, count }
 }
 
-// Where the second and the third name begin.
-pub fn ai_at(s: &[u8]) -> usize
-    ensures { λ r. ⌜ (r ≡ aiAt (now (s .entry))) × (r < 264) ⌝ }
-{
-    CI_AT + 1 + record::byte_at(s, CI_AT)
-}
-
-pub fn cai_at(s: &[u8]) -> usize
-    ensures { λ r. ⌜ (r ≡ caiAt (now (s .entry))) × (r < 520) ⌝ }
-{
-    let ai = ai_at(s);
-    ai + 1 + record::byte_at(s, ai)
-}
-
-// Past the frame: a precision, three names, and nothing more.
-fn settings_body(s: &[u8]) -> bool
-    ensures { λ r. ⌜ r ≡ settingsBody (now (s .entry)) ⌝ }
-{
-    if PRECISION_LIMIT < record::byte_at(s, PRECISION_AT) {
-        return false;
-    }
-    if named_at(s, CI_AT) {
-        if named_at(s, ai_at(s)) {
-            let cai = cai_at(s);
-            if named_at(s, cai) {
-                return cai + 1 + record::byte_at(s, cai) == s.len();
-            }
-        }
-    }
-    false
-}
-
-fn is_settings(s: &[u8]) -> bool
-    ensures { λ r. ⌜ r ≡ isSettings (now (s .entry)) ⌝ }
-{
-    match record::frame_at(s) {
-        Frame::Broken => false,
-        Frame::Whole { kind, end } => {
-            if kind == SETTINGS_KIND {
-                if end == s.len() {
-                    return settings_body(s);
-                }
-            }
-            false
-        }
-    }
-}
-
 // Whether the settings and the tree are accepted; else the refusal that comes first.
 pub fn check(settings: &[u8], tree: &[u8]) -> Checked
     ensures says { λ r. ⌜ r ≡ verdict (accepted (now (settings .entry)) (now (tree .entry))) ⌝ }
     ensures hears { λ r. ⌜ heard r ≡ said (accepted (now (settings .entry)) (now (tree .entry))) ⌝ }
 {
-    if is_settings(settings) {
+    if settings::is_settings(settings) {
         if TREE_LIMIT < tree.len() {
             return Checked::Refused(Refusal::TreeTooLong);
         }

@@ -1,4 +1,5 @@
 pub mod Arms
+pub mod Tests
 pub mod TokenLaws
 pub mod IndexLaws
 pub mod Steps

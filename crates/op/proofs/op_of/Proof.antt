@@ -14,6 +14,7 @@ unfolding opAt
 op-of-spec =
     tie.close
     (tie.spec
+    (λ c. sym (past-all _ (c .match .rest)))
     (λ c. told _ 0 (c .match .keys1))
     (λ c. told _ 1 (c .match .keys2))
     (λ c. told _ 2 (c .match .keys3))
@@ -66,5 +67,4 @@ op-of-spec =
     (λ c. told _ 49 (c .match .keys50))
     (λ c. told _ 50 (c .match .keys51))
     (λ c. told _ 51 (c .match .keys52))
-    (λ c. told _ 52 (c .match .keys53))
-    (λ c. sym (past-all _ (c .match .rest))))
+    (λ c. told _ 52 (c .match .keys53)))

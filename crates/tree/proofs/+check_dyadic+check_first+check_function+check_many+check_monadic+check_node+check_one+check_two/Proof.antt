@@ -36,6 +36,7 @@ use Rattle.tree.proofs.check_two.Reads as check-two
 use Rattle.tree.proofs.check_two.Kinds as check-two-kinds
 use Rattle.tree.proofs.+check_dyadic+check_first+check_function+check_many+check_monadic+check_node+check_one+check_two.Lts-check_two as check-two-lts
 use Rattle.charset.proofs.is_name.Reads as is-name-reads
+use Rattle.charset.proofs.named_at.Reads as named-at-reads
 use Rattle.record.proofs.frame_at.Reads as frame-at-reads
 use Rattle.tree.proofs.and.Reads as and-reads
 use Rattle.tree.proofs.array_one.Reads as array-one-reads
@@ -46,7 +47,6 @@ use Rattle.tree.proofs.function_one.Reads as function-one-reads
 use Rattle.tree.proofs.interval_one.Reads as interval-one-reads
 use Rattle.tree.proofs.leaf_one.Reads as leaf-one-reads
 use Rattle.tree.proofs.monadic_one.Reads as monadic-one-reads
-use Rattle.tree.proofs.named_at.Reads as named-at-reads
 use Rattle.tree.proofs.num_body.Reads as num-body-reads
 use Rattle.tree.proofs.operator_in.Reads as operator-in-reads
 use Rattle.tree.proofs.plain_shape.Reads as plain-shape-reads

@@ -5,7 +5,8 @@ use native.Mathlib.Omega.{arith}
 use borrow.Author.Needs.{needs}
 use lib.ListN.{length, drop}
 use Rattle.prelude.specs.Choice.{some, same}
-use Rattle.keyword.specs.Reserved.{uppers, reserved}
+use Rattle.word.specs.Case.{uppers}
+use Rattle.keyword.specs.Reserved.{reserved}
 use Rattle.keyword.specs.TableWords.{cut}
 use Rattle.keyword.proofs.TableLaws.{at-first, room, found, next, at-last}
 use Rattle.keyword.proofs.table.look_up.Statement.{statement}

@@ -1,7 +1,7 @@
 -- `keyword::table::may_be_reserved` meets its contract: a word whose length or mark its family lacks is no reserved one.
 use mathlib.Core.Path.{refl, sym, ap, _∙_}
 use lib.ListN.{length}
-use Rattle.keyword.specs.CaseLaws.{upper-length}
+use Rattle.word.specs.CaseLaws.{upper-length}
 use Rattle.keyword.specs.TableWords.{hasBit, markOf}
 use Rattle.keyword.proofs.TableLaws.{ruled-out, mark-any-case}
 use borrow.Author.Needs.{needs}

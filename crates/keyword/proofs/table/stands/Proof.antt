@@ -3,7 +3,7 @@ use mathlib.Core.Path.{sym, ap, _∙_}
 use native.Mathlib.Omega.{arith}
 use lib.ListN.{length}
 use Rattle.prelude.specs.Choice.{same}
-use Rattle.keyword.specs.Reserved.{uppers}
+use Rattle.word.specs.Case.{uppers}
 use Rattle.keyword.proofs.TableLaws.{part, other-first}
 use borrow.Author.Needs.{needs}
 use Rattle.keyword.proofs.table.stands.Statement.{statement}

@@ -3,7 +3,7 @@ use native.Mathlib.Omega.{arith}
 use mathlib.Core.Path.{ap, _∙_}
 use Prim.Native.Nat.{ℕ}
 use borrow.Author.Tests.{eq-eqb, ne-eqb}
-use Rattle.tree.specs.Parse.{nameAt}
+use Rattle.charset.specs.Named.{nameAt}
 use borrow.Author.Needs.{needs}
 use Rattle.text.proofs.leaves.name_of.Statement.{statement}
 use Rattle.text.proofs.leaves.name_of.Tie as tie

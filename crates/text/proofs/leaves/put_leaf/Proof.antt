@@ -36,8 +36,8 @@ byte-at-requires c κs = search needs
 put-bool-requires : tie.Need-put-bool-requires
 put-bool-requires c κs = search needs
 
-mantissa-at-requires : tie.Need-mantissa-at-requires
-mantissa-at-requires c κs = search needs
+signed-at-requires : tie.Need-signed-at-requires
+signed-at-requires c κs = search needs
 
 byte-at-requires-2 : tie.Need-byte-at-requires-2
 byte-at-requires-2 c κs = search needs
@@ -98,7 +98,7 @@ same-length-4 c = search needs
 
 returns-4 : tie.Need-returns-4
 unfolding leafText
-returns-4 c = let s = c .before .before .before .before .before .before .before .before .before .before .before .args .s .now in let m = c .before .before .before .before .before .mantissa-at .result in let q : toZ w64 (ofZ w64 m) ≡ mantissa s 6 = toZ-ofZ {w = w64} {z = m} (record { sfits = c .before .before .before .before .before .mantissa-at .ok }) ∙ c .before .before .before .before .before .mantissa-at .ensures in let e : numText (toZ w64 (ofZ w64 m)) (c .before .before .before .before .byte-at2 .result) ≡ numText (mantissa s 6) (getD s 14 0) = cc in rw (sym (c .before .before .before .before .before .before .before .word-at .ensures .0) ∙ c .before .before .before .before .before .before .match .keys4) (lays-of e (lays (c .before .before .put-num .ensures)))
+returns-4 c = let s = c .before .before .before .before .before .before .before .before .before .before .before .args .s .now in let m = c .before .before .before .before .before .signed-at .result in let q : toZ w64 (ofZ w64 m) ≡ mantissa s 6 = toZ-ofZ {w = w64} {z = m} (record { sfits = c .before .before .before .before .before .signed-at .ok }) ∙ c .before .before .before .before .before .signed-at .ensures in let e : numText (toZ w64 (ofZ w64 m)) (c .before .before .before .before .byte-at2 .result) ≡ numText (mantissa s 6) (getD s 14 0) = cc in rw (sym (c .before .before .before .before .before .before .before .word-at .ensures .0) ∙ c .before .before .before .before .before .before .match .keys4) (lays-of e (lays (c .before .before .put-num .ensures)))
 
 same-length-5 : tie.Need-same-length-5
 same-length-5 c = search needs
@@ -145,7 +145,7 @@ put-leaf-spec =
     put-unbounded-requires
     byte-at-requires
     put-bool-requires
-    mantissa-at-requires
+    signed-at-requires
     byte-at-requires-2
     cast-put-num
     put-num-requires

@@ -1,0 +1,4 @@
+-- What is to be believed.
+pub mod Case
+-- Laws.
+pub mod CaseLaws
