@@ -32,7 +32,7 @@ use Rattle.gpkg.specs.declared.ends.Piece.the-variants as pieces
 use Rattle.emit.specs.Emit.{countLimit, ended}
 use Rattle.emit.specs.LaysWords.{Lays}
 use Rattle.gpkg.specs.Text.{text, texts, joined}
-use Rattle.op.specs.Spelling.{word}
+use Rattle.spelling.specs.Spelling.{word}
 use Rattle.gpkg.specs.EndWords.{Is, Are, nodeEnds, slot, endPiece, pieceOf, flatText, temporalOf}
 use Rattle.gpkg.specs.FormWords.{itemsOf, infixText, reducedText, leftBare, rightBare, twin, twinOf, operandOf, beforeText, behindText}
 use Rattle.gpkg.specs.LeafWords.{leafText}
