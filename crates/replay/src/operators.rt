@@ -1,12 +1,12 @@
 // The list that the Rust itself printed of its operators. A case is a line of it: number, name, spelling, class bits.
-// A line is right if the crates `op` and `class` say the same of that number. The name is for the reader alone.
+// A line is right if the crates `op`, `class` and `spelling` say the same of that number. The name is for the reader alone.
 ghost use Prim.Native.Nat.{_≤_};
 ghost use lib.ListN.{length};
 use crate::cases::Turn;
 use crate::lines::say;
 use op::Named;
 use op::Op;
-use op::Spelled;
+use spelling::Spelled;
 
 const TAB: u8 = 9;
 
@@ -82,8 +82,8 @@ fn classes_right(op: Op, bits: &[u8]) -> bool {
 
 // The Rust panics where an operator has no spelling.
 fn spelling_right(number: usize, text: &[u8]) -> bool {
-    let table = op::spellings();
-    let spelled = op::to_sql(&table, number);
+    let table = spelling::spellings();
+    let spelled = spelling::to_sql(&table, number);
     match spelled {
         Spelled::NoSpelling => check::same(text, b"PANIC"),
         Spelled::At(from, to) => check::same(text, &table[from..to]),

@@ -26,7 +26,7 @@ use Rattle.sql.specs.Translators.{translate}
 use Rattle.sql.specs.Template.{fill, templateOf}
 use Rattle.sql.specs.TemplateLaws.{translate-fills, translate-same}
 use Rattle.text.specs.Text.{bare, reducePrecision, monadicText, reduces, endText, startText, stopText, boundText, dyadicText, text, children, texts}
-use Rattle.op.specs.Spelling.{word}
+use Rattle.spelling.specs.Spelling.{word}
 use Rattle.text.specs.EndWords.{slot}
 use Rattle.text.specs.FormWords.{twin, twinOf, underOf, operandOf, itemsOf, beforeText, behindText, collationFlags, reducedText, infixText, leftBare, rightBare}
 use Rattle.text.specs.LeafWords.{nameOf}

@@ -32,7 +32,7 @@ use Rattle.text.specs.declared.ends.Piece.the-variants as pieces
 use Rattle.emit.specs.Emit.{countLimit, ended}
 use Rattle.emit.specs.LaysWords.{Lays}
 use Rattle.text.specs.Text.{text, texts, joined}
-use Rattle.op.specs.Spelling.{word}
+use Rattle.spelling.specs.Spelling.{word}
 use Rattle.text.specs.EndWords.{Is, Are, nodeEnds, slot, endPiece, pieceOf, flatText, temporalOf}
 use Rattle.text.specs.FormWords.{itemsOf, infixText, reducedText, leftBare, rightBare, twin, twinOf, operandOf, beforeText, behindText}
 use Rattle.text.specs.LeafWords.{leafText}

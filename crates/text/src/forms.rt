@@ -10,8 +10,8 @@ ghost use Rattle.prelude.specs.Bytes.{bytes};
 ghost use Rattle.prelude.specs.Choice.{pick, both, negated, between};
 ghost use Rattle.emit.specs.Emit.{countLimit};
 ghost use Rattle.emit.specs.LaysWords.{Lays};
-ghost use Rattle.op.specs.Spelling.{word};
-ghost use Rattle.op.specs.SpellingTable.{Spells};
+ghost use Rattle.spelling.specs.Spelling.{word};
+ghost use Rattle.spelling.specs.SpellingTable.{Spells};
 ghost use Rattle.text.specs.FormWords.{precise, twinOf, infixText, reducedText, beforeText, behindText, collationFlags, leftBare, rightBare};
 ghost use Rattle.tree.specs.Accepted.{settingsIn};
 ghost use Rattle.tree.specs.Tree.{Tree, encode};
@@ -40,10 +40,10 @@ use op::MINUS;
 use op::NEG;
 use op::S_OVERLAPS;
 use op::S_TOUCHES;
-use op::Spelled;
 use record::BODY;
 use record::KIND;
 use settings::PRECISION_AT;
+use spelling::Spelled;
 use tree::AI;
 use tree::ARRAY;
 use tree::CAI;
@@ -55,7 +55,7 @@ fn word_of(words: &[u8; 256], op: usize) -> &[u8]
     requires { ⌜ Spells (now words) ⌝ }
     ensures { λ r. ⌜ ((o : Op) → op ≡ opNumber o → now r ≡ word o) ⌝ }
 {
-    let spelled = op::to_sql(words, op);
+    let spelled = spelling::to_sql(words, op);
     match spelled {
         Spelled::NoSpelling => part(words, 0, 0),
         Spelled::At(from, to) => part(words, from, to),

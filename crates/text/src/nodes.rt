@@ -7,7 +7,7 @@ ghost use lib.ListN.{length};
 ghost use Rattle.emit.specs.Emit.{countLimit};
 ghost use Rattle.emit.specs.LaysWords.{Lays};
 ghost use Rattle.text.specs.Text.{text, texts, joined};
-ghost use Rattle.op.specs.SpellingTable.{Spells};
+ghost use Rattle.spelling.specs.SpellingTable.{Spells};
 ghost use Rattle.text.specs.EndWords.{temporalOf};
 ghost use Rattle.text.specs.NodeWords.{Bound, Node};
 ghost use Rattle.text.specs.RecordWords.{sound, sounds};

@@ -18,7 +18,7 @@ use Rattle.keyword.specs.Reserved as keyword
 use Rattle.keyword.specs.Keywords as keywords
 use Rattle.op.specs.declared.Op.the-variants.{Neg, Or, TAfter, TBefore, TContains, TDisjoint, TDuring, TEquals, TIntersects, TMeets, TMetBy, TOverlaps}
 use Rattle.op.specs.Op as op
-use Rattle.op.specs.Spelling as spelling
+use Rattle.spelling.specs.Spelling as spelling
 use Rattle.tree.specs.Tree.{Tree, Settings, null, unbounded, date, timestamp, id, monadic, dyadic, interval}
 use Rattle.tree.specs.Placed.{operands}
 use Rattle.tree.specs.Tests as trees

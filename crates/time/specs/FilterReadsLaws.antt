@@ -18,7 +18,7 @@ use Rattle.op.specs.declared.Op.{Op}
 use Rattle.op.specs.declared.Op.the-variants.{Neg, And, Or, IsNull, IsNotNull, Eq, Neq, Lt, Gt, Lte, Gte}
 use Rattle.op.specs.Op.{opNumber, operators, oneOf, isTemporal, isNullable, isSpatial, isArray}
 use Rattle.op.specs.OpLaws.{each, every-op}
-use Rattle.op.specs.Spelling.{spelledAs}
+use Rattle.spelling.specs.Spelling.{spelledAs}
 use Rattle.tree.specs.Kinds.{ID, INTERVAL}
 use Rattle.tree.specs.Tree.{Tree, Settings, null, bool, id, monadic, dyadic}
 use Rattle.tree.specs.Placed.{isBetween}

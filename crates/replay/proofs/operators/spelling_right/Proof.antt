@@ -2,7 +2,7 @@
 use mathlib.Core.Path.{subst}
 use native.Mathlib.Omega.{arith}
 use borrow.Author.Needs.{needs}
-use Rattle.op.specs.SpellingTable.{Lies}
+use Rattle.spelling.specs.SpellingTable.{Lies}
 use Rattle.replay.proofs.operators.spelling_right.Statement.{statement}
 use Rattle.replay.proofs.operators.spelling_right.Tie as tie
 

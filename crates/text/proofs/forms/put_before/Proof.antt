@@ -1,7 +1,7 @@
 -- Each branch is a case of the definition.
 use mathlib.Core.Path.{sym, _∙_}
 use Rattle.emit.specs.EmitLaws.{lays, lays-none, lays-of, lays-then}
-use Rattle.op.specs.Spelling.{word}
+use Rattle.spelling.specs.Spelling.{word}
 use Rattle.text.proofs.NodeLaws.{before-nullable, before-sign, before-none}
 use borrow.Author.Needs.{needs}
 use Rattle.text.proofs.forms.put_before.Statement.{statement}

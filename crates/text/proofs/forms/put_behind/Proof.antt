@@ -2,7 +2,7 @@
 use Rattle.emit.specs.EmitLaws.{lays, lays-of, lays-then}
 use Rattle.literal.specs.Literal.{collate}
 use mathlib.Core.Path.{sym, _∙_}
-use Rattle.op.specs.Spelling.{word}
+use Rattle.spelling.specs.Spelling.{word}
 use Rattle.tree.specs.Accepted.{settingsIn}
 use Rattle.text.proofs.NodeLaws.{behind-nullable, behind-sign, behind-collate}
 use borrow.Author.Needs.{needs}

@@ -2,8 +2,8 @@
 use mathlib.Core.Path.{sym, _∙_, subst}
 use native.Mathlib.Omega.{arith}
 use borrow.Author.Needs.{needs}
-use Rattle.op.specs.SpellingTable.{Lies}
-use Rattle.op.specs.SpellingLaws.{stands-word, no-word}
+use Rattle.spelling.specs.SpellingTable.{Lies}
+use Rattle.spelling.specs.SpellingLaws.{stands-word, no-word}
 use Rattle.text.proofs.forms.word_of.Statement.{statement}
 use Rattle.text.proofs.forms.word_of.Tie as tie
 

@@ -1,14 +1,14 @@
--- `op::to_sql` meets its contract: a test of the code for each of the definition.
+-- `spelling::to_sql` meets its contract: a test of the code for each of the definition.
 use Prim.Native.Nat.{ℕ, _+_, _≤_, _<_}
 use mathlib.Core.Path.{_≡_, sym}
 use mathlib.Core.List.{List}
 use lib.ListN.{getD}
 use borrow.Author.Needs.{needs}
 use borrow.Author.Tests.{lt-ltb, le-ltb, le-leb, lt-leb}
-use Rattle.op.specs.declared.Spelled.the-variants.{NoSpelling, At}
-use Rattle.op.specs.SpellingTable.{placeIn, Lies}
-use Rattle.op.proofs.to_sql.Statement.{statement}
-use Rattle.op.proofs.to_sql.Tie as tie
+use Rattle.spelling.specs.declared.Spelled.the-variants.{NoSpelling, At}
+use Rattle.spelling.specs.SpellingTable.{placeIn, Lies}
+use Rattle.spelling.proofs.to_sql.Statement.{statement}
+use Rattle.spelling.proofs.to_sql.Tie as tie
 
 nowhere : (table : List ℕ) (n from to : ℕ) → n ≤ 52 → from ≡ getD table n 0 → to ≡ getD table (n + 1) 0 → to ≤ from → NoSpelling ≡ placeIn table n
 unfolding placeIn

@@ -7,12 +7,12 @@ use lib.Dec.{T}
 use lib.ListN.{take, drop}
 use Rattle.prelude.specs.Choice.{same}
 use Rattle.prelude.specs.ChoiceLaws.{same-true}
 use Rattle.op.specs.declared.Op.{Op}
-use Rattle.op.specs.declared.Spelled.the-variants.{NoSpelling, At}
+use Rattle.spelling.specs.declared.Spelled.the-variants.{NoSpelling, At}
 use Rattle.op.specs.Op.{opNumber, operators}
 use Rattle.op.specs.OpLaws.{every-op, each}
-use Rattle.op.specs.Spelling.{Spelling, noSpelling, spelled, spelling, spelledAs, word}
-use Rattle.op.specs.SpellingTable.{placeIn, standing, Spells}
+use Rattle.spelling.specs.Spelling.{Spelling, noSpelling, spelled, spelling, spelledAs, word}
+use Rattle.spelling.specs.SpellingTable.{placeIn, standing, Spells}
 
 -- two spellings are the same
 abbrev pub sameSpelling : Spelling → Spelling → Bool

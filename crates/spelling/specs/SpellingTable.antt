@@ -1,4 +1,4 @@
--- The spellings as a table of bytes, for the contracts of `op::spellings` and `op::to_sql`: at n the table says where the spelling of the operator
+-- The spellings as a table of bytes, for the contracts of `spelling::spellings` and `spelling::to_sql`: at n the table says where the spelling of the operator
 -- with the number n begins, and at n + 1 where it ends.
 use Prim.Native.Nat.{ℕ, _+_, _-_, _<_}
 use mathlib.Core.Path.{_≡_}
@@ -6,11 +6,11 @@ use mathlib.Core.List.{List}
 use lib.Dec.{leb, ltb}
 use lib.ListN.{getD, take, drop}
 use Rattle.prelude.specs.Choice.{pick}
 use Rattle.op.specs.declared.Op.{Op}
-use Rattle.op.specs.declared.Spelled.{Spelled}
-use Rattle.op.specs.declared.Spelled.the-variants.{NoSpelling, At}
+use Rattle.spelling.specs.declared.Spelled.{Spelled}
+use Rattle.spelling.specs.declared.Spelled.the-variants.{NoSpelling, At}
 use Rattle.op.specs.Op.{opNumber}
-use Rattle.op.specs.Spelling.{Spelling, noSpelling, spelled, spelling}
+use Rattle.spelling.specs.Spelling.{Spelling, noSpelling, spelled, spelling}
 
 -- where a number's spelling stands: nowhere above 52, and nowhere if it ends no later than it begins
 unfoldable pub placeIn : List ℕ → ℕ → Spelled
