@@ -82,15 +82,18 @@ pub fn put_three(a: &[u8], b: &[u8], c: &[u8], out: &mut [u8], at: usize) -> usi
     if COUNT_LIMIT <= at {
         return COUNT_LIMIT;
     }
-    // Up to the limit each sum fits.
+    // Each sum fits, as none is longer than the limit: most lengths are known where the texts are named, and their tests drop out.
+    if COUNT_LIMIT < a.len() {
+        return COUNT_LIMIT;
+    }
+    if COUNT_LIMIT < b.len() {
+        return COUNT_LIMIT;
+    }
+    if COUNT_LIMIT < c.len() {
+        return COUNT_LIMIT;
+    }
     let second = at + a.len();
-    if COUNT_LIMIT < second {
-        return COUNT_LIMIT;
-    }
     let third = second + b.len();
-    if COUNT_LIMIT < third {
-        return COUNT_LIMIT;
-    }
     let last = third + c.len();
     if COUNT_LIMIT < last {
         return COUNT_LIMIT;

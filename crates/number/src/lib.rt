@@ -32,11 +32,12 @@ fn decimal_len(n: usize) -> usize
 {
     let mut m = n;
     let mut w = 1;
-    while 10 <= m {
-        m = m / 10;
-        w += 1;
+    // Two digits a turn: most numbers are short.
+    while 100 <= m {
+        m = m / 100;
+        w += 2;
     }
-    w
+    if 10 <= m { w + 1 } else { w }
 }
 
 // Writes n in base ten.

@@ -13,7 +13,7 @@ use Rattle.sql.specs.TemplateLaws.{fill-append, spelt-append, digit-part, end-f
 use lib.Dec.{T, eqb, ltb, lt→ltb}
 use borrow.Author.Tests.{ltb-true, ltb-false, eqb-true, eq-eqb, ne-eqb}
 use Rattle.text.proofs.NodeLaws.{is-between, is-spatial, is-temporal, apart, infix-parts, monadic-parts, between-parts, spatial-parts}
-use Rattle.prelude.specs.Choice.{pick, both, negated, between, all}
+use Rattle.prelude.specs.Choice.{pick, both, either, negated, between, all}
 use Rattle.prelude.specs.Bytes.{bytes}
 use Rattle.prelude.specs.Table.{both-left, both-right}
 use Rattle.record.specs.Record.{le16, recordOf}
@@ -22,7 +22,7 @@ use Rattle.op.specs.Op.{opNumber}
 use Rattle.op.specs.OpLaws.{number-below}
 use Rattle.literal.specs.declared.Writing.{Writing}
 use Rattle.tree.specs.Tree.{Tree, Trees, Settings, encode, encodes, counted, null, unbounded, bool, num, str, date, timestamp, spatial, id, monadic, dyadic, function, array, interval, none, _then_, kindOf}
-use Rattle.literal.specs.Literal.{nullText}
+use Rattle.literal.specs.Literal.{nullText, dateText}
 use Rattle.sql.specs.Template.{fill, spelt, parts, partOf, wordsOf}
 use Rattle.sql.specs.declared.End as end
 use Rattle.sql.specs.declared.End.the-variants.{Column, Instant, Other, Open, Null}
@@ -422,6 +422,25 @@ listed writing g s kind from to (interval x y) e f k a b p q = absurd (let w = k
 
 pub leaf-step : (writing : Writing) (g : Settings) (s : List ℕ) (t : Tree) (k : ℕ) → s ≡ encode t → sound t ≡ true → k ≡ le16 s 4 → k < 9 → leafText writing g s ≡ text writing g t
 leaf-step writing g s t k e f q h = ap (leafText writing g) e ∙ leaf-text writing g t (let w = kind-whole s t e in let v : kindOf t < 9 = omega arith in v) f
+
+-- an end that is a date
+pub date-step : (writing : Writing) (g : Settings) (s : List ℕ) (t : Tree) (k : ℕ) → s ≡ encode t → sound t ≡ true → k ≡ le16 s 4 → k ≡ 5 → dateText (le16 s 6) (getD s 8 0) (getD s 9 0) ≡ text writing g t
+unfolding leafText
+date-step writing g s t k e f q h = dated (sym q ∙ h) ∙ leaf-step writing g s t k e f q (omega arith)
+  where
+    dated : le16 s 4 ≡ 5 → dateText (le16 s 6) (getD s 8 0) (getD s 9 0) ≡ leafText writing g s
+    dated d = rw d refl
+
+-- an operator that is neither, and one of the two that is not the first
+pub not-either : (a b : Bool) → negated (either a b) ≡ true → (a ≡ false) × (b ≡ false)
+not-either false false e = (refl, refl)
+not-either false true e = let z : false ≡ true = e in (cc, cc)
+not-either true b e = let z : false ≡ true = e in (cc, cc)
+
+pub or-else : (a b : Bool) → negated (either a b) ≡ false → a ≡ false → b ≡ true
+or-else true b e h = let z : true ≡ false = h in cc
+or-else false true e h = refl
+or-else false false e h = let z : true ≡ false = e in cc
 
 pub high-text : (writing : Writing) (g : Settings) (s : List ℕ) (t : Tree) (k : ℕ) → s ≡ encode t → k ≡ le16 s 4 → 12 < k → [] ≡ text writing g t
 unfolding text

@@ -136,8 +136,8 @@ pub(crate) fn temporal_ends(s: &[u8], m: usize) -> [End; 4]
 pub(crate) fn is_temporal(kind: usize, op: usize) -> bool
     ensures { λ r. ⌜ r ≡ temporalOf kind op ⌝ }
 {
-    if kind == DYADIC {
-        return within(T_AFTER, op, T_STARTS);
+    if within(T_AFTER, op, T_STARTS) {
+        return kind == DYADIC;
     }
     false
 }

@@ -7,7 +7,7 @@ ghost use Rattle.record.specs.Record.{le16};
 ghost use lib.ListN.{length, getD};
 ghost use lib.Dec.{eqb};
 ghost use Rattle.prelude.specs.Bytes.{bytes};
-ghost use Rattle.prelude.specs.Choice.{pick, both, negated, between};
+ghost use Rattle.prelude.specs.Choice.{pick, both, negated, between, either};
 ghost use Rattle.emit.specs.Emit.{countLimit};
 ghost use Rattle.emit.specs.LaysWords.{Lays};
 ghost use Rattle.spelling.specs.Spelling.{word};
@@ -19,7 +19,7 @@ ghost use Rattle.op.specs.declared.Op.{Op};
 ghost use Rattle.op.specs.Op.{opNumber};
 ghost use Rattle.tree.specs.Limits.{treeLimit};
 ghost use Rattle.tree.specs.Kinds.{ARRAY};
-ghost use Rattle.text.specs.ClassWords.{reducedNumber, signNumber};
+ghost use Rattle.text.specs.ClassWords.{betweenNumber, reducedNumber, signNumber, spatialNumber};
 use crate::leaves::name_of;
 use crate::records::NAME;
 use crate::records::OPERAND;
@@ -32,12 +32,15 @@ use op::A_EQUALS;
 use op::A_OVERLAPS;
 use op::ACCENT_I;
 use op::CASE_I;
-use op::IS_LIKE;
+use op::IS_BETWEEN;
+use op::IS_NOT_BETWEEN;
 use op::IS_NOT_LIKE;
 use op::IS_NOT_NULL;
 use op::IS_NULL;
 use op::MINUS;
 use op::NEG;
+use op::S_CONTAINS;
+use op::S_INTERSECTS;
 use op::S_OVERLAPS;
 use op::S_TOUCHES;
 use record::BODY;
@@ -94,12 +97,35 @@ pub(crate) fn put_infix(
     emit::put_three(b") ", word, b" (", out, at)
 }
 
+// An operator of two sides stands between them unless it is spatial or BETWEEN. Most stand before the spatial ones in the enum.
+pub(crate) fn is_infix(op: usize) -> bool
+    ensures { λ r. ⌜ r ≡ negated (either (spatialNumber op) (betweenNumber op)) ⌝ }
+{
+    if op < S_INTERSECTS {
+        return true;
+    }
+    if op <= S_CONTAINS {
+        return false;
+    }
+    if op < IS_BETWEEN {
+        return true;
+    }
+    if op <= IS_NOT_BETWEEN {
+        return false;
+    }
+    true
+}
+
 // The left side is written without brackets.
 pub(crate) fn is_left_bare(op: usize, x: &[u8]) -> bool
     requires { ⌜ length (now x) ≤ treeLimit ⌝ }
     ensures { λ r. ⌜ ((t : Tree) → now (x .entry) ≡ encode t → r ≡ leftBare op t) ⌝ }
 {
-    if within(A_EQUALS, op, A_OVERLAPS) {
+    // Most operators stand before these in the enum.
+    if op < A_EQUALS {
+        return is_literal_or_id(x);
+    }
+    if op <= A_OVERLAPS {
         return true;
     }
     is_literal_or_id(x)
@@ -110,10 +136,14 @@ pub(crate) fn is_right_bare(op: usize, y: &[u8]) -> bool
     requires { ⌜ length (now y) ≤ treeLimit ⌝ }
     ensures { λ r. ⌜ ((u : Tree) → now (y .entry) ≡ encode u → r ≡ rightBare op u) ⌝ }
 {
-    if within(A_EQUALS, op, A_OVERLAPS) {
+    // Most operators stand before these in the enum.
+    if op < A_EQUALS {
+        return is_literal_or_id(y);
+    }
+    if op <= A_OVERLAPS {
         return true;
     }
-    if within(IS_LIKE, op, IS_NOT_LIKE) {
+    if op <= IS_NOT_LIKE {
         return false;
     }
     is_literal_or_id(y)

@@ -82,7 +82,7 @@ fn qstr_to_sql(s: &[u8], set: &[u8], out: &mut [u8], at: usize) -> usize
     literal::put_collate(name_of(flags, set), out, end)
 }
 
-fn put_date(s: &[u8], out: &mut [u8], at: usize) -> usize
+pub(crate) fn put_date(s: &[u8], out: &mut [u8], at: usize) -> usize
     ensures { λ r. ⌜ Lays countLimit at (dateText (le16 (now (s .entry)) 6) (getD (now (s .entry)) 8 0) (getD (now (s .entry)) 9 0)) (now (out .entry)) (now (out .exit)) r ⌝ }
 {
     let y = record::word_at(s, BODY);

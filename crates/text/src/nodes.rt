@@ -24,6 +24,7 @@ use crate::ends::put_flat;
 use crate::ends::template_of;
 use crate::ends::temporal_ends;
 use crate::forms::bounds_at;
+use crate::forms::is_infix;
 use crate::forms::is_left_bare;
 use crate::forms::is_right_bare;
 use crate::forms::is_twin;
@@ -36,6 +37,7 @@ use crate::forms::put_infix;
 use crate::forms::put_reduced;
 use crate::forms::put_word;
 use crate::forms::reduce_precision;
+use crate::leaves::put_date;
 use crate::leaves::put_leaf;
 use crate::records::NAME;
 use crate::records::OPERAND;
@@ -50,13 +52,12 @@ use crate::records::rest;
 use crate::records::within;
 use emit::COUNT_LIMIT;
 use literal::Writing;
-use op::IS_BETWEEN;
-use op::IS_NOT_BETWEEN;
 use op::S_CONTAINS;
 use op::S_INTERSECTS;
 use record::BODY;
 use record::KIND;
 use tree::ARRAY;
+use tree::DATE;
 use tree::FUNCTION;
 use tree::ID;
 use tree::MONADIC;
@@ -222,13 +223,31 @@ fn write_others(
     if kind == MONADIC {
         return write_monadic(s, op, set, writing, words, out, at);
     }
-    if within(IS_BETWEEN, op, IS_NOT_BETWEEN) {
-        return write_between(s, op, m, set, writing, words, out, at);
+    if is_infix(op) {
+        return write_infix(s, op, m, set, writing, words, out, at);
     }
     if within(S_INTERSECTS, op, S_CONTAINS) {
         return write_spatial(s, op, m, set, writing, words, out, at);
     }
-    write_infix(s, op, m, set, writing, words, out, at)
+    write_between(s, op, m, set, writing, words, out, at)
+}
+
+// An end that is no column. Most are dates, which are written where they are met, without a visit to the node.
+fn write_end(
+    s: &[u8],
+    set: &[u8],
+    writing: Writing,
+    words: &[u8; 256],
+    out: &mut [u8],
+    at: usize,
+) -> usize
+    requires { ⌜ (length (now s) ≤ treeLimit) × Spells (now words) ⌝ }
+    ensures { λ r. ⌜ ((t : Tree) → now (s .entry) ≡ encode t → sound t ≡ true → Lays countLimit at (text writing (settingsIn (now (set .entry))) t) (now (out .entry)) (now (out .exit)) r) ⌝ }
+{
+    if record::word_at(s, KIND) == DATE {
+        return put_date(s, out, at);
+    }
+    to_sql_impl(s, set, writing, words, out, at)
 }
 
 // The text of a node with operands: of a temporal one its template filled.
@@ -269,7 +288,7 @@ fn write_operands(
                 if !inside(a, z, s.len()) {
                     return here;
                 }
-                here = to_sql_impl(&s[a..z], set, writing, words, out, here);
+                here = write_end(&s[a..z], set, writing, words, out, here);
             }
             Piece::Name(a, z) => {
                 if !inside(a, z, s.len()) {

@@ -1,4 +1,4 @@
--- The cycle of the node writer, its forms with operands and the item-list writer. The measure is five times the length of the record, and a rank: a bound, the forms, all but the temporal ones, operands, node, items.
+-- The cycle of the node writer, its forms with operands and the item-list writer. The measure is five times the length of the record, and a rank: a bound, the forms, all but the temporal ones, operands, node, items and ends.
 use borrow.Author.Needs.{needs}
 use native.Mathlib.Omega.{arith}
 use mathlib.Core.Path.{_≡_, refl, sym, _∙_}
@@ -15,39 +15,43 @@ use Rattle.emit.specs.LaysWords.{Lays}
 use Rattle.text.specs.EndWords.{slot, nodeEnds}
 use Rattle.text.specs.RecordWords.{sound, sounds}
 use Rattle.tree.specs.Accepted.{settingsIn}
-use Rattle.text.proofs.WalkLaws.{Come, come-start, come-next, come-end, leaf-step, high-text, six, fourteen, listed, node-of, node-piece, name-piece, plain-step, node-step, name-step, monadic-node, monadic-step, from-bounds, all-filled, items-fall, items-short, infix-step, two-node, temporal-node, node-ends, not-temporal, bounds-range, bound-null, bound-item, between-step, spatial-step}
+use Rattle.text.proofs.WalkLaws.{Come, come-start, come-next, come-end, leaf-step, date-step, high-text, six, fourteen, listed, node-of, node-piece, name-piece, plain-step, node-step, name-step, monadic-node, monadic-step, from-bounds, all-filled, items-fall, items-short, infix-step, two-node, not-either, or-else, temporal-node, node-ends, not-temporal, bounds-range, bound-null, bound-item, between-step, spatial-step}
 use borrow.Author.Tests.{not-true, not-false}
 use lib.Dec.{eqb}
+use Rattle.text.specs.ClassWords.{betweenNumber, spatialNumber}
 use Prim.Native.Nat.{ℕ, _<_}
 use borrow.Fn.Kinds.{In}
 use borrow.Fn.PlainCycle.{Measures, is, falls, and}
 use Rattle.text.proofs.nodes.to_sql_impl.Reads as to-sql-impl
 use Rattle.text.proofs.nodes.to_sql_impl.Kinds as to-sql-impl-kinds
-use Rattle.text.proofs.nodes.+to_sql_impl+write_between+write_bound+write_infix+write_items+write_monadic+write_operands+write_others+write_spatial.Lts-to_sql_impl as to-sql-impl-lts
+use Rattle.text.proofs.nodes.+to_sql_impl+write_between+write_bound+write_end+write_infix+write_items+write_monadic+write_operands+write_others+write_spatial.Lts-to_sql_impl as to-sql-impl-lts
 use Rattle.text.proofs.nodes.write_between.Reads as write-between
 use Rattle.text.proofs.nodes.write_between.Kinds as write-between-kinds
-use Rattle.text.proofs.nodes.+to_sql_impl+write_between+write_bound+write_infix+write_items+write_monadic+write_operands+write_others+write_spatial.Lts-write_between as write-between-lts
+use Rattle.text.proofs.nodes.+to_sql_impl+write_between+write_bound+write_end+write_infix+write_items+write_monadic+write_operands+write_others+write_spatial.Lts-write_between as write-between-lts
 use Rattle.text.proofs.nodes.write_bound.Reads as write-bound
 use Rattle.text.proofs.nodes.write_bound.Kinds as write-bound-kinds
-use Rattle.text.proofs.nodes.+to_sql_impl+write_between+write_bound+write_infix+write_items+write_monadic+write_operands+write_others+write_spatial.Lts-write_bound as write-bound-lts
+use Rattle.text.proofs.nodes.+to_sql_impl+write_between+write_bound+write_end+write_infix+write_items+write_monadic+write_operands+write_others+write_spatial.Lts-write_bound as write-bound-lts
+use Rattle.text.proofs.nodes.write_end.Reads as write-end
+use Rattle.text.proofs.nodes.write_end.Kinds as write-end-kinds
+use Rattle.text.proofs.nodes.+to_sql_impl+write_between+write_bound+write_end+write_infix+write_items+write_monadic+write_operands+write_others+write_spatial.Lts-write_end as write-end-lts
 use Rattle.text.proofs.nodes.write_infix.Reads as write-infix
 use Rattle.text.proofs.nodes.write_infix.Kinds as write-infix-kinds
-use Rattle.text.proofs.nodes.+to_sql_impl+write_between+write_bound+write_infix+write_items+write_monadic+write_operands+write_others+write_spatial.Lts-write_infix as write-infix-lts
+use Rattle.text.proofs.nodes.+to_sql_impl+write_between+write_bound+write_end+write_infix+write_items+write_monadic+write_operands+write_others+write_spatial.Lts-write_infix as write-infix-lts
 use Rattle.text.proofs.nodes.write_items.Reads as write-items
 use Rattle.text.proofs.nodes.write_items.Kinds as write-items-kinds
-use Rattle.text.proofs.nodes.+to_sql_impl+write_between+write_bound+write_infix+write_items+write_monadic+write_operands+write_others+write_spatial.Lts-write_items as write-items-lts
+use Rattle.text.proofs.nodes.+to_sql_impl+write_between+write_bound+write_end+write_infix+write_items+write_monadic+write_operands+write_others+write_spatial.Lts-write_items as write-items-lts
 use Rattle.text.proofs.nodes.write_monadic.Reads as write-monadic
 use Rattle.text.proofs.nodes.write_monadic.Kinds as write-monadic-kinds
-use Rattle.text.proofs.nodes.+to_sql_impl+write_between+write_bound+write_infix+write_items+write_monadic+write_operands+write_others+write_spatial.Lts-write_monadic as write-monadic-lts
+use Rattle.text.proofs.nodes.+to_sql_impl+write_between+write_bound+write_end+write_infix+write_items+write_monadic+write_operands+write_others+write_spatial.Lts-write_monadic as write-monadic-lts
 use Rattle.text.proofs.nodes.write_operands.Reads as write-operands
 use Rattle.text.proofs.nodes.write_operands.Kinds as write-operands-kinds
-use Rattle.text.proofs.nodes.+to_sql_impl+write_between+write_bound+write_infix+write_items+write_monadic+write_operands+write_others+write_spatial.Lts-write_operands as write-operands-lts
+use Rattle.text.proofs.nodes.+to_sql_impl+write_between+write_bound+write_end+write_infix+write_items+write_monadic+write_operands+write_others+write_spatial.Lts-write_operands as write-operands-lts
 use Rattle.text.proofs.nodes.write_others.Reads as write-others
 use Rattle.text.proofs.nodes.write_others.Kinds as write-others-kinds
-use Rattle.text.proofs.nodes.+to_sql_impl+write_between+write_bound+write_infix+write_items+write_monadic+write_operands+write_others+write_spatial.Lts-write_others as write-others-lts
+use Rattle.text.proofs.nodes.+to_sql_impl+write_between+write_bound+write_end+write_infix+write_items+write_monadic+write_operands+write_others+write_spatial.Lts-write_others as write-others-lts
 use Rattle.text.proofs.nodes.write_spatial.Reads as write-spatial
 use Rattle.text.proofs.nodes.write_spatial.Kinds as write-spatial-kinds
-use Rattle.text.proofs.nodes.+to_sql_impl+write_between+write_bound+write_infix+write_items+write_monadic+write_operands+write_others+write_spatial.Lts-write_spatial as write-spatial-lts
+use Rattle.text.proofs.nodes.+to_sql_impl+write_between+write_bound+write_end+write_infix+write_items+write_monadic+write_operands+write_others+write_spatial.Lts-write_spatial as write-spatial-lts
 use Rattle.emit.proofs.ended.Reads as ended-reads
 use Rattle.emit.proofs.put.Reads as put-reads
 use Rattle.emit.proofs.put_either.Reads as put-either-reads
@@ -57,6 +61,7 @@ use Rattle.text.proofs.ends.put_flat.Reads as put-flat-reads
 use Rattle.text.proofs.ends.template_of.Reads as template-of-reads
 use Rattle.text.proofs.ends.temporal_ends.Reads as temporal-ends-reads
 use Rattle.text.proofs.forms.bounds_at.Reads as bounds-at-reads
+use Rattle.text.proofs.forms.is_infix.Reads as is-infix-reads
 use Rattle.text.proofs.forms.is_left_bare.Reads as is-left-bare-reads
 use Rattle.text.proofs.forms.is_right_bare.Reads as is-right-bare-reads
 use Rattle.text.proofs.forms.is_twin.Reads as is-twin-reads
@@ -69,6 +74,7 @@ use Rattle.text.proofs.forms.put_infix.Reads as put-infix-reads
 use Rattle.text.proofs.forms.put_reduced.Reads as put-reduced-reads
 use Rattle.text.proofs.forms.put_word.Reads as put-word-reads
 use Rattle.text.proofs.forms.reduce_precision.Reads as reduce-precision-reads
+use Rattle.text.proofs.leaves.put_date.Reads as put-date-reads
 use Rattle.text.proofs.leaves.put_leaf.Reads as put-leaf-reads
 use Rattle.text.proofs.records.end_of.Reads as end-of-reads
 use Rattle.text.proofs.records.inside.Reads as inside-reads
@@ -78,10 +84,10 @@ use Rattle.text.proofs.records.least.Reads as least-reads
 use Rattle.text.proofs.records.rest.Reads as rest-reads
 use Rattle.text.proofs.records.within.Reads as within-reads
 use Rattle.record.proofs.word_at.Reads as word-at-reads
-use Rattle.text.proofs.nodes.+to_sql_impl+write_between+write_bound+write_infix+write_items+write_monadic+write_operands+write_others+write_spatial.{
+use Rattle.text.proofs.nodes.+to_sql_impl+write_between+write_bound+write_end+write_infix+write_items+write_monadic+write_operands+write_others+write_spatial.{
   statement,
 }
-use Rattle.text.proofs.nodes.+to_sql_impl+write_between+write_bound+write_infix+write_items+write_monadic+write_operands+write_others+write_spatial.Tie.{
+use Rattle.text.proofs.nodes.+to_sql_impl+write_between+write_bound+write_end+write_infix+write_items+write_monadic+write_operands+write_others+write_spatial.Tie.{
   close,
 }
 
@@ -93,6 +99,9 @@ abbrev μ-write-between : Measures 4 write-between-kinds.ps ℕ
 
 abbrev μ-write-bound : Measures 4 write-bound-kinds.ps ℕ
 μ-write-bound κs a = 5 * length (a .0 .now)
+
+abbrev μ-write-end : Measures 4 write-end-kinds.ps ℕ
+μ-write-end κs a = 5 * length (a .0 .now) + 5
 
 abbrev μ-write-infix : Measures 4 write-infix-kinds.ps ℕ
 μ-write-infix κs a = 5 * length (a .0 .now) + 1
@@ -139,6 +148,13 @@ write-bound-at t =
 abbrev write-bound-below : ℕ → In 4 write-bound-kinds.ps
 write-bound-below t =
     and 4 write-bound-kinds.ps (falls 4 write-bound-kinds.ps _<_ μ-write-bound t) write-bound.Pre
+
+abbrev write-end-at : ℕ → In 4 write-end-kinds.ps
+write-end-at t = and 4 write-end-kinds.ps (is 4 write-end-kinds.ps μ-write-end t) write-end.Pre
+
+abbrev write-end-below : ℕ → In 4 write-end-kinds.ps
+write-end-below t =
+    and 4 write-end-kinds.ps (falls 4 write-end-kinds.ps _<_ μ-write-end t) write-end.Pre
 
 abbrev write-infix-at : ℕ → In 4 write-infix-kinds.ps
 write-infix-at t =
@@ -414,6 +430,37 @@ write-bound-same-length-2 t c = search needs
 write-bound-returns-2 : (t : ℕ) → write-bound-lts.Need-returns-2 (write-bound-calls t) (write-bound-at t) write-bound.Post
 write-bound-returns-2 t c = λ x b. let w = bound-item (c .before .before .before .before .before .if1 .left) b in c .before .before .to-sql-impl .ensures x (w .0) (w .1)
 
+abbrev write-end-calls : ℕ → write-end-lts.Claims
+write-end-calls t = (
+  word-at-reads.Asked,
+  word-at-reads.Learnt,
+  put-date-reads.Asked,
+  put-date-reads.Learnt,
+  to-sql-impl-below t,
+  to-sql-impl.Post,
+)
+
+write-end-word-at-requires : (t : ℕ) → write-end-lts.Need-word-at-requires (write-end-calls t) (write-end-at t) write-end.Post
+write-end-word-at-requires t c κs = search needs
+
+write-end-put-date-requires : (t : ℕ) → write-end-lts.Need-put-date-requires (write-end-calls t) (write-end-at t) write-end.Post
+write-end-put-date-requires t c κs = search needs
+
+write-end-same-length : (t : ℕ) → write-end-lts.Need-same-length (write-end-calls t) (write-end-at t) write-end.Post
+write-end-same-length t c = search needs
+
+write-end-returns : (t : ℕ) → write-end-lts.Need-returns (write-end-calls t) (write-end-at t) write-end.Post
+write-end-returns t c = λ t e f. lays-of (date-step (c .before .before .before .before .before .before .before .before .before .args .writing) (settingsIn (c .before .before .before .before .before .before .before .before .before .args .set .now)) (c .before .before .before .before .before .before .before .before .before .args .s .now) t (c .before .before .before .before .before .word-at .result) e f (c .before .before .before .before .before .word-at .ensures .0) (c .before .before .before .before .if1 .taken)) (c .before .before .put-date .ensures)
+
+write-end-to-sql-impl-requires : (t : ℕ) → write-end-lts.Need-to-sql-impl-requires (write-end-calls t) (write-end-at t) write-end.Post
+write-end-to-sql-impl-requires t c κs = let m = c .before .before .before .before .before .before .pre in (omega arith, (m .1 .0, m .1 .1))
+
+write-end-same-length-2 : (t : ℕ) → write-end-lts.Need-same-length-2 (write-end-calls t) (write-end-at t) write-end.Post
+write-end-same-length-2 t c = search needs
+
+write-end-returns-2 : (t : ℕ) → write-end-lts.Need-returns-2 (write-end-calls t) (write-end-at t) write-end.Post
+write-end-returns-2 t c = λ t e f. c .before .before .to-sql-impl .ensures t e f
+
 abbrev write-infix-calls : ℕ → write-infix-lts.Claims
 write-infix-calls t = (
   is-left-bare-reads.Asked,
@@ -506,6 +553,12 @@ write-infix-same-length t c = search needs
 write-infix-returns : (t : ℕ) → write-infix-lts.Need-returns (write-infix-calls t) (write-infix-at t) write-infix.Post
 write-infix-returns t c = λ t nd ht hs hw. infix-step (c .before .before .before .before .before .before .before .before .before .before .before .before .before .before .before .before .before .before .before .before .before .before .before .before .before .before .before .before .before .before .before .before .before .args .writing) (settingsIn (c .before .before .before .before .before .before .before .before .before .before .before .before .before .before .before .before .before .before .before .before .before .before .before .before .before .before .before .before .before .before .before .before .before .args .set .now)) nd ht hs hw (c .before .before .before .before .before .before .before .before .before .before .before .before .before .before .before .before .before .before .before .before .before .before .before .before .before .before .before .before .is-left-bare .ensures) (c .before .before .before .before .before .before .before .before .before .before .before .before .before .before .before .before .before .before .before .before .before .before .before .before .before .before .is-right-bare .ensures) (lays (c .before .before .before .before .before .before .before .before .before .before .before .before .before .before .before .before .before .before .before .before .before .before .put-either .ensures)) (c .before .before .before .before .before .before .before .before .before .before .before .before .before .before .before .before .before .to-sql-impl .ensures) (c .before .before .before .before .before .before .before .before .before .before .before .before .before .put-infix .ensures) (c .before .before .before .before .before .before .before .before .to-sql-impl2 .ensures) (lays (c .before .before .put-either2 .ensures))
 
+abbrev write-items-Inv-loop : write-items-lts.InvT-loop
+write-items-Inv-loop s set writing words out₀ at here₀ p₀ out here p = (length out ≡ length out₀) × ((ts : Trees) → s ≡ encodes ts → sounds ts ≡ true → Come writing (settingsIn set) s at out₀ ts p here out)
+
+abbrev write-items-μ-loop : write-items-lts.MeasureT-loop
+write-items-μ-loop s set writing words out₀ at here₀ p₀ out here p = length s - p
+
 abbrev write-items-calls : ℕ → write-items-lts.Claims
 write-items-calls t = (
   ended-reads.Asked,
@@ -517,12 +570,6 @@ write-items-calls t = (
   to-sql-impl-below t,
   to-sql-impl.Post,
 )
-
-abbrev write-items-Inv-loop : write-items-lts.InvT-loop
-write-items-Inv-loop s set writing words out₀ at here₀ p₀ out here p = (length out ≡ length out₀) × ((ts : Trees) → s ≡ encodes ts → sounds ts ≡ true → Come writing (settingsIn set) s at out₀ ts p here out)
-
-abbrev write-items-μ-loop : write-items-lts.MeasureT-loop
-write-items-μ-loop s set writing words out₀ at here₀ p₀ out here p = length s - p
 
 write-items-ended-requires : (t : ℕ) → write-items-lts.Need-ended-requires (write-items-calls t) (write-items-at t) write-items.Post write-items-Inv-loop write-items-μ-loop
 write-items-ended-requires t c κs = search needs
@@ -629,6 +676,12 @@ write-monadic-same-length t c = search needs
 write-monadic-returns : (t : ℕ) → write-monadic-lts.Need-returns (write-monadic-calls t) (write-monadic-at t) write-monadic.Post
 write-monadic-returns t c = λ m t nd. monadic-step (c .before .before .before .before .before .before .before .before .before .before .before .before .before .before .before .before .before .before .before .before .before .before .args .writing) (settingsIn (c .before .before .before .before .before .before .before .before .before .before .before .before .before .before .before .before .before .before .before .before .before .before .args .set .now)) nd (c .before .before .before .before .before .before .before .before .before .before .before .before .before .before .before .before .before .is-literal-or-id .ensures) (c .before .before .before .before .before .before .before .before .before .before .before .before .before .before .before .before .word-at .ensures .0) (c .before .before .before .before .before .before .before .before .before .before .before .before .before .before .before .word-at2 .ensures .0) (c .before .before .before .before .before .before .before .before .before .before .before .before .before .before .is-twin .ensures) (c .before .before .before .before .before .before .before .before .before .before .before .before .before .operand-from .ensures) (c .before .before .before .before .before .before .before .before .before .before .before .put-before .ensures) (c .before .before .before .before .before .before .to-sql-impl .ensures) (c .before .before .put-behind .ensures)
 
+abbrev write-operands-Inv-loop : write-operands-lts.InvT-loop
+write-operands-Inv-loop s set writing words out₀ at kind op m e codes n here₀ k₀ out here k = (length out ≡ length out₀) × (k ≤ n) × ((t : Tree) → s ≡ encode t → sound t ≡ true → 9 ≤ le16 s 4 → le16 s 4 < 11 → Lays countLimit at (fill (slot writing (settingsIn set) (nodeEnds t)) (spelt (take k (take n codes)))) out₀ out here)
+
+abbrev write-operands-μ-loop : write-operands-lts.MeasureT-loop
+write-operands-μ-loop s set writing words out₀ at kind op m e codes n here₀ k₀ out here k = n - k
+
 abbrev write-operands-calls : ℕ → write-operands-lts.Claims
 write-operands-calls t = (
   word-at-reads.Asked,
@@ -651,19 +704,13 @@ write-operands-calls t = (
   put-flat-reads.Learnt,
   inside-reads.Asked,
   inside-reads.Learnt,
-  to-sql-impl-below t,
-  to-sql-impl.Post,
+  write-end-below t,
+  write-end.Post,
   rest-reads.Asked,
   rest-reads.Learnt,
   put-reads.Asked,
   put-reads.Learnt,
 )
-
-abbrev write-operands-Inv-loop : write-operands-lts.InvT-loop
-write-operands-Inv-loop s set writing words out₀ at kind op m e codes n here₀ k₀ out here k = (length out ≡ length out₀) × (k ≤ n) × ((t : Tree) → s ≡ encode t → sound t ≡ true → 9 ≤ le16 s 4 → le16 s 4 < 11 → Lays countLimit at (fill (slot writing (settingsIn set) (nodeEnds t)) (spelt (take k (take n codes)))) out₀ out here)
-
-abbrev write-operands-μ-loop : write-operands-lts.MeasureT-loop
-write-operands-μ-loop s set writing words out₀ at kind op m e codes n here₀ k₀ out here k = n - k
 
 write-operands-word-at-requires : (t : ℕ) → write-operands-lts.Need-word-at-requires (write-operands-calls t) (write-operands-at t) write-operands.Post write-operands-Inv-loop write-operands-μ-loop
 write-operands-word-at-requires t c κs = search needs
@@ -741,23 +788,23 @@ write-operands-same-length-2 t c = search needs
 write-operands-returns-2 : (t : ℕ) → write-operands-lts.Need-returns-2 (write-operands-calls t) (write-operands-at t) write-operands.Post write-operands-Inv-loop write-operands-μ-loop
 write-operands-returns-2 t c = λ t e f a b. let tn = temporal-node (sym (c .before .before .before .before .before .before .before .before .before .before .before .before .before .before .is-temporal .ensures) ∙ not-false (c .before .before .before .before .before .before .before .before .before .before .before .before .before .before .is-temporal .result) (c .before .before .before .before .before .before .before .before .before .before .before .before .before .if1 .left)) (node-of (c .before .before .before .before .before .before .before .before .before .before .before .before .before .before .before .before .before .before .before .before .before .args .s .now) (c .before .before .before .before .before .before .before .before .before .before .before .before .before .before .before .before .before .word-at .result) (c .before .before .before .before .before .before .before .before .before .before .before .before .before .before .before .before .word-at2 .result) (c .before .before .before .before .before .before .before .before .before .before .before .before .before .before .before .end-of .result) t e f (c .before .before .before .before .before .before .before .before .before .before .before .before .before .before .before .before .before .word-at .ensures .0) (c .before .before .before .before .before .before .before .before .before .before .before .before .before .before .before .before .word-at2 .ensures .0) (c .before .before .before .before .before .before .before .before .before .before .before .before .before .before .before .end-of .ensures) (let q = c .before .before .before .before .before .before .before .before .before .before .before .before .before .before .before .before .before .word-at .ensures .0 in omega arith) (let q = c .before .before .before .before .before .before .before .before .before .before .before .before .before .before .before .before .before .word-at .ensures .0 in omega arith)) in let ar = node-ends (tn .0) _ (c .before .before .before .before .before .before .before .before .before .before .before .before .temporal-ends .ensures) in let pc = sym (c .before .before .before .before .before .piece-of .ensures) ∙ c .before .before .before .piece2 .given .1 in let ch = node-piece (c .before .before .before .before .before .before .before .before .before .before .before .before .before .before .before .before .before .before .before .before .before .args .writing) (settingsIn (c .before .before .before .before .before .before .before .before .before .before .before .before .before .before .before .before .before .before .before .before .before .args .set .now)) ar _ _ _ pc in absurd (c .before .inside .ensures .1 (not-true (c .before .inside .result) (c .if2 .taken)) (ch .inside .starts) (ch .inside .order) (ch .inside .ends))
 
-write-operands-sub-to-sql-impl : (t : ℕ) → write-operands-lts.Need-sub-to-sql-impl (write-operands-calls t) (write-operands-at t) write-operands.Post write-operands-Inv-loop write-operands-μ-loop
-write-operands-sub-to-sql-impl t c = let h = c .before .inside .ensures .0 (not-false (c .before .inside .result) (c .if2 .left)) in h .1
+write-operands-sub-write-end : (t : ℕ) → write-operands-lts.Need-sub-write-end (write-operands-calls t) (write-operands-at t) write-operands.Post write-operands-Inv-loop write-operands-μ-loop
+write-operands-sub-write-end t c = let h = c .before .inside .ensures .0 (not-false (c .before .inside .result) (c .if2 .left)) in h .1
 
-write-operands-part-to-sql-impl-start : (t : ℕ) → write-operands-lts.Need-part-to-sql-impl-start (write-operands-calls t) (write-operands-at t) write-operands.Post write-operands-Inv-loop write-operands-μ-loop
-write-operands-part-to-sql-impl-start t c = let h = c .before .inside .ensures .0 (not-false (c .before .inside .result) (c .if2 .left)) in h .1
+write-operands-part-write-end-start : (t : ℕ) → write-operands-lts.Need-part-write-end-start (write-operands-calls t) (write-operands-at t) write-operands.Post write-operands-Inv-loop write-operands-μ-loop
+write-operands-part-write-end-start t c = let h = c .before .inside .ensures .0 (not-false (c .before .inside .result) (c .if2 .left)) in h .1
 
-write-operands-part-to-sql-impl-end : (t : ℕ) → write-operands-lts.Need-part-to-sql-impl-end (write-operands-calls t) (write-operands-at t) write-operands.Post write-operands-Inv-loop write-operands-μ-loop
-write-operands-part-to-sql-impl-end t c = let h = c .before .inside .ensures .0 (not-false (c .before .inside .result) (c .if2 .left)) in h .2
+write-operands-part-write-end-end : (t : ℕ) → write-operands-lts.Need-part-write-end-end (write-operands-calls t) (write-operands-at t) write-operands.Post write-operands-Inv-loop write-operands-μ-loop
+write-operands-part-write-end-end t c = let h = c .before .inside .ensures .0 (not-false (c .before .inside .result) (c .if2 .left)) in h .2
 
-write-operands-to-sql-impl-requires : (t : ℕ) → write-operands-lts.Need-to-sql-impl-requires (write-operands-calls t) (write-operands-at t) write-operands.Post write-operands-Inv-loop write-operands-μ-loop
-write-operands-to-sql-impl-requires t c κs = let h = c .before .before .before .inside .ensures .0 (not-false (c .before .before .before .inside .result) (c .before .before .if2 .left)) in let m = c .before .before .before .before .before .before .before .before .before .before .before .before .before .before .before .before .before .before .before .before .before .before .before .pre in (simp (length-take, length-drop) (omega arith), (simp (length-take, length-drop) (omega arith), m .1 .2))
+write-operands-write-end-requires : (t : ℕ) → write-operands-lts.Need-write-end-requires (write-operands-calls t) (write-operands-at t) write-operands.Post write-operands-Inv-loop write-operands-μ-loop
+write-operands-write-end-requires t c κs = let h = c .before .before .before .inside .ensures .0 (not-false (c .before .before .before .inside .result) (c .before .before .if2 .left)) in let m = c .before .before .before .before .before .before .before .before .before .before .before .before .before .before .before .before .before .before .before .before .before .before .before .pre in (simp (length-take, length-drop) (omega arith), (simp (length-take, length-drop) (omega arith), m .1 .2))
 
 write-operands-loop-less-2 : (t : ℕ) → write-operands-lts.Need-loop-less-2 (write-operands-calls t) (write-operands-at t) write-operands.Post write-operands-Inv-loop write-operands-μ-loop
 write-operands-loop-less-2 t c = search needs
 
 write-operands-loop-again-2 : (t : ℕ) → write-operands-lts.Need-loop-again-2 (write-operands-calls t) (write-operands-at t) write-operands.Post write-operands-Inv-loop write-operands-μ-loop
-write-operands-loop-again-2 t c = (c .before .before .to-sql-impl .kept .1 .1 .1 .1 .0 ∙ c .before .before .before .before .before .before .before .before .before .before .before .before .before .loop .inv .0, omega arith, λ t e f a b. let tn = temporal-node (sym (c .before .before .before .before .before .before .before .before .before .before .before .before .before .before .before .before .before .before .before .is-temporal .ensures) ∙ not-false (c .before .before .before .before .before .before .before .before .before .before .before .before .before .before .before .before .before .before .before .is-temporal .result) (c .before .before .before .before .before .before .before .before .before .before .before .before .before .before .before .before .before .before .if1 .left)) (node-of (c .before .before .before .before .before .before .before .before .before .before .before .before .before .before .before .before .before .before .before .before .before .before .before .before .before .before .args .s .now) (c .before .before .before .before .before .before .before .before .before .before .before .before .before .before .before .before .before .before .before .before .before .before .word-at .result) (c .before .before .before .before .before .before .before .before .before .before .before .before .before .before .before .before .before .before .before .before .before .word-at2 .result) (c .before .before .before .before .before .before .before .before .before .before .before .before .before .before .before .before .before .before .before .before .end-of .result) t e f (c .before .before .before .before .before .before .before .before .before .before .before .before .before .before .before .before .before .before .before .before .before .before .word-at .ensures .0) (c .before .before .before .before .before .before .before .before .before .before .before .before .before .before .before .before .before .before .before .before .before .word-at2 .ensures .0) (c .before .before .before .before .before .before .before .before .before .before .before .before .before .before .before .before .before .before .before .before .end-of .ensures) (let q = c .before .before .before .before .before .before .before .before .before .before .before .before .before .before .before .before .before .before .before .before .before .before .word-at .ensures .0 in omega arith) (let q = c .before .before .before .before .before .before .before .before .before .before .before .before .before .before .before .before .before .before .before .before .before .before .word-at .ensures .0 in omega arith)) in let ar = node-ends (tn .0) _ (c .before .before .before .before .before .before .before .before .before .before .before .before .before .before .before .before .before .temporal-ends .ensures) in let hb = c .before .before .before .before .before .before .before .before .before .before .before .before .before .before .before .before .template-of .ensures .1 in let lb : length (c .before .before .before .before .before .before .before .before .before .before .before .before .before .before .before .before .template-of .result .codes) ≡ 24 = search (needs, c .before .before .before .before .before .before .before .before .before .before .before .before .before .before .before .before .template-of .ok) in let pc = sym (c .before .before .before .before .before .before .before .before .before .before .piece-of .ensures) ∙ c .before .before .before .before .before .before .before .before .piece2 .given .1 in let ch = node-piece (c .before .before .before .before .before .before .before .before .before .before .before .before .before .before .before .before .before .before .before .before .before .before .before .before .before .before .args .writing) (settingsIn (c .before .before .before .before .before .before .before .before .before .before .before .before .before .before .before .before .before .before .before .before .before .before .before .before .before .before .args .set .now)) ar _ _ _ pc in node-step (c .before .before .before .before .before .before .before .before .before .before .before .before .before .before .before .before .before .before .before .before .before .before .before .before .before .before .args .writing) (settingsIn (c .before .before .before .before .before .before .before .before .before .before .before .before .before .before .before .before .before .before .before .before .before .before .before .before .before .before .args .set .now)) ar (c .before .before .before .before .before .before .before .before .before .before .before .before .before .before .before .before .template-of .result .codes) (c .before .before .before .before .before .before .before .before .before .before .before .before .before .before .before .before .template-of .result .len) (c .before .before .before .before .before .before .before .before .before .before .before .before .before .loop .k) (omega arith) (omega arith) (c .before .before .before .before .before .before .before .before .before .before .before .before .before .loop .inv .2 t e f a b) _ _ pc (c .before .before .to-sql-impl .ensures (ch .x) (ch .stands) (ch .fit)))
+write-operands-loop-again-2 t c = (c .before .before .write-end .kept .1 .1 .1 .1 .0 ∙ c .before .before .before .before .before .before .before .before .before .before .before .before .before .loop .inv .0, omega arith, λ t e f a b. let tn = temporal-node (sym (c .before .before .before .before .before .before .before .before .before .before .before .before .before .before .before .before .before .before .before .is-temporal .ensures) ∙ not-false (c .before .before .before .before .before .before .before .before .before .before .before .before .before .before .before .before .before .before .before .is-temporal .result) (c .before .before .before .before .before .before .before .before .before .before .before .before .before .before .before .before .before .before .if1 .left)) (node-of (c .before .before .before .before .before .before .before .before .before .before .before .before .before .before .before .before .before .before .before .before .before .before .before .before .before .before .args .s .now) (c .before .before .before .before .before .before .before .before .before .before .before .before .before .before .before .before .before .before .before .before .before .before .word-at .result) (c .before .before .before .before .before .before .before .before .before .before .before .before .before .before .before .before .before .before .before .before .before .word-at2 .result) (c .before .before .before .before .before .before .before .before .before .before .before .before .before .before .before .before .before .before .before .before .end-of .result) t e f (c .before .before .before .before .before .before .before .before .before .before .before .before .before .before .before .before .before .before .before .before .before .before .word-at .ensures .0) (c .before .before .before .before .before .before .before .before .before .before .before .before .before .before .before .before .before .before .before .before .before .word-at2 .ensures .0) (c .before .before .before .before .before .before .before .before .before .before .before .before .before .before .before .before .before .before .before .before .end-of .ensures) (let q = c .before .before .before .before .before .before .before .before .before .before .before .before .before .before .before .before .before .before .before .before .before .before .word-at .ensures .0 in omega arith) (let q = c .before .before .before .before .before .before .before .before .before .before .before .before .before .before .before .before .before .before .before .before .before .before .word-at .ensures .0 in omega arith)) in let ar = node-ends (tn .0) _ (c .before .before .before .before .before .before .before .before .before .before .before .before .before .before .before .before .before .temporal-ends .ensures) in let hb = c .before .before .before .before .before .before .before .before .before .before .before .before .before .before .before .before .template-of .ensures .1 in let lb : length (c .before .before .before .before .before .before .before .before .before .before .before .before .before .before .before .before .template-of .result .codes) ≡ 24 = search (needs, c .before .before .before .before .before .before .before .before .before .before .before .before .before .before .before .before .template-of .ok) in let pc = sym (c .before .before .before .before .before .before .before .before .before .before .piece-of .ensures) ∙ c .before .before .before .before .before .before .before .before .piece2 .given .1 in let ch = node-piece (c .before .before .before .before .before .before .before .before .before .before .before .before .before .before .before .before .before .before .before .before .before .before .before .before .before .before .args .writing) (settingsIn (c .before .before .before .before .before .before .before .before .before .before .before .before .before .before .before .before .before .before .before .before .before .before .before .before .before .before .args .set .now)) ar _ _ _ pc in node-step (c .before .before .before .before .before .before .before .before .before .before .before .before .before .before .before .before .before .before .before .before .before .before .before .before .before .before .args .writing) (settingsIn (c .before .before .before .before .before .before .before .before .before .before .before .before .before .before .before .before .before .before .before .before .before .before .before .before .before .before .args .set .now)) ar (c .before .before .before .before .before .before .before .before .before .before .before .before .before .before .before .before .template-of .result .codes) (c .before .before .before .before .before .before .before .before .before .before .before .before .before .before .before .before .template-of .result .len) (c .before .before .before .before .before .before .before .before .before .before .before .before .before .loop .k) (omega arith) (omega arith) (c .before .before .before .before .before .before .before .before .before .before .before .before .before .loop .inv .2 t e f a b) _ _ pc (c .before .before .write-end .ensures (ch .x) (ch .stands) (ch .fit)))
 
 write-operands-enum-known-piece-3 : (t : ℕ) → write-operands-lts.Need-enum-known-piece-3 (write-operands-calls t) (write-operands-at t) write-operands.Post write-operands-Inv-loop write-operands-μ-loop
 write-operands-enum-known-piece-3 t c = search needs
@@ -802,14 +849,16 @@ abbrev write-others-calls : ℕ → write-others-lts.Claims
 write-others-calls t = (
   write-monadic-below t,
   write-monadic.Post,
-  within-reads.Asked,
-  within-reads.Learnt,
-  write-between-below t,
-  write-between.Post,
-  write-spatial-below t,
-  write-spatial.Post,
+  is-infix-reads.Asked,
+  is-infix-reads.Learnt,
   write-infix-below t,
   write-infix.Post,
+  within-reads.Asked,
+  within-reads.Learnt,
+  write-spatial-below t,
+  write-spatial.Post,
+  write-between-below t,
+  write-between.Post,
 )
 
 write-others-write-monadic-requires : (t : ℕ) → write-others-lts.Need-write-monadic-requires (write-others-calls t) (write-others-at t) write-others.Post
@@ -821,20 +870,20 @@ write-others-same-length t c = search needs
 write-others-returns : (t : ℕ) → write-others-lts.Need-returns (write-others-calls t) (write-others-at t) write-others.Post
 write-others-returns t c = λ t nd nt. c .before .before .write-monadic .ensures (c .before .before .before .before .before .before .before .before .args .m) t (monadic-node (c .before .before .before .before .if1 .taken) nd)
 
-write-others-within-requires : (t : ℕ) → write-others-lts.Need-within-requires (write-others-calls t) (write-others-at t) write-others.Post
-write-others-within-requires t c κs = search needs
+write-others-is-infix-requires : (t : ℕ) → write-others-lts.Need-is-infix-requires (write-others-calls t) (write-others-at t) write-others.Post
+write-others-is-infix-requires t c κs = search needs
 
-write-others-write-between-requires : (t : ℕ) → write-others-lts.Need-write-between-requires (write-others-calls t) (write-others-at t) write-others.Post
-write-others-write-between-requires t c κs = let m = c .before .before .before .before .before .before .before .pre in (omega arith, (m .1 .0, m .1 .2, m .1 .3, m .1 .4))
+write-others-write-infix-requires : (t : ℕ) → write-others-lts.Need-write-infix-requires (write-others-calls t) (write-others-at t) write-others.Post
+write-others-write-infix-requires t c κs = let m = c .before .before .before .before .before .before .before .pre in (omega arith, (m .1 .0, m .1 .2, m .1 .3, m .1 .4))
 
 write-others-same-length-2 : (t : ℕ) → write-others-lts.Need-same-length-2 (write-others-calls t) (write-others-at t) write-others.Post
 write-others-same-length-2 t c = search needs
 
 write-others-returns-2 : (t : ℕ) → write-others-lts.Need-returns-2 (write-others-calls t) (write-others-at t) write-others.Post
-write-others-returns-2 t c = λ t nd nt. c .before .before .write-between .ensures t (two-node (c .before .before .before .before .before .before .if1 .left) nd .1) (sym (c .before .before .before .before .before .within .ensures) ∙ c .before .before .before .before .if2 .taken)
+write-others-returns-2 t c = λ t nd nt. let w = two-node (c .before .before .before .before .before .before .if1 .left) nd in let n = not-either (spatialNumber (c .before .before .before .before .before .before .before .before .before .before .args .op)) (betweenNumber (c .before .before .before .before .before .before .before .before .before .before .args .op)) (sym (c .before .before .before .before .before .is-infix .ensures) ∙ c .before .before .before .before .if2 .taken) in c .before .before .write-infix .ensures t (w .1) (not-temporal (c .before .before .before .before .before .before .before .before .before .before .args .kind) (c .before .before .before .before .before .before .before .before .before .before .args .op) (w .0) nt) (n .0) (n .1)
 
-write-others-within-requires-2 : (t : ℕ) → write-others-lts.Need-within-requires-2 (write-others-calls t) (write-others-at t) write-others.Post
-write-others-within-requires-2 t c κs = search needs
+write-others-within-requires : (t : ℕ) → write-others-lts.Need-within-requires (write-others-calls t) (write-others-at t) write-others.Post
+write-others-within-requires t c κs = search needs
 
 write-others-write-spatial-requires : (t : ℕ) → write-others-lts.Need-write-spatial-requires (write-others-calls t) (write-others-at t) write-others.Post
 write-others-write-spatial-requires t c κs = let m = c .before .before .before .before .before .before .before .before .before .pre in (omega arith, (m .1 .0, m .1 .2, m .1 .3, m .1 .4))
@@ -843,16 +892,16 @@ write-others-same-length-3 : (t : ℕ) → write-others-lts.Need-same-length-3 (
 write-others-same-length-3 t c = search needs
 
 write-others-returns-3 : (t : ℕ) → write-others-lts.Need-returns-3 (write-others-calls t) (write-others-at t) write-others.Post
-write-others-returns-3 t c = λ t nd nt. c .before .before .write-spatial .ensures t (two-node (c .before .before .before .before .before .before .before .before .if1 .left) nd .1) (sym (c .before .before .before .before .before .within2 .ensures) ∙ c .before .before .before .before .if3 .taken)
+write-others-returns-3 t c = λ t nd nt. c .before .before .write-spatial .ensures t (two-node (c .before .before .before .before .before .before .before .before .if1 .left) nd .1) (sym (c .before .before .before .before .before .within .ensures) ∙ c .before .before .before .before .if3 .taken)
 
-write-others-write-infix-requires : (t : ℕ) → write-others-lts.Need-write-infix-requires (write-others-calls t) (write-others-at t) write-others.Post
-write-others-write-infix-requires t c κs = let m = c .before .before .before .before .before .before .before .before .before .pre in (omega arith, (m .1 .0, m .1 .2, m .1 .3, m .1 .4))
+write-others-write-between-requires : (t : ℕ) → write-others-lts.Need-write-between-requires (write-others-calls t) (write-others-at t) write-others.Post
+write-others-write-between-requires t c κs = let m = c .before .before .before .before .before .before .before .before .before .pre in (omega arith, (m .1 .0, m .1 .2, m .1 .3, m .1 .4))
 
 write-others-same-length-4 : (t : ℕ) → write-others-lts.Need-same-length-4 (write-others-calls t) (write-others-at t) write-others.Post
 write-others-same-length-4 t c = search needs
 
 write-others-returns-4 : (t : ℕ) → write-others-lts.Need-returns-4 (write-others-calls t) (write-others-at t) write-others.Post
-write-others-returns-4 t c = λ t nd nt. let w = two-node (c .before .before .before .before .before .before .before .before .if1 .left) nd in c .before .before .write-infix .ensures t (w .1) (not-temporal (c .before .before .before .before .before .before .before .before .before .before .before .before .args .kind) (c .before .before .before .before .before .before .before .before .before .before .before .before .args .op) (w .0) nt) (sym (c .before .before .before .before .before .within2 .ensures) ∙ c .before .before .before .before .if3 .left) (sym (c .before .before .before .before .before .before .before .within .ensures) ∙ c .before .before .before .before .before .before .if2 .left)
+write-others-returns-4 t c = λ t nd nt. c .before .before .write-between .ensures t (two-node (c .before .before .before .before .before .before .before .before .if1 .left) nd .1) (or-else (spatialNumber (c .before .before .before .before .before .before .before .before .before .before .before .before .args .op)) (betweenNumber (c .before .before .before .before .before .before .before .before .before .before .before .before .args .op)) (sym (c .before .before .before .before .before .before .before .is-infix .ensures) ∙ c .before .before .before .before .before .before .if2 .left) (sym (c .before .before .before .before .before .within .ensures) ∙ c .before .before .before .before .if3 .left))
 
 abbrev write-spatial-calls : ℕ → write-spatial-lts.Claims
 write-spatial-calls t = (
@@ -971,13 +1020,14 @@ write-spatial-same-length t c = c .before .before .put .kept .1 .0 ∙ c .before
 write-spatial-returns : (t : ℕ) → write-spatial-lts.Need-returns (write-spatial-calls t) (write-spatial-at t) write-spatial.Post
 write-spatial-returns t c = λ t nd h. spatial-step (c .before .before .before .before .before .before .before .before .before .before .before .before .before .before .before .before .before .before .before .before .before .before .before .before .before .before .before .before .before .before .before .before .before .before .before .before .before .before .before .before .before .before .before .before .before .before .before .before .args .writing) (settingsIn (c .before .before .before .before .before .before .before .before .before .before .before .before .before .before .before .before .before .before .before .before .before .before .before .before .before .before .before .before .before .before .before .before .before .before .before .before .before .before .before .before .before .before .before .before .before .before .before .before .args .set .now)) nd h (c .before .before .before .before .before .before .before .before .before .before .before .before .before .before .before .before .before .before .before .before .before .before .before .before .before .before .before .before .before .before .before .before .before .before .before .before .before .before .before .before .before .before .before .is-kind .ensures) (c .before .before .before .before .before .before .before .before .before .before .before .before .before .before .before .before .before .before .before .before .before .before .before .before .before .before .before .before .before .before .before .before .before .before .before .before .before .before .before .before .before .is-kind2 .ensures) (c .before .before .before .before .before .before .before .before .before .before .before .before .before .before .before .before .before .before .before .before .before .before .before .before .before .before .before .before .before .before .before .before .before .before .before .before .before .before .before .before .reduce-precision .ensures) (c .before .before .before .before .before .before .before .before .before .before .before .before .before .before .before .before .before .before .before .before .before .before .before .before .before .before .before .before .before .before .before .before .before .before .before .before .before .before .before .reduce-precision2 .ensures) (c .before .before .before .before .before .before .before .before .before .before .before .before .before .before .before .before .before .before .before .before .before .before .before .before .before .before .before .before .before .before .before .before .before .before .before .before .before .put-word .ensures) (lays (c .before .before .before .before .before .before .before .before .before .before .before .before .before .before .before .before .before .before .before .before .before .before .before .before .before .before .before .before .before .before .before .put-either .ensures)) (c .before .before .before .before .before .before .before .before .before .before .before .before .before .before .before .before .before .before .before .before .before .before .before .before .before .before .to-sql-impl .ensures) (c .before .before .before .before .before .before .before .before .before .before .before .before .before .before .before .before .before .before .before .before .before .before .put-reduced .ensures) (lays (c .before .before .before .before .before .before .before .before .before .before .before .before .before .before .before .before .put-either2 .ensures)) (c .before .before .before .before .before .before .before .before .before .before .before .to-sql-impl2 .ensures) (c .before .before .before .before .before .before .before .put-reduced2 .ensures) (lays (c .before .before .put .ensures))
 
-pub +to-sql-impl+write-between+write-bound+write-infix+write-items+write-monadic+write-operands+write-others+write-spatial-spec :
+pub +to-sql-impl+write-between+write-bound+write-end+write-infix+write-items+write-monadic+write-operands+write-others+write-spatial-spec :
     {M : Type 1} → statement M
-+to-sql-impl+write-between+write-bound+write-infix+write-items+write-monadic+write-operands+write-others+write-spatial-spec =
++to-sql-impl+write-between+write-bound+write-end+write-infix+write-items+write-monadic+write-operands+write-others+write-spatial-spec =
     close
     μ-to-sql-impl
     μ-write-between
     μ-write-bound
+    μ-write-end
     μ-write-infix
     μ-write-items
     μ-write-monadic
@@ -1047,6 +1097,16 @@ pub +to-sql-impl+write-between+write-bound+write-infix+write-items+write-monadic
     (write-bound-to-sql-impl-requires t)
     (write-bound-same-length-2 t)
     (write-bound-returns-2 t))
+    (λ t. write-end-lts.spec (write-end-calls t)
+    (write-end-at t)
+    write-end.Post
+    (write-end-word-at-requires t)
+    (write-end-put-date-requires t)
+    (write-end-same-length t)
+    (write-end-returns t)
+    (write-end-to-sql-impl-requires t)
+    (write-end-same-length-2 t)
+    (write-end-returns-2 t))
     (λ t. write-infix-lts.spec (write-infix-calls t)
     (write-infix-at t)
     write-infix.Post
@@ -1141,10 +1201,10 @@ pub +to-sql-impl+write-between+write-bound+write-infix+write-items+write-monadic
     (write-operands-inside-requires t)
     (write-operands-same-length-2 t)
     (write-operands-returns-2 t)
-    (write-operands-sub-to-sql-impl t)
-    (write-operands-part-to-sql-impl-start t)
-    (write-operands-part-to-sql-impl-end t)
-    (write-operands-to-sql-impl-requires t)
+    (write-operands-sub-write-end t)
+    (write-operands-part-write-end-start t)
+    (write-operands-part-write-end-end t)
+    (write-operands-write-end-requires t)
     (write-operands-loop-less-2 t)
     (write-operands-loop-again-2 t)
     (write-operands-enum-known-piece-3 t)
@@ -1166,15 +1226,15 @@ pub +to-sql-impl+write-between+write-bound+write-infix+write-items+write-monadic
     (write-others-write-monadic-requires t)
     (write-others-same-length t)
     (write-others-returns t)
-    (write-others-within-requires t)
-    (write-others-write-between-requires t)
+    (write-others-is-infix-requires t)
+    (write-others-write-infix-requires t)
     (write-others-same-length-2 t)
     (write-others-returns-2 t)
-    (write-others-within-requires-2 t)
+    (write-others-within-requires t)
     (write-others-write-spatial-requires t)
     (write-others-same-length-3 t)
     (write-others-returns-3 t)
-    (write-others-write-infix-requires t)
+    (write-others-write-between-requires t)
     (write-others-same-length-4 t)
     (write-others-returns-4 t))
     λ t. write-spatial-lts.spec (write-spatial-calls t)
