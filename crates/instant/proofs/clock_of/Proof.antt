@@ -1,4 +1,4 @@
--- `literal::clock_of` meets its contract: the bytes of the array are those of the text, digit by digit.
+-- `instant::clock_of` meets its contract: the bytes of the array are those of the text, digit by digit.
 use borrow.Author.Needs.{needs}
 use Rattle.literal.specs.Literal.{low, clock}
 use Rattle.instant.proofs.clock_of.Statement.{statement}

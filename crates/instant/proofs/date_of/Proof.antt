@@ -1,4 +1,4 @@
--- `literal::date_of` meets its contract: the bytes of the array are those of the text, digit by digit.
+-- `instant::date_of` meets its contract: the bytes of the array are those of the text, digit by digit.
 use borrow.Author.Needs.{needs}
 use Rattle.literal.specs.Literal.{low, date}
 use Rattle.instant.proofs.date_of.Statement.{statement}

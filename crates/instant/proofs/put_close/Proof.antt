@@ -1,4 +1,4 @@
--- `literal::put_close` meets its contract: each writing has its own text, which is put.
+-- `instant::put_close` meets its contract: each writing has its own text, which is put.
 use borrow.Author.Needs.{needs}
 use Rattle.literal.specs.Literal.{afterSeconds}
 use Rattle.instant.proofs.put_close.Statement.{statement}

@@ -1,4 +1,4 @@
--- `literal::put_date` meets its contract: the ten bytes in quotes.
+-- `instant::put_date` meets its contract: the ten bytes in quotes.
 use mathlib.Core.Path.{ap}
 use borrow.Author.Needs.{needs}
 use Rattle.literal.specs.Literal.{quoted}

@@ -1,4 +1,4 @@
--- `literal::put_timestamp` meets its contract: a quotation mark, the date, a T, the time of day, what the writing has after it, a quotation mark.
+-- `instant::put_timestamp` meets its contract: a quotation mark, the date, a T, the time of day, what the writing has after it, a quotation mark.
 use native.Mathlib.Omega.{arith}
 use mathlib.Core.Path.{_≡_, ap, sym, _∙_}
 use mathlib.Core.List.{List, _++_, append-assoc}

@@ -1,4 +1,4 @@
--- `literal::put_unbounded` meets its contract: the bytes are those of the text.
+-- `instant::put_unbounded` meets its contract: the bytes are those of the text.
 use borrow.Author.Needs.{needs}
 use Rattle.literal.specs.Literal.{quoted, openEnd}
 use Rattle.instant.proofs.put_unbounded.Statement.{statement}

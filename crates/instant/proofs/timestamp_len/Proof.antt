@@ -1,4 +1,4 @@
--- `literal::timestamp_len` meets its contract: 21 bytes up to the seconds, and what each writing has after them.
+-- `instant::timestamp_len` meets its contract: 21 bytes up to the seconds, and what each writing has after them.
 use borrow.Author.Needs.{needs}
 use mathlib.Core.Path.{refl}
 use Rattle.literal.specs.Literal.{afterSeconds}

@@ -1,4 +1,4 @@
--- `literal::decimal_len` meets its contract: the digits counted so far and those of what is left are one more than all.
+-- `number::decimal_len` meets its contract: the digits counted so far and those of what is left are one more than all.
 use borrow.Author.Needs.{needs}
 use native.Mathlib.Omega.{arith}
 use mathlib.Core.Path.{_≡_, refl, ap, _∙_}

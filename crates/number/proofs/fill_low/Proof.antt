@@ -1,4 +1,4 @@
--- `literal::fill_low` meets its contract: the digits of what is left, then those written, are the digits of n.
+-- `number::fill_low` meets its contract: the digits of what is left, then those written, are the digits of n.
 use borrow.Author.Needs.{needs}
 use native.Mathlib.Omega.{arith}
 use mathlib.Core.Path.{_≡_, refl, ap, sym, _∙_}

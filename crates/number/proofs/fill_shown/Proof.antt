@@ -1,4 +1,4 @@
--- `literal::fill_shown` meets its contract: the fraction, the point and the whole part fill the three parts of the text.
+-- `number::fill_shown` meets its contract: the fraction, the point and the whole part fill the three parts of the text.
 use native.Mathlib.Omega.{arith}
 use mathlib.Core.Path.{_≡_, refl, ap, sym, _∙_}
 use mathlib.Core.List.{List, _++_}

@@ -1,4 +1,4 @@
--- `literal::magnitude` meets its contract: below zero m is -(n + 1), and -1 - m is n; else m is n.
+-- `number::magnitude` meets its contract: below zero m is -(n + 1), and -1 - m is n; else m is n.
 use native.Mathlib.Omega.{arith}
 use lib.IntN.{natAbs}
 use mir.Syntax.{w64}

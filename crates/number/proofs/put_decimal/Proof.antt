@@ -1,4 +1,4 @@
--- `literal::put_decimal` meets its contract: the part that is lent is as long as the digits of n, and comes back filled with them.
+-- `number::put_decimal` meets its contract: the part that is lent is as long as the digits of n, and comes back filled with them.
 use native.Mathlib.Omega.{arith}
 use mathlib.Core.Path.{_≡_, ap, sym, _∙_}
 use mathlib.Core.List.{List}

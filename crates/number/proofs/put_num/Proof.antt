@@ -1,4 +1,4 @@
--- `literal::put_num` meets its contract: the sign, then the part after it that is filled with the shortened number.
+-- `number::put_num` meets its contract: the sign, then the part after it that is filled with the shortened number.
 use native.Mathlib.Omega.{arith}
 use mathlib.Core.Path.{_≡_, ap, sym, _∙_}
 use mathlib.Core.List.{List, _++_}

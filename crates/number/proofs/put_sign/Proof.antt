@@ -1,4 +1,4 @@
--- `literal::put_sign` meets its contract: the minus where m is below zero, else nothing.
+-- `number::put_sign` meets its contract: the minus where m is below zero, else nothing.
 use mathlib.Core.Path.{ap, sym}
 use borrow.Author.Needs.{needs}
 use Rattle.literal.specs.Literal.{sign}

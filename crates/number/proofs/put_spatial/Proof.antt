@@ -1,4 +1,4 @@
--- `literal::put_spatial` meets its contract: five texts, each after the one before.
+-- `number::put_spatial` meets its contract: five texts, each after the one before.
 use native.Mathlib.Omega.{arith}
 use mathlib.Core.Path.{_≡_}
 use mathlib.Core.List.{append-assoc}

@@ -1,4 +1,4 @@
--- `literal::shorten` meets its contract: each turn drops one closing zero, which keeps the text.
+-- `number::shorten` meets its contract: each turn drops one closing zero, which keeps the text.
 use native.Mathlib.Omega.{arith}
 use mathlib.Core.Path.{_≡_, refl, sym, _∙_}
 use Prim.Native.Nat.{_<_}

@@ -1,4 +1,4 @@
--- `literal::shown_len` meets its contract: the whole part has what is left of the digits of n, or one zero.
+-- `number::shown_len` meets its contract: the whole part has what is left of the digits of n, or one zero.
 use native.Mathlib.Omega.{arith}
 use mathlib.Core.Path.{ap, sym, _∙_}
 use Prim.Native.Nat.{ℕ}

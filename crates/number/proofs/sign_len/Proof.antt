@@ -1,4 +1,4 @@
--- `literal::sign_len` meets its contract.
+-- `number::sign_len` meets its contract.
 use native.Mathlib.Omega.{arith}
 use mathlib.Core.Path.{ap, sym}
 use lib.IntN.{ℤ}
