@@ -132,65 +132,12 @@ static int64_t counted_once(const uint8_t *s, size_t sn, const uint8_t *t, size_
     return n;
 }
 
-static int64_t faulty_to_sql(const uint8_t *s, size_t sn, const uint8_t *t, size_t tn, uint8_t *out, size_t room, int64_t n)
+/* A string that is taken, refused or written as it should not be. */
+static int64_t faulty_strings(const uint8_t *s, size_t sn, const uint8_t *t, size_t tn, uint8_t *out, size_t room, int64_t n)
 {
     size_t m = 0;
-    (void)s, (void)sn, (void)t, (void)tn, (void)room, (void)m;
+    (void)m;
     switch (FAULT) {
-    case 1: /* 1 a buffer of the text's exact length is refused */
-        return n == (int64_t)room && n > 0 ? -9 : n;
-    case 2: /* 2 the byte after the text is written */
-        if (n >= 0 && n < (int64_t)room)
-            out[n] = 0;
-        return n;
-    case 3: /* 3 a refusal with 9 leaves the first byte written */
-        if (n == -9 && room)
-            out[0] ^= 1;
-        return n;
-    case 4: /* 4 <> in TDisjoint of instants */
-        for (int64_t i = 0; i + 2 <= n; i++)
-            if (!memcmp(out + i, "!=", 2))
-                memcpy(out + i, "<>", 2);
-        return n;
-    case 5: /* 5 1900 has a 29 February */
-        return n == -6 && tn < 60000 ? true_to_sql(s, sn, changed(t, tn, "\x6c\x07\x02\x1d", "\x6c\x07\x02\x1c", 4), tn, out, room) : n;
-    case 6: /* 6 a text of 65,535 bytes is refused with 8 */
-        return n == 65535 ? (memset(out, 0, 1), -8) : n;
-    case 7: /* 7 a text of 65,535 bytes in a shorter buffer is refused with 8 */
-        return n == -9 && room == 65534 ? -8 : n;
-    case 8: /* 8 a tree of 32,768 bytes is refused */
-        return tn == 32768 && n != -1 ? -2 : n;
-    case 9: /* 9 the byte after the tree is read */
-        sink = t[tn];
-        return n;
-    case 10: /* 10 the byte before the settings is read */
-        sink = s[-1];
-        return n;
-    case 11: /* 11 the byte after the buffer is written */
-        if (n == (int64_t)room)
-            out[n] = 0;
-        return n;
-    case 12: /* 12 a tree that is refused with 7 is changed */
-        if (n == -7)
-            ((uint8_t *)t)[tn - 1] ^= 1;
-        return n;
-    case 13: /* 13 a record of a wrong kind at level 33 is refused with 5 */
-        return n == -4 && memmem(t, tn, "\x02\0\0\0\x0e\0", 6) ? -5 : n;
-    case 14: /* 14 precision 15 is written 1E-1 and 5 bytes follow from before */
-        for (int64_t i = 0; i + 5 <= n; i++)
-            if (!memcmp(out + i, "1E-15", 5))
-                out[i + 4] = ' ';
-        return n;
-    case 15: /* 15 TO is a name of a tree */
-        return n == -6 && tn < 60000 ? true_to_sql(s, sn, without(t, tn, "TO"), tn, out, room) : n;
-    case 16: /* 16 OF is a collation's name */
-        return n == -1 && sn < 60000 ? true_to_sql(without(s, sn, "OF"), sn, t, tn, out, room) : n;
-    case 17: /* 17 July has 30 days */
-        return n >= 0 && has_day(t, tn, 7, 31) ? -6 : n;
-    case 18: /* 18 July has 32 days */
-        return n == -6 && tn < 60000 ? true_to_sql(s, sn, changed(t, tn, "\x07\x20", "\x07\x1f", 2), tn, out, room) : n;
-    case 19: /* 19 February has 30 days */
-        return n == -6 && tn < 60000 ? true_to_sql(s, sn, changed(t, tn, "\x02\x1e", "\x02\x1c", 2), tn, out, room) : n;
     case 30: /* 30 an apostrophe is written once */
         if (n < 0)
             return n;
@@ -211,6 +158,87 @@ static int64_t faulty_to_sql(const uint8_t *s, size_t sn, const uint8_t *t, size
         return n == -6 && tn < 60000 ? true_to_sql(s, sn, changed(t, tn, "\x7f", "x", 1), tn, out, room) : n;
     default:
         return n;
+    }
+}
+
+/* A name or a date that is taken or refused as it should not be. */
+static int64_t faulty_fields(const uint8_t *s, size_t sn, const uint8_t *t, size_t tn, uint8_t *out, size_t room, int64_t n)
+{
+    switch (FAULT) {
+    case 5: /* 5 1900 has a 29 February */
+        return n == -6 && tn < 60000 ? true_to_sql(s, sn, changed(t, tn, "\x6c\x07\x02\x1d", "\x6c\x07\x02\x1c", 4), tn, out, room) : n;
+    case 15: /* 15 TO is a name of a tree */
+        return n == -6 && tn < 60000 ? true_to_sql(s, sn, without(t, tn, "TO"), tn, out, room) : n;
+    case 16: /* 16 OF is a collation's name */
+        return n == -1 && sn < 60000 ? true_to_sql(without(s, sn, "OF"), sn, t, tn, out, room) : n;
+    case 17: /* 17 July has 30 days */
+        return n >= 0 && has_day(t, tn, 7, 31) ? -6 : n;
+    case 18: /* 18 July has 32 days */
+        return n == -6 && tn < 60000 ? true_to_sql(s, sn, changed(t, tn, "\x07\x20", "\x07\x1f", 2), tn, out, room) : n;
+    case 19: /* 19 February has 30 days */
+        return n == -6 && tn < 60000 ? true_to_sql(s, sn, changed(t, tn, "\x02\x1e", "\x02\x1c", 2), tn, out, room) : n;
+    default:
+        return faulty_strings(s, sn, t, tn, out, room, n);
+    }
+}
+
+/* A limit, a refusal or a sign that is another. */
+static int64_t faulty_answers(const uint8_t *s, size_t sn, const uint8_t *t, size_t tn, uint8_t *out, size_t room, int64_t n)
+{
+    switch (FAULT) {
+    case 4: /* 4 <> in TDisjoint of instants */
+        for (int64_t i = 0; i + 2 <= n; i++)
+            if (!memcmp(out + i, "!=", 2))
+                memcpy(out + i, "<>", 2);
+        return n;
+    case 6: /* 6 a text of 65,535 bytes is refused with 8 */
+        return n == 65535 ? (memset(out, 0, 1), -8) : n;
+    case 7: /* 7 a text of 65,535 bytes in a shorter buffer is refused with 8 */
+        return n == -9 && room == 65534 ? -8 : n;
+    case 8: /* 8 a tree of 32,768 bytes is refused */
+        return tn == 32768 && n != -1 ? -2 : n;
+    case 13: /* 13 a record of a wrong kind at level 33 is refused with 5 */
+        return n == -4 && memmem(t, tn, "\x02\0\0\0\x0e\0", 6) ? -5 : n;
+    case 14: /* 14 precision 15 is written 1E-1 and 5 bytes follow from before */
+        for (int64_t i = 0; i + 5 <= n; i++)
+            if (!memcmp(out + i, "1E-15", 5))
+                out[i + 4] = ' ';
+        return n;
+    default:
+        return faulty_fields(s, sn, t, tn, out, room, n);
+    }
+}
+
+/* A byte outside what was lent for it, or in the buffer, that should have been left. */
+static int64_t faulty_to_sql(const uint8_t *s, size_t sn, const uint8_t *t, size_t tn, uint8_t *out, size_t room, int64_t n)
+{
+    switch (FAULT) {
+    case 1: /* 1 a buffer of the text's exact length is refused */
+        return n == (int64_t)room && n > 0 ? -9 : n;
+    case 2: /* 2 the byte after the text is written */
+        if (n >= 0 && n < (int64_t)room)
+            out[n] = 0;
+        return n;
+    case 3: /* 3 a refusal with 9 leaves the first byte written */
+        if (n == -9 && room)
+            out[0] ^= 1;
+        return n;
+    case 9: /* 9 the byte after the tree is read */
+        sink = t[tn];
+        return n;
+    case 10: /* 10 the byte before the settings is read */
+        sink = s[-1];
+        return n;
+    case 11: /* 11 the byte after the buffer is written */
+        if (n == (int64_t)room)
+            out[n] = 0;
+        return n;
+    case 12: /* 12 a tree that is refused with 7 is changed */
+        if (n == -7)
+            ((uint8_t *)t)[tn - 1] ^= 1;
+        return n;
+    default:
+        return faulty_answers(s, sn, t, tn, out, room, n);
     }
 }
 
@@ -272,11 +300,39 @@ int64_t wenduulig_to_geopackage_sql(const uint8_t *s, size_t sn, const uint8_t *
     return faulty_to_geopackage_sql(s, sn, t, tn, out, room, true_to_geopackage_sql(s, sn, t, tn, out, room));
 }
 
+/* A string of a text or row that is read as it should not be. */
+static int32_t faulty_strings_read(const uint8_t *t, size_t tn, const uint8_t *row, size_t rn, int32_t n)
+{
+    size_t m = 0;
+    (void)m;
+    switch (FAULT) {
+    case 40: /* 40 a doubled apostrophe is read as two bytes */
+        rewritten(t, tn < 60000 ? tn : 0, 4, &m);
+        return n >= 0 && tn < 60000 && m <= 65535 ? true_read(copy, m, row, rn) : n;
+    case 41: /* 41 an unclosed text ends with the SQL text */
+        if (n != -12 || tn >= 60000)
+            return n;
+        memcpy(copy, t, tn);
+        copy[tn] = '\'';
+        return true_read(copy, tn + 1, row, rn);
+    case 42: /* 42 a surrogate is taken in a row */
+        return n == -11 && rn < 60000 ? true_read(t, tn, with_pairs(row, rn, 0xed, 0xa0, 0xbf, "\xed\x9f"), rn) : n;
+    case 43: /* 43 an overlong form of three bytes is taken in a text */
+        return n == -12 && tn < 60000 ? true_read(with_pairs(t, tn, 0xe0, 0x80, 0x9f, "\xe0\xa0"), tn, row, rn) : n;
+    case 44: /* 44 a character above U+10FFFF is taken in a row */
+        return n == -11 && rn < 60000 ? true_read(t, tn, with_pairs(row, rn, 0xf4, 0x90, 0xbf, "\xf4\x80"), rn) : n;
+    case 45: /* 45 the limit of a row's value counts apostrophes doubled */
+        return n >= 0 && run_of(row, rn, '\'') > 32 ? -11 : n;
+    default:
+        return n;
+    }
+}
+
 int32_t wenduulig_read(const uint8_t *t, size_t tn, const uint8_t *row, size_t rn)
 {
     int32_t n = true_read(t, tn, row, rn);
-    size_t deep = 0, m = 0;
-    (void)deep, (void)m;
+    size_t deep = 0;
+    (void)deep;
     switch (FAULT) {
     case 20: /* 20 != with a NULL is false */
         return n == 2 && memmem(t, tn, "!=", 2) ? 0 : n;
@@ -303,24 +359,7 @@ int32_t wenduulig_read(const uint8_t *t, size_t tn, const uint8_t *row, size_t r
         return n == -11 && rn < 60000 ? true_read(t, tn, without(row, rn, "BY"), rn) : n;
     case 29: /* 29 group is a name in a text */
         return n == -12 && tn < 60000 ? true_read(changed(t, tn, "group", "groux", 5), tn, row, rn) : n;
-    case 40: /* 40 a doubled apostrophe is read as two bytes */
-        rewritten(t, tn < 60000 ? tn : 0, 4, &m);
-        return n >= 0 && tn < 60000 && m <= 65535 ? true_read(copy, m, row, rn) : n;
-    case 41: /* 41 an unclosed text ends with the SQL text */
-        if (n != -12 || tn >= 60000)
-            return n;
-        memcpy(copy, t, tn);
-        copy[tn] = '\'';
-        return true_read(copy, tn + 1, row, rn);
-    case 42: /* 42 a surrogate is taken in a row */
-        return n == -11 && rn < 60000 ? true_read(t, tn, with_pairs(row, rn, 0xed, 0xa0, 0xbf, "\xed\x9f"), rn) : n;
-    case 43: /* 43 an overlong form of three bytes is taken in a text */
-        return n == -12 && tn < 60000 ? true_read(with_pairs(t, tn, 0xe0, 0x80, 0x9f, "\xe0\xa0"), tn, row, rn) : n;
-    case 44: /* 44 a character above U+10FFFF is taken in a row */
-        return n == -11 && rn < 60000 ? true_read(t, tn, with_pairs(row, rn, 0xf4, 0x90, 0xbf, "\xf4\x80"), rn) : n;
-    case 45: /* 45 the limit of a row's value counts apostrophes doubled */
-        return n >= 0 && run_of(row, rn, '\'') > 32 ? -11 : n;
     default:
-        return n;
+        return faulty_strings_read(t, tn, row, rn, n);
     }
 }
