@@ -1,7 +1,9 @@
-// The class tests of src/op.rs. Operators of one class stand together in the enum, so a class is a range or two of numbers.
+// The class tests of src/op.rs, and which side of a spatial operator is reduced. Operators of one class stand together in the enum, so a class is a
+// range or two of numbers.
 ghost use mathlib.Core.Path.{_≡_};
-ghost use Rattle.prelude.specs.Choice.{between};
+ghost use Rattle.prelude.specs.Choice.{between, both, negated};
 ghost use Rattle.op.specs.Op.{isArithmetic, isArray, isComparison, isXtdComparison, isSpatial, isTemporal, isInstantOrInterval, isNullable};
+ghost use Rattle.class.specs.ClassWords.{reducedNumber};
 use op::A_EQUALS;
 use op::A_OVERLAPS;
 use op::EQ;
@@ -15,6 +17,8 @@ use op::Op;
 use op::PLUS;
 use op::S_CONTAINS;
 use op::S_INTERSECTS;
+use op::S_OVERLAPS;
+use op::S_TOUCHES;
 use op::T_AFTER;
 use op::T_BEFORE;
 use op::T_DISJOINT;
@@ -88,4 +92,19 @@ pub fn nullable(op: Op) -> bool
     ensures { λ r. ⌜ r ≡ isNullable op ⌝ }
 {
     within(IS_NULL, op::op_number(op), IS_NOT_NULL)
+}
+
+// `reduce_precision`: exactly one side a column, and only STouches, SWithin, SOverlaps.
+pub fn reduce_precision(op: usize, column: bool, other: bool) -> bool
+    ensures { λ r. ⌜ r ≡ both (reducedNumber op) (both column (negated other)) ⌝ }
+{
+    if within(S_TOUCHES, op, S_OVERLAPS) {
+        if column {
+            if other {
+                return false;
+            }
+            return true;
+        }
+    }
+    false
 }

@@ -1,7 +1,9 @@
-// The record of the settings: a precision, and the names of three collations.
+// The record of the settings: a precision, and the names of three collations; and which of these is asked for.
 ghost use mathlib.Core.Path.{_≡_};
 ghost use Prim.Native.Nat.{_<_};
 ghost use Rattle.settings.specs.Settings.{aiAt, caiAt, settingsBody, isSettings};
+ghost use Rattle.settings.specs.FlagWords.{collationFlags};
+use op::CASE_I;
 use record::Frame;
 
 const SETTINGS_KIND: usize = 100;
@@ -12,6 +14,15 @@ const PRECISION_LIMIT: usize = 15;
 pub const PRECISION_AT: usize = 6;
 
 pub const CI_AT: usize = 7;
+
+// The flags of a Str, by the collation that they ask for.
+pub const PLAIN: usize = 0;
+
+pub const CI: usize = 1;
+
+pub const AI: usize = 2;
+
+pub const CAI: usize = 3;
 
 // Where the second and the third name begin.
 pub fn ai_at(s: &[u8]) -> usize
@@ -60,4 +71,17 @@ pub fn is_settings(s: &[u8]) -> bool
             false
         }
     }
+}
+
+// The flags of the collation that CaseI, AccentI or both ask for.
+pub fn collation_flags(op: usize, twin: bool) -> usize
+    ensures { λ r. ⌜ r ≡ collationFlags op twin ⌝ }
+{
+    if twin {
+        return CAI;
+    }
+    if op == CASE_I {
+        return CI;
+    }
+    AI
 }

@@ -28,7 +28,8 @@ use Rattle.sql.specs.TemplateLaws.{translate-fills, translate-same}
 use Rattle.text.specs.Text.{bare, reducePrecision, monadicText, reduces, endText, startText, stopText, boundText, dyadicText, text, children, texts}
 use Rattle.spelling.specs.Spelling.{word}
 use Rattle.text.specs.EndWords.{slot}
-use Rattle.text.specs.FormWords.{twin, twinOf, underOf, operandOf, itemsOf, beforeText, behindText, collationFlags, reducedText, infixText, leftBare, rightBare}
+use Rattle.text.specs.FormWords.{twin, twinOf, underOf, operandOf, itemsOf, beforeText, behindText, reducedText, infixText, leftBare, rightBare}
+use Rattle.settings.specs.FlagWords.{collationFlags}
 use Rattle.text.specs.LeafWords.{nameOf}
 use Rattle.tree.specs.TestsLaws.{OfKind, of-unbounded, of-array, of-interval, kind-is, interval-is}
 use borrow.Author.Tests.{eqb-true}

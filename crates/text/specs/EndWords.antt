@@ -7,7 +7,7 @@ use lib.ListN.{getD}
 use lib.Dec.{ltb, eqb}
 use Rattle.prelude.specs.Choice.{pick}
 use Rattle.tree.specs.Kinds.{DYADIC}
-use Rattle.text.specs.ClassWords.{temporalNumber}
+use Rattle.class.specs.ClassWords.{temporalNumber}
 use Rattle.tree.specs.Tree.{Tree, Settings, encode, null, unbounded}
 use Rattle.tree.specs.Tests.{byOperator, isInterval, isId, startOf, stopOf, endsOf}
 use Rattle.literal.specs.declared.Writing.{Writing}

@@ -12,7 +12,8 @@ use Rattle.tree.specs.Kinds.{MONADIC}
 use Rattle.tree.specs.Tree.{Tree, Trees, Settings, none}
 use Rattle.tree.specs.Tests.{first, children, isItems, isLiteralOrId, isMonadic}
 use Rattle.literal.specs.Literal.{decimal, collate}
-use Rattle.text.specs.ClassWords.{arrayNumber, likeNumber, nullableNumber, signNumber}
+use Rattle.class.specs.ClassWords.{arrayNumber, likeNumber, nullableNumber, signNumber}
+use Rattle.settings.specs.FlagWords.{collationFlags}
 use Rattle.text.specs.LeafWords.{nameOf}
 
 -- CaseI over AccentI or AccentI over CaseI
@@ -61,9 +62,6 @@ unfoldable pub beforeText : ℕ → List ℕ → Bool → List ℕ
 beforeText op w b =
     pick (nullableNumber op) (pick b [] (bytes "("))
     (pick (signNumber op) (w ++ pick b (bytes " ") (bytes " (")) [])
-
-abbrev pub collationFlags : ℕ → Bool → ℕ
-collationFlags op d = pick d 3 (pick (eqb op (opNumber CaseI)) 1 2)
 
 unfoldable pub behindText : Settings → ℕ → List ℕ → Bool → Bool → List ℕ
 behindText g op w b d =

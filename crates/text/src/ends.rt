@@ -15,7 +15,7 @@ ghost use Rattle.tree.specs.Tree.{Tree, Settings};
 ghost use Rattle.sql.specs.Template.{held, fill};
 ghost use Rattle.tree.specs.Limits.{treeLimit};
 ghost use Rattle.tree.specs.Kinds.{DYADIC};
-ghost use Rattle.text.specs.ClassWords.{temporalNumber};
+ghost use Rattle.class.specs.ClassWords.{temporalNumber};
 use crate::records::OPERAND;
 use crate::records::end_of;
 use crate::records::is_kind;

@@ -7,19 +7,19 @@ ghost use Rattle.record.specs.Record.{le16};
 ghost use lib.ListN.{length, getD};
 ghost use lib.Dec.{eqb};
 ghost use Rattle.prelude.specs.Bytes.{bytes};
-ghost use Rattle.prelude.specs.Choice.{pick, both, negated, between, either};
+ghost use Rattle.prelude.specs.Choice.{pick, negated, between, either};
 ghost use Rattle.emit.specs.Emit.{countLimit};
 ghost use Rattle.emit.specs.LaysWords.{Lays};
 ghost use Rattle.spelling.specs.Spelling.{word};
 ghost use Rattle.spelling.specs.SpellingTable.{Spells};
-ghost use Rattle.text.specs.FormWords.{precise, twinOf, infixText, reducedText, beforeText, behindText, collationFlags, leftBare, rightBare};
+ghost use Rattle.text.specs.FormWords.{precise, twinOf, infixText, reducedText, beforeText, behindText, leftBare, rightBare};
 ghost use Rattle.tree.specs.Accepted.{settingsIn};
 ghost use Rattle.tree.specs.Tree.{Tree, encode};
 ghost use Rattle.op.specs.declared.Op.{Op};
 ghost use Rattle.op.specs.Op.{opNumber};
 ghost use Rattle.tree.specs.Limits.{treeLimit};
 ghost use Rattle.tree.specs.Kinds.{ARRAY};
-ghost use Rattle.text.specs.ClassWords.{betweenNumber, reducedNumber, signNumber, spatialNumber};
+ghost use Rattle.class.specs.ClassWords.{betweenNumber, signNumber, spatialNumber};
 use crate::leaves::name_of;
 use crate::records::NAME;
 use crate::records::OPERAND;
@@ -41,16 +41,11 @@ use op::MINUS;
 use op::NEG;
 use op::S_CONTAINS;
 use op::S_INTERSECTS;
-use op::S_OVERLAPS;
-use op::S_TOUCHES;
 use record::BODY;
 use record::KIND;
 use settings::PRECISION_AT;
 use spelling::Spelled;
-use tree::AI;
 use tree::ARRAY;
-use tree::CAI;
-use tree::CI;
 use tree::MONADIC;
 
 // What is written of an operator: its spelling (`Op::to_sql`), nothing where it has none.
@@ -201,19 +196,6 @@ pub(crate) fn put_before(
     emit::ended(at, 0)
 }
 
-// The flags of the collation that CaseI, AccentI or both ask for.
-fn collation_flags(op: usize, twin: bool) -> usize
-    ensures { λ r. ⌜ r ≡ collationFlags op twin ⌝ }
-{
-    if twin {
-        return CAI;
-    }
-    if op == CASE_I {
-        return CI;
-    }
-    AI
-}
-
 // What stands after the operand of a node that has one.
 pub(crate) fn put_behind(
     op: usize,
@@ -235,7 +217,7 @@ pub(crate) fn put_behind(
         return emit::put_either(bare, b"", b")", out, at);
     }
     let name = emit::put(b" COLLATE ", out, at);
-    emit::put(name_of(collation_flags(op, twin), set), out, name)
+    emit::put(name_of(settings::collation_flags(op, twin), set), out, name)
 }
 
 // Where the operand of a node that has one starts: its own, or its twin's.
@@ -257,21 +239,6 @@ pub(crate) fn bounds_at(s: &[u8], m: usize) -> usize
         return least(m + BODY, s.len());
     }
     s.len()
-}
-
-// `reduce_precision`: exactly one side a column, and only STouches, SWithin, SOverlaps.
-pub(crate) fn reduce_precision(op: usize, column: bool, other: bool) -> bool
-    ensures { λ r. ⌜ r ≡ both (reducedNumber op) (both column (negated other)) ⌝ }
-{
-    if within(S_TOUCHES, op, S_OVERLAPS) {
-        if column {
-            if other {
-                return false;
-            }
-            return true;
-        }
-    }
-    false
 }
 
 // 1E-p

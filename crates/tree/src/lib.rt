@@ -22,6 +22,7 @@ use op::Named;
 use op::Op;
 use record::Frame;
 use refusal::Refusal;
+use settings::CAI;
 
 // The kinds of a record.
 pub const NULL: usize = 0;
@@ -51,15 +52,6 @@ pub const FUNCTION: usize = 11;
 pub const ARRAY: usize = 12;
 
 pub const INTERVAL: usize = 13;
-
-// The flags of a Str, by the collation that they ask for.
-pub const PLAIN: usize = 0;
-
-pub const CI: usize = 1;
-
-pub const AI: usize = 2;
-
-pub const CAI: usize = 3;
 
 // Document 01's limits.
 const TREE_LIMIT: usize = 32768;

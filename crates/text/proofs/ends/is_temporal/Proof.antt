@@ -4,7 +4,7 @@ use mathlib.Core.Bool.{Bool, true, false}
 use lib.Dec.{eqb}
 use Rattle.prelude.specs.Choice.{pick}
 use Rattle.text.specs.EndWords.{temporalOf}
-use Rattle.text.specs.ClassWords.{temporalNumber}
+use Rattle.class.specs.ClassWords.{temporalNumber}
 use borrow.Author.Needs.{needs}
 use Rattle.text.proofs.ends.is_temporal.Statement.{statement}
 use Rattle.text.proofs.ends.is_temporal.Tie as tie

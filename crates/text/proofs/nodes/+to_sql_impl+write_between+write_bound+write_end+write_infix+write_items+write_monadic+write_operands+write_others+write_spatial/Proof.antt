@@ -18,7 +18,7 @@ use Rattle.tree.specs.Accepted.{settingsIn}
 use Rattle.text.proofs.WalkLaws.{Come, come-start, come-next, come-end, leaf-step, date-step, high-text, six, fourteen, listed, node-of, node-piece, name-piece, plain-step, node-step, name-step, monadic-node, monadic-step, from-bounds, all-filled, items-fall, items-short, infix-step, two-node, not-either, or-else, temporal-node, node-ends, not-temporal, bounds-range, bound-null, bound-item, between-step, spatial-step}
 use borrow.Author.Tests.{not-true, not-false}
 use lib.Dec.{eqb}
-use Rattle.text.specs.ClassWords.{betweenNumber, spatialNumber}
+use Rattle.class.specs.ClassWords.{betweenNumber, spatialNumber}
 use Prim.Native.Nat.{ℕ, _<_}
 use borrow.Fn.Kinds.{In}
 use borrow.Fn.PlainCycle.{Measures, is, falls, and}
@@ -73,7 +73,7 @@ use Rattle.text.proofs.forms.put_comma.Reads as put-comma-reads
 use Rattle.text.proofs.forms.put_infix.Reads as put-infix-reads
 use Rattle.text.proofs.forms.put_reduced.Reads as put-reduced-reads
 use Rattle.text.proofs.forms.put_word.Reads as put-word-reads
-use Rattle.text.proofs.forms.reduce_precision.Reads as reduce-precision-reads
+use Rattle.class.proofs.reduce_precision.Reads as reduce-precision-reads
 use Rattle.text.proofs.leaves.put_date.Reads as put-date-reads
 use Rattle.text.proofs.leaves.put_leaf.Reads as put-leaf-reads
 use Rattle.text.proofs.records.end_of.Reads as end-of-reads

@@ -1,8 +1,8 @@
 -- Each branch is a case of the definition.
 use borrow.Author.Tests.{eq-eqb, ne-eqb}
 use borrow.Author.Needs.{needs}
-use Rattle.text.proofs.forms.collation_flags.Statement.{statement}
-use Rattle.text.proofs.forms.collation_flags.Tie as tie
+use Rattle.settings.proofs.collation_flags.Statement.{statement}
+use Rattle.settings.proofs.collation_flags.Tie as tie
 
 returns : tie.Need-returns
 returns c = search needs

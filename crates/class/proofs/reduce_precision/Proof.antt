@@ -1,7 +1,7 @@
 -- Each branch is a case of the definition.
 use borrow.Author.Needs.{needs}
-use Rattle.text.proofs.forms.reduce_precision.Statement.{statement}
-use Rattle.text.proofs.forms.reduce_precision.Tie as tie
+use Rattle.class.proofs.reduce_precision.Statement.{statement}
+use Rattle.class.proofs.reduce_precision.Tie as tie
 
 within-requires : tie.Need-within-requires
 within-requires c κs = search needs
