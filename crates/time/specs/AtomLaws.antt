@@ -19,10 +19,10 @@ use Rattle.string.specs.QuoteLaws.{undoubled-doubled, closing-doubled, valid-do
 use Rattle.keyword.specs.Keywords.{keywords}
 use Rattle.word.specs.Case.{upper, uppers}
 use Rattle.keyword.specs.Reserved.{reserved, reservedWords}
-use Rattle.truth.specs.declared.Kind.{Kind}
-use Rattle.truth.specs.declared.Kind.the-variants.{Name as NAME, Quoted as QUOTED, Text as TEXT, Open as OPEN, Lt as LT, Gt as GT, Le as LE, Ge as GE, Eq as EQ, Ne as NE, Not as NOT, Null as NULL, True as TRUE, False as FALSE, Is as IS}
-use Rattle.truth.specs.Lex.{Token, tokens, kind, body, rest, lexeme, quoteKind, run, wordKind, signKind, signMore}
-use Rattle.truth.specs.LexLaws.{is-other, is-apart, tokens-space, tokens-one}
+use Rattle.lexer.specs.declared.Kind.{Kind}
+use Rattle.lexer.specs.declared.Kind.the-variants.{Name as NAME, Quoted as QUOTED, Text as TEXT, Open as OPEN, Lt as LT, Gt as GT, Le as LE, Ge as GE, Eq as EQ, Ne as NE, Not as NOT, Null as NULL, True as TRUE, False as FALSE, Is as IS}
+use Rattle.lexer.specs.Lex.{Token, tokens, kind, body, rest, lexeme, quoteKind, run, wordKind, signKind, signMore}
+use Rattle.lexer.specs.LexLaws.{is-other, is-apart, tokens-space, tokens-one}
 use Rattle.truth.specs.declared.Truth.the-variants.{True, False, Unknown}
 use Rattle.truth.specs.Grammar.{Atom, column, text, none, Ast, cmp, isNull, const, neg, got, isName, isAtom, isComparison, inner, atomOf, notNull, nullTest, fromAtom, simple}
 use Rattle.time.specs.ReadBackLaws.{Break, at-end, at-space, at-close, Boundary, tok, Item}

@@ -22,7 +22,7 @@ use Rattle.truth.specs.declared.Truth.{Truth}
 use Rattle.truth.specs.declared.Truth.the-variants.{True, False, Unknown, Missing}
 use Rattle.truth.specs.declared.Reading.the-variants.{True as SaysTrue, False as SaysFalse, Unknown as SaysUnknown}
 use Rattle.truth.specs.Reading.{answered}
-use Rattle.truth.specs.declared.Kind.the-variants.{Eq as EQ, Ne as NE}
+use Rattle.lexer.specs.declared.Kind.the-variants.{Eq as EQ, Ne as NE}
 use Rattle.truth.specs.Grammar.{not3, or3, truthOf, compared, holds}
 use Rattle.time.specs.FilterTruth.{atColumn, endOn, isValue, condTruth, endValues, temporalTruth, columnsNonNull}
 use Rattle.time.specs.Claims.{Opposite}

@@ -16,7 +16,7 @@ use Rattle.sql.specs.Condition.{test, lt, gt, eq}
 use Rattle.sql.specs.Translators.{translate, tAfter, tBefore, tContains, tDisjoint, tDuring, tEquals, tFinishedBy, tFinishes, tIntersects, tMeets, tMetBy, tOverlappedBy, tOverlaps, tStartedBy, tStarts}
 use Rattle.row.specs.Row.{Column, Found}
 use Rattle.truth.specs.declared.Truth.{Truth}
-use Rattle.truth.specs.declared.Kind.the-variants.{Lt as LT, Gt as GT, Eq as EQ}
+use Rattle.lexer.specs.declared.Kind.the-variants.{Lt as LT, Gt as GT, Eq as EQ}
 use Rattle.truth.specs.Grammar.{not3, and3, or3, compared}
 use Rattle.time.specs.Filter.{isAnd, isOr, compares}
 use Rattle.time.specs.FilterTruth.{endOn, condTruth, endValues, temporalTruth, truthOn}

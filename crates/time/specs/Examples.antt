@@ -35,7 +35,7 @@ use Rattle.truth.specs.declared.Truth.the-variants.{True, False, Unknown, Missi
 use Rattle.truth.specs.declared.Reading.{Reading}
 use Rattle.refusal.specs.declared.Refusal.the-variants.{BadText, MissingColumn}
 use Rattle.truth.specs.declared.Reading.the-variants.{True as SaysTrue, Refused}
-use Rattle.truth.specs.Lex as lex
+use Rattle.lexer.specs.Lex as lex
 use Rattle.truth.specs.Grammar.{not3, truthOf}
 use Rattle.truth.specs.Grammar as grammar
 use Rattle.truth.specs.Reading.{parse, verdict, answer}

@@ -34,7 +34,7 @@ use Rattle.sql.specs.Translators.{translate}
 use Rattle.text.specs.Text as gpkg
 use Rattle.text.specs.Text.{children, bare, monadicText, dyadicText, endText, startText, stopText}
 use Rattle.row.specs.Row.{Column}
-use Rattle.truth.specs.declared.Kind.{Kind}
+use Rattle.lexer.specs.declared.Kind.{Kind}
 use Rattle.truth.specs.declared.Truth.{Truth}
 use Rattle.truth.specs.Grammar.{column, text, Ast, cmp, isNull, const, neg, conj, disj, value, eval, not3, nullity}
 use Rattle.time.specs.Filter.{comparable, isEnd, isOperand, isNeg, isAnd, isOr, compares, timeFilter}

@@ -23,8 +23,8 @@ use Rattle.row.specs.Row.{val, Column, Found, absent, has, look}
 use Rattle.row.specs.Row as row
 use Rattle.truth.specs.declared.Truth.{Truth}
 use Rattle.truth.specs.declared.Truth.the-variants.{Unknown}
-use Rattle.truth.specs.declared.Kind.{Kind}
-use Rattle.truth.specs.declared.Kind.the-variants.{Lt as LT, Gt as GT, Le as LE, Ge as GE, Eq as EQ, Ne as NE}
+use Rattle.lexer.specs.declared.Kind.{Kind}
+use Rattle.lexer.specs.declared.Kind.the-variants.{Lt as LT, Gt as GT, Le as LE, Ge as GE, Eq as EQ, Ne as NE}
 use Rattle.truth.specs.Grammar.{Atom, column, text, none, value, not3, and3, or3, truthOf, compared, nullity}
 use Rattle.time.specs.Operators.{entry}
 use Rattle.time.specs.Filter.{isNeg, isAnd, isOr, compares}

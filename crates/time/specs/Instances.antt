@@ -57,7 +57,7 @@ use Rattle.text.specs.Text as gpkg-text
 use Rattle.text.specs.Lowered as gpkg-lowered
 use Rattle.order.specs.Order as order-order
 use Rattle.row.specs.Row as row-row
-use Rattle.truth.specs.Lex as truth-lex
+use Rattle.lexer.specs.Lex as truth-lex
 use Rattle.truth.specs.Grammar as truth-grammar
 use Rattle.truth.specs.Reading as truth-reading
 use Rattle.time.specs.Filter as time-filter

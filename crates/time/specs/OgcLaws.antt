@@ -28,7 +28,7 @@ use Rattle.sql.specs.Translators.{translate, tAfter, tBefore, tContains, tDisjo
 use Rattle.row.specs.Row.{Value, val, Column, Found, has, look}
 use Rattle.row.specs.Row as row
 use Rattle.truth.specs.declared.Truth.{Truth}
-use Rattle.truth.specs.declared.Kind.the-variants.{Lt as LT, Gt as GT, Eq as EQ, Ne as NE}
+use Rattle.lexer.specs.declared.Kind.the-variants.{Lt as LT, Gt as GT, Eq as EQ, Ne as NE}
 use Rattle.truth.specs.Grammar.{value, not3, and3, or3, truthOf, compared}
 use Rattle.truth.specs.Grammar as grammar
 use Rattle.time.specs.Filter.{isEnd}

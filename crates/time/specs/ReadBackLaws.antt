@@ -8,10 +8,10 @@ use native.Mathlib.Omega.{arith}
 use lib.ListN.{length, length-append}
 use borrow.Author.Tests.{ne-eqb}
 use Rattle.prelude.specs.Bytes.{bytes}
-use Rattle.truth.specs.declared.Kind.{Kind}
-use Rattle.truth.specs.declared.Kind.the-variants.{End as END, Open as OPEN, Close as CLOSE, Not as NOT, And as AND, Or as OR}
-use Rattle.truth.specs.Lex.{Token, tokens, tokensIn, kind, rest, lexeme, run, wordKind, signKind, signMore}
-use Rattle.truth.specs.LexLaws.{is-same, is-other, is-apart, tokens-space, tokens-one}
+use Rattle.lexer.specs.declared.Kind.{Kind}
+use Rattle.lexer.specs.declared.Kind.the-variants.{End as END, Open as OPEN, Close as CLOSE, Not as NOT, And as AND, Or as OR}
+use Rattle.lexer.specs.Lex.{Token, tokens, tokensIn, kind, rest, lexeme, run, wordKind, signKind, signMore}
+use Rattle.lexer.specs.LexLaws.{is-same, is-other, is-apart, tokens-space, tokens-one}
 use Rattle.truth.specs.Grammar.{Ast, neg, conj, disj, got, isComparison, simple, orE, orMore, andE, andMore, notE, test}
 use Rattle.truth.specs.Reading.{parse, bracketLimit}
 use Rattle.prelude.specs.Choice.{some, same}

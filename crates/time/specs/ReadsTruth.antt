@@ -36,8 +36,8 @@ use Rattle.truth.specs.declared.Truth.{Truth}
 use Rattle.truth.specs.declared.Truth.the-variants.{True, False, Unknown, Missing}
 use Rattle.truth.specs.Grammar.{value, not3, and3, or3, truthOf, compared, nullity}
 use Rattle.truth.specs.Grammar as grammar
-use Rattle.truth.specs.declared.Kind.{Kind}
-use Rattle.truth.specs.Lex.{kind}
+use Rattle.lexer.specs.declared.Kind.{Kind}
+use Rattle.lexer.specs.Lex.{kind}
 use Rattle.truth.specs.Reading.{textLimit, rowLimit, answered, decided, readingOf}
 use Rattle.truth.specs.Reading as reading
 use Rattle.time.specs.Filter.{isNeg, isAnd, isOr, compares, timeFilter}

@@ -28,7 +28,7 @@ use Rattle.truth.specs.declared.Truth.{Truth}
 use Rattle.truth.specs.declared.Truth.the-variants.{True, False, Unknown, Missing}
 use Rattle.truth.specs.declared.Reading.{Reading}
 use Rattle.truth.specs.declared.Reading.the-variants.{True as SaysTrue, False as SaysFalse, Unknown as SaysUnknown}
-use Rattle.truth.specs.declared.Kind.the-variants.{Eq as EQ}
+use Rattle.lexer.specs.declared.Kind.the-variants.{Eq as EQ}
 use Rattle.truth.specs.Grammar.{value, holds as says, truthOf}
 use Rattle.truth.specs.Reading.{answered, readingOf}
 use Rattle.time.specs.Filter.{comparable, isEnd, isOperand, timeFilter}

@@ -27,8 +27,8 @@ use Rattle.row.specs.Row.{val, Column, Found, absent, has}
 use Rattle.row.specs.Row as row
 use Rattle.truth.specs.declared.Truth.{Truth}
 use Rattle.truth.specs.declared.Truth.the-variants.{True, False}
-use Rattle.truth.specs.declared.Kind.{Kind}
-use Rattle.truth.specs.declared.Kind.the-variants.{Lt as LT, Gt as GT, Eq as EQ}
+use Rattle.lexer.specs.declared.Kind.{Kind}
+use Rattle.lexer.specs.declared.Kind.the-variants.{Lt as LT, Gt as GT, Eq as EQ}
 use Rattle.truth.specs.Grammar.{and3, truthOf, compared, holds}
 use Rattle.time.specs.FilterTruth.{endOn, signOf, condTruth, endValues, temporalTruth, isValue, liesBelow, proper}
 use Rattle.time.specs.Converse.{thirteen}

@@ -21,8 +21,8 @@ use Rattle.row.specs.Row.{val, Column, Found, absent, has, look}
 use Rattle.row.specs.Row as row
 use Rattle.truth.specs.declared.Truth.{Truth}
 use Rattle.truth.specs.declared.Truth.the-variants.{True, False, Unknown, Missing}
-use Rattle.truth.specs.declared.Kind.{Kind}
-use Rattle.truth.specs.declared.Kind.the-variants.{Lt as LT, Gt as GT, Eq as EQ, Ne as NE}
+use Rattle.lexer.specs.declared.Kind.{Kind}
+use Rattle.lexer.specs.declared.Kind.the-variants.{Lt as LT, Gt as GT, Eq as EQ, Ne as NE}
 use Rattle.truth.specs.Grammar.{text, value, not3, and3, or3, truthOf, compared, nullity, holds}
 use Rattle.sql.specs.Condition as sql
 use Rattle.time.specs.FilterTruth.{treeAtom, endAtom, valueOn, endOn, found, atColumn, condTruth, isValue}
