@@ -2,7 +2,6 @@
 pub mod Condition
 pub mod Translators
 -- Contracts of the inner public functions.
-pub mod Ends
 pub mod Template
 -- Laws.
 pub mod TemplateLaws

@@ -1,10 +1,9 @@
-// Operands, the four ends and the conditions of the temporal operators (src/ds/sql.rs and the fifteen `t_…_sql` of src/ds/gpkg.rs).
+// The conditions of the temporal operators over their four ends (src/ds/sql.rs and the fifteen `t_…_sql` of src/ds/gpkg.rs).
 ghost use mathlib.Core.Path.{_≡_};
 ghost use mathlib.Core.List.{_++_};
-ghost use mathlib.Core.Bool.{true, false};
 ghost use Prim.Native.Nat.{_+_, _≤_, _<_};
 ghost use lib.ListN.{length};
-ghost use Rattle.sql.specs.Ends.{isColumn, columns, startOf, stopOf, unfoldExpressions};
+ghost use Rattle.operand.specs.Ends.{columns};
 ghost use Rattle.sql.specs.Template.{held, spelt, templateOf, guardedText, guardedBothText, checkIdText, checkIdsText, eitherText};
 ghost use Rattle.sql.specs.Translators.{tAfter, tBefore, tContains, tDisjoint, tDuring, tEquals, tFinishedBy, tFinishes, tIntersects, tMeets, tMetBy, tOverlappedBy, tOverlaps, tStartedBy, tStarts, translate};
 use op::T_AFTER;
@@ -21,25 +20,7 @@ use op::T_MET_BY;
 use op::T_OVERLAPPED_BY;
 use op::T_OVERLAPS;
 use op::T_STARTED_BY;
-
-// An end of an operand: the record that holds it lies from the first offset to the second, counted from the start of the operator's own record
-// in the tree, which has at most 32,768 bytes.
-pub enum End {
-    Column(u16, u16),
-    // A date or a timestamp.
-    Instant(u16, u16),
-    // Any other tree.
-    Other(u16, u16),
-    // An open end, `..`.
-    Open,
-    Null,
-}
-
-// An operand of a temporal operator.
-pub enum Operand {
-    Single(End),
-    Interval(End, End),
-}
+use operand::End;
 
 // A text in parts, each by its code (specs/Template.antt has them): 0 to 3 are the ends.
 pub struct Template {
@@ -98,18 +79,6 @@ pub const AND: u8 = 16;
 // `NOT((`
 pub const NOT: u8 = 17;
 
-fn is_column(e: End) -> bool
-    ensures { λ r. ⌜ r ≡ isColumn e ⌝ }
-{
-    match e {
-        End::Column(_, _) => true,
-        End::Instant(_, _) => false,
-        End::Other(_, _) => false,
-        End::Open => false,
-        End::Null => false,
-    }
-}
-
 // A template with some codes after it.
 fn push(t: Template, s: &[u8]) -> Template
     requires { ⌜ t .len + length (now s) ≤ 24 ⌝ }
@@ -157,7 +126,7 @@ fn check_id(i: u8, e: [End; 4], base: &[u8]) -> Template
     requires { ⌜ (length (now base) ≡ 3) × (i < 4) ⌝ }
     ensures { λ r. ⌜ (held r ≡ checkIdText (columns e) i (spelt (now (base .entry)))) × (r .len ≤ 9) ⌝ }
 {
-    if is_column(e[i as usize]) {
+    if operand::is_column(e[i as usize]) {
         guarded(i, base)
     } else {
         sql(base)
@@ -169,8 +138,8 @@ fn check_ids(i: u8, j: u8, e: [End; 4], base: &[u8]) -> Template
     requires { ⌜ (length (now base) ≡ 3) × (i < 4) × (j < 4) ⌝ }
     ensures { λ r. ⌜ (held r ≡ checkIdsText (columns e) i j (spelt (now (base .entry)))) × (r .len ≤ 9) ⌝ }
 {
-    if is_column(e[i as usize]) {
-        if is_column(e[j as usize]) {
+    if operand::is_column(e[i as usize]) {
+        if operand::is_column(e[j as usize]) {
             guarded_both(i, j, base)
         } else {
             guarded(i, base)
@@ -388,29 +357,4 @@ pub fn temporal_sql(op: usize, a: bool, b: bool, e: [End; 4]) -> Template
         T_STARTED_BY => t_started_by_sql(a, b, e),
         _ => t_starts_sql(a, b, e),
     }
-}
-
-fn start(a: Operand) -> End
-    ensures { λ r. ⌜ r ≡ startOf a ⌝ }
-{
-    match a {
-        Operand::Single(e) => e,
-        Operand::Interval(e, _) => e,
-    }
-}
-
-fn stop(a: Operand) -> End
-    ensures { λ r. ⌜ r ≡ stopOf a ⌝ }
-{
-    match a {
-        Operand::Single(_) => End::Null,
-        Operand::Interval(_, f) => f,
-    }
-}
-
-// The four ends in order; an instant fills e0 or e2, and Null its partner.
-pub fn unfold_expressions(a: Operand, b: Operand) -> [End; 4]
-    ensures { λ r. ⌜ r ≡ unfoldExpressions a b ⌝ }
-{
-    [start(a), stop(a), start(b), stop(b)]
 }

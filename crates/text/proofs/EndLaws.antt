@@ -9,9 +9,9 @@ use Rattle.prelude.specs.Choice.{both, pick}
 use Rattle.record.specs.Record.{le16}
 use Rattle.tree.specs.Tree.{Tree, encode, null, unbounded, interval, kindOf}
 use Rattle.tree.specs.Tests.{isInterval, isId, startOf, stopOf, first, second, children}
-use Rattle.sql.specs.declared.End as end
-use Rattle.sql.specs.declared.End.the-variants.{Column, Instant, Other, Open, Null}
-use Rattle.sql.specs.declared.Operand.the-variants.{Single, Interval}
+use Rattle.operand.specs.declared.End as end
+use Rattle.operand.specs.declared.End.the-variants.{Column, Instant, Other, Open, Null}
+use Rattle.operand.specs.declared.Operand.the-variants.{Single, Interval}
 use Rattle.text.specs.EndWords.{Is, IsOperand}
 use Rattle.text.specs.RecordWords.{Inside, part, Stands, EndOf, sound}
 use Rattle.text.proofs.RecordLaws.{bodyOf, kind-at, beyond, part-at, ends-at, size-of, long-at}

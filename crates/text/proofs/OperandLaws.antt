@@ -14,8 +14,8 @@ use Rattle.op.specs.declared.Op.{Op}
 use Rattle.op.specs.Op.{opNumber}
 use Rattle.tree.specs.Tree.{Tree, Trees, encode, encodes, monadic, array, none, _then_, kindOf}
 use Rattle.tree.specs.Tests.{first, second, endsOf, isItems, children}
-use Rattle.sql.specs.declared.Operand as operand
-use Rattle.sql.specs.Ends.{unfoldExpressions}
+use Rattle.operand.specs.declared.Operand as operand
+use Rattle.operand.specs.Ends.{unfoldExpressions}
 use Rattle.text.specs.EndWords.{IsOperand, Are}
 use Rattle.text.specs.FormWords.{twin, twinOf, underOf, itemsOf, operandOf}
 use Rattle.text.specs.NodeWords.{Bound, gone, item}

@@ -15,8 +15,8 @@ use Rattle.literal.specs.declared.Writing.{Writing}
 use Rattle.tree.specs.Tree.{Tree, Settings, encode, kindOf}
 use Rattle.tree.specs.Placed.{isBetween}
 use Rattle.tree.specs.Tests.{isInterval, isId, columnsOf, endsOf, byOperator}
-use Rattle.sql.specs.declared.End as end
-use Rattle.sql.specs.Ends.{columns}
+use Rattle.operand.specs.declared.End as end
+use Rattle.operand.specs.Ends.{columns}
 use Rattle.sql.specs.Template.{fill, templateOf}
 use Rattle.sql.specs.Translators.{translate}
 use Rattle.text.specs.Text.{text}

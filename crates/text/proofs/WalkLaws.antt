@@ -24,8 +24,8 @@ use Rattle.literal.specs.declared.Writing.{Writing}
 use Rattle.tree.specs.Tree.{Tree, Trees, Settings, encode, encodes, counted, null, unbounded, bool, num, str, date, timestamp, spatial, id, monadic, dyadic, function, array, interval, none, _then_, kindOf}
 use Rattle.literal.specs.Literal.{nullText, dateText}
 use Rattle.sql.specs.Template.{fill, spelt, parts, partOf, wordsOf}
-use Rattle.sql.specs.declared.End as end
-use Rattle.sql.specs.declared.End.the-variants.{Column, Instant, Other, Open, Null}
+use Rattle.operand.specs.declared.End as end
+use Rattle.operand.specs.declared.End.the-variants.{Column, Instant, Other, Open, Null}
 use Rattle.text.specs.declared.ends.Flat as flat
 use Rattle.text.specs.declared.ends.Flat.the-variants.{Words, Opened, Nothing}
 use Rattle.text.specs.declared.ends.Piece.the-variants as pieces

@@ -12,12 +12,12 @@ use Rattle.tree.specs.Tree.{Tree, Settings, encode, null, unbounded}
 use Rattle.tree.specs.Tests.{byOperator, isInterval, isId, startOf, stopOf, endsOf}
 use Rattle.literal.specs.declared.Writing.{Writing}
 use Rattle.literal.specs.Literal.{nullText, unboundedText}
-use Rattle.sql.specs.Ends.{isColumn}
-use Rattle.sql.specs.Ends as sqlEnds
-use Rattle.sql.specs.declared.Operand as operand
+use Rattle.operand.specs.Ends.{isColumn}
+use Rattle.operand.specs.Ends as sqlEnds
+use Rattle.operand.specs.declared.Operand as operand
 use Rattle.sql.specs.Template.{wordsOf}
-use Rattle.sql.specs.declared.End as end
-use Rattle.sql.specs.declared.End.the-variants.{Column, Instant, Other, Open, Null}
+use Rattle.operand.specs.declared.End as end
+use Rattle.operand.specs.declared.End.the-variants.{Column, Instant, Other, Open, Null}
 use Rattle.text.specs.Text.{text}
 use Rattle.text.specs.declared.ends.Flat as flat
 use Rattle.text.specs.declared.ends.Flat.the-variants.{Words, Opened, Nothing}

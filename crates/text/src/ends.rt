@@ -22,10 +22,10 @@ use crate::records::is_kind;
 use crate::records::within;
 use op::T_AFTER;
 use op::T_STARTS;
+use operand::End;
+use operand::Operand;
 use record::BODY;
 use record::KIND;
-use sql::End;
-use sql::Operand;
 use sql::Template;
 use tree::DATE;
 use tree::DYADIC;
@@ -130,7 +130,7 @@ pub(crate) fn temporal_ends(s: &[u8], m: usize) -> [End; 4]
     ensures { λ r. ⌜ ((t u : Tree) → Stands (now (s .entry)) 8 m t → Stands (now (s .entry)) m (length (now (s .entry))) u → Are (now (s .entry)) r (endsOf t u)) ⌝ }
 {
     let a = operand_at(s, OPERAND, m);
-    sql::unfold_expressions(a, operand_at(s, m, s.len()))
+    operand::unfold_expressions(a, operand_at(s, m, s.len()))
 }
 
 pub(crate) fn is_temporal(kind: usize, op: usize) -> bool

@@ -1,7 +1,7 @@
 use native.Mathlib.Omega.{arith}
 use mathlib.Core.Path.{_∙_}
 use Rattle.sql.proofs.Laws.{one-guard, two-guards}
-use Rattle.sql.specs.Ends.{columns}
+use Rattle.operand.specs.Ends.{columns}
 use Rattle.sql.specs.Condition.{test, lt, print}
 use Rattle.sql.specs.Template.{spelt, partOf, parts}
 use Rattle.sql.specs.Translators.{tBefore}

@@ -1,7 +1,7 @@
 use native.Mathlib.Omega.{arith}
 use mathlib.Core.Path.{_≡_, _∙_}
 use Rattle.sql.proofs.Laws.{one-guard, two-guards, either-or}
-use Rattle.sql.specs.Ends.{columns}
+use Rattle.operand.specs.Ends.{columns}
 use Rattle.sql.specs.Condition.{test, lt, gt, print, checkId, checkIds}
 use Rattle.sql.specs.Template.{spelt, partOf, parts, eitherText, templateOf, held}
 use Rattle.sql.specs.Translators.{tDisjoint}

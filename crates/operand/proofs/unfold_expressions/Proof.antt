@@ -1,7 +1,7 @@
-use Rattle.sql.specs.Ends.{unfoldExpressions}
+use Rattle.operand.specs.Ends.{unfoldExpressions}
 use borrow.Author.Needs.{needs}
-use Rattle.sql.proofs.unfold_expressions.Statement.{statement}
-use Rattle.sql.proofs.unfold_expressions.Tie as tie
+use Rattle.operand.proofs.unfold_expressions.Statement.{statement}
+use Rattle.operand.proofs.unfold_expressions.Tie as tie
 
 start-requires : tie.Need-start-requires
 start-requires c κs = search needs

@@ -5,10 +5,10 @@ use mathlib.Core.Bool.{Bool, true, false}
 use lib.ListN.{getD}
 use lib.Dec.{ltb}
 use Rattle.prelude.specs.Choice.{pick}
-use Rattle.sql.specs.declared.End as end
-use Rattle.sql.specs.declared.End.the-variants.{Column, Instant, Other, Open, Null}
-use Rattle.sql.specs.declared.Operand as operand
-use Rattle.sql.specs.declared.Operand.the-variants.{Single, Interval}
+use Rattle.operand.specs.declared.End as end
+use Rattle.operand.specs.declared.End.the-variants.{Column, Instant, Other, Open, Null}
+use Rattle.operand.specs.declared.Operand as operand
+use Rattle.operand.specs.declared.Operand.the-variants.{Single, Interval}
 
 abbrev pub isColumn : end.End → Bool
 isColumn (Column a e) = true

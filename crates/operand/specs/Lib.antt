@@ -1,0 +1,2 @@
+-- Contracts of the inner public functions.
+pub mod Ends
