@@ -13,7 +13,7 @@ use Rattle.tree.specs.Tests.{byOperator, isInterval, isId, startOf, stopOf, end
 use Rattle.literal.specs.declared.Writing.{Writing}
 use Rattle.literal.specs.Literal.{nullText, unboundedText}
 use Rattle.operand.specs.Ends.{isColumn}
-use Rattle.operand.specs.Ends as sqlEnds
+use Rattle.operand.specs.Ends as operandEnds
 use Rattle.operand.specs.declared.Operand as operand
 use Rattle.sql.specs.Template.{wordsOf}
 use Rattle.operand.specs.declared.End as end
@@ -67,9 +67,9 @@ flatText Nothing = nullText
 
 -- what an operand is
 pub record IsOperand (s : List ℕ) (o : operand.Operand) (x : Tree) : Type 0 where
-  pub split : sqlEnds.isInterval o ≡ isInterval x
-  pub starts : Is s (sqlEnds.startOf o) (startOf x)
-  pub stops : Is s (sqlEnds.stopOf o) (stopOf x)
+  pub split : operandEnds.isInterval o ≡ isInterval x
+  pub starts : Is s (operandEnds.startOf o) (startOf x)
+  pub stops : Is s (operandEnds.stopOf o) (stopOf x)
 
 -- a temporal node, by the numbers of kind and operator
 unfoldable pub temporalOf : ℕ → ℕ → Bool
