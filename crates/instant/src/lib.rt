@@ -1,11 +1,11 @@
-// Dates, timestamps and open ends (src/ds/gpkg.rs, `to_sql_impl`, but for GeoPackage's timestamps), each written whole or not at all.
+// Dates, timestamps and open ends (src/ds/gpkg.rs, `to_sql_impl`, but for GeoPackage's timestamps and second ends), each written whole or not at all.
 ghost use mathlib.Core.Path.{_≡_};
 ghost use mathlib.Core.List.{_++_};
 ghost use Prim.Native.Nat.{_+_};
 ghost use lib.ListN.{length};
 ghost use Rattle.prelude.specs.Bytes.{bytes};
 ghost use Rattle.emit.specs.Emit.{countLimit, Puts};
-ghost use Rattle.literal.specs.Literal.{unboundedText, date, clock, afterSeconds, dateText, timestampText};
+ghost use Rattle.literal.specs.Literal.{stopSlot, unboundedText, date, clock, afterSeconds, dateText, timestampText};
 use literal::Writing;
 use literal::digit_of;
 
@@ -106,9 +106,12 @@ pub fn put_timestamp(
     put_close(writing, out, close)
 }
 
-// Writes an open end.
-pub fn put_unbounded(out: &mut [u8], at: usize) -> usize
-    ensures { λ r. ⌜ Puts countLimit at unboundedText (now (out .entry)) (now (out .exit)) r ⌝ }
+// Writes an open end, which may be an Interval's second: there GeoPackage's writing has a letter, which lies above every digit.
+pub fn put_unbounded(writing: Writing, second: bool, out: &mut [u8], at: usize) -> usize
+    ensures { λ r. ⌜ Puts countLimit at (unboundedText writing (stopSlot second)) (now (out .entry)) (now (out .exit)) r ⌝ }
 {
-    emit::put(b"'-2021-01-01'", out, at)
+    match writing {
+        Writing::Rust => emit::put(b"'-2021-01-01'", out, at),
+        Writing::GeoPackage => emit::put_either(second, b"'A'", b"'-2021-01-01'", out, at),
+    }
 }

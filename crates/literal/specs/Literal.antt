@@ -1,5 +1,5 @@
 -- The texts of the leaves: document 01, "Records" and "The lowering", as `to_sql_impl` and `qstr_to_sql` (src/ds/gpkg.rs) write them, but for
--- the apostrophes of a Str and for timestamps in GeoPackage's writing (document 02, slips 2 and 4).
+-- the apostrophes of a Str and, in GeoPackage's writing, timestamps and an Interval's open second end (document 02, slips 2, 4 and 5).
 use Prim.Native.Nat.{ℕ, zero, suc, _+_, _/_, _%_, _^_}
 use mathlib.Core.List.{List, [], _∷_, _++_}
 use mathlib.Core.Bool.{Bool}
@@ -108,9 +108,13 @@ startSlot isInterval = pick isInterval firstEnd alone
 abbrev pub stopSlot : Bool → Slot
 stopSlot isInterval = pick isInterval secondEnd alone
 
--- an open end by its slot: `MIN_DATE_SQL` in each
-unfoldable pub openEnd : Slot → List ℕ
-openEnd slot = bytes "-2021-01-01"
+-- an open end by its slot: `MIN_DATE_SQL`, and as an Interval's second end in GeoPackage's writing (document 02, slip 5) a letter, which lies above
+-- every digit
+unfoldable pub openEnd : Writing → Slot → List ℕ
+openEnd w alone = bytes "-2021-01-01"
+openEnd w firstEnd = bytes "-2021-01-01"
+openEnd Rust secondEnd = bytes "-2021-01-01"
+openEnd GeoPackage secondEnd = bytes "A"
 
 -- Date
 abbrev pub dateText : (y m d : ℕ) → List ℕ
@@ -120,6 +124,6 @@ dateText y m d = quoted (date y m d)
 abbrev pub timestampText : Writing → (y m d hour minute second : ℕ) → List ℕ
 timestampText w y m d hour minute second = quoted (timestamp w y m d hour minute second)
 
--- Unbounded that is no Interval's end
-abbrev pub unboundedText : List ℕ
-unboundedText = quoted (openEnd alone)
+-- Unbounded
+abbrev pub unboundedText : Writing → Slot → List ℕ
+unboundedText w slot = quoted (openEnd w slot)

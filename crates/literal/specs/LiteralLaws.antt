@@ -13,7 +13,7 @@ use Rattle.prelude.specs.Choice.{pick}
 use Rattle.prelude.specs.Bytes.{bytes}
 use Rattle.literal.specs.declared.Writing.{Writing}
 use Rattle.literal.specs.declared.Writing.the-variants.{Rust, GeoPackage}
-use Rattle.literal.specs.Literal.{low, digits, decimal, pointed, plain, quoted, collate, spatialText, date, clock, afterSeconds, timestamp, Slot, openEnd, timestampText, unboundedText}
+use Rattle.literal.specs.Literal.{low, digits, decimal, pointed, plain, quoted, collate, spatialText, date, clock, afterSeconds, timestamp, Slot, alone, firstEnd, secondEnd, startSlot, openEnd, timestampText}
 
 -- ---- digits
 
@@ -186,14 +186,18 @@ unfolding quoted timestamp afterSeconds date clock low
 length-timestamp Rust y m d hour minute second = refl
 length-timestamp GeoPackage y m d hour minute second = refl
 
--- every slot spells an open end alike
-pub slots-alike : (p q : Slot) → openEnd p ≡ openEnd q
+-- an open start is spelled as one that stands alone
+pub start-alone : (w : Writing) (isInterval : Bool) → openEnd w (startSlot isInterval) ≡ openEnd w alone
 unfolding openEnd
-slots-alike p q = refl
+start-alone w true = refl
+start-alone w false = refl
 
-pub length-unbounded : length unboundedText ≡ 13
-unfolding quoted openEnd
-length-unbounded = refl
+-- in the Rust's writing every slot spells an open end alike
+pub rust-alike : (p : Slot) → openEnd Rust p ≡ openEnd Rust alone
+unfolding openEnd
+rust-alike alone = refl
+rust-alike firstEnd = refl
+rust-alike secondEnd = refl
 
 pub length-spatial : (n : ℕ) (w : List ℕ) → length (spatialText n w) ≡ length w + length (decimal n) + 21
 unfolding spatialText

@@ -1,5 +1,5 @@
--- Document 01's sixteen sheets A to P as one table, and a second table for the call that writes timestamps as GeoPackage stores them (document 02,
--- slip 4): precision 7, collations NC, NA, NCA. Each line is checked by `right`, and `Hold.antt` has the one proof. The settings, the trees of A, B
+-- Document 01's sixteen sheets A to P as one table, a second table for the call that writes timestamps as GeoPackage stores them (document 02,
+-- slip 4), and a third for open ends in either call (slip 5): precision 7, collations NC, NA, NCA. Each line is checked by `right`, and `Hold.antt` has the one proof. The settings, the trees of A, B
 -- and O and the second table's first Timestamp stand as bytes, so that a mistake that `encode` and `parse` share cannot pass.
 use Prim.Native.Nat.{ℕ}
 use mathlib.Core.List.{List, [], _∷_, _++_}
@@ -9,7 +9,7 @@ use lib.IntN.{pos}
 use Rattle.prelude.specs.Bytes.{bytes}
 use Rattle.prelude.specs.Choice.{both, same}
 use Rattle.refusal.specs.Number.{numberOf}
-use Rattle.op.specs.declared.Op.the-variants.{Eq, CaseI, AccentI, SWithin, TAfter, TDisjoint, TIntersects, TMeets, IsLike, IsBetween, IsInList}
+use Rattle.op.specs.declared.Op.the-variants.{Eq, CaseI, AccentI, SWithin, TAfter, TDisjoint, TDuring, TEquals, TIntersects, TMeets, IsLike, IsBetween, IsInList}
 use Rattle.tree.specs.Tree.{Tree, null, unbounded, num, str, date, timestamp, spatial, id, monadic, dyadic, function, array, interval, none, _then_, encode}
 use Rattle.tree.specs.Parse.{Read, refused, got}
 use Rattle.literal.specs.declared.Writing.{Writing}
@@ -155,4 +155,32 @@ geopackageSheets =
     -- other refusals are the first call's, here 7 and 3
     ∷ refuses (encode (interval a instant)) 7
     ∷ refuses [] 3
+    ∷ []
+
+-- a row whose values of a and b are instants, a the earlier one
+abbrev rowStay : List ℕ
+rowStay =
+    29 ∷ 0 ∷ 0 ∷ 0 ∷ 200 ∷ 0 ∷ 1 ∷ (bytes "a" ++ (1 ∷ (bytes "2024-02-29T12:00:00.000Z"
+    ++ (29 ∷ 0 ∷ 0 ∷ 0 ∷ 200 ∷ 0 ∷ 1 ∷ (bytes "b" ++ (1 ∷ bytes "2024-02-29T12:30:45.500Z"))))))
+
+-- does [a, ..] intersect b? the text, by how an open end is written
+abbrev stays : List ℕ → List ℕ
+stays end = bytes "NOT((" ++ (end ++ bytes " < b) OR (a > b))")
+
+-- by how a call writes an Interval's open second end, and what it reads of a stay that has not ended
+abbrev pub openEndSheets : List ℕ → Reading → List Sheet
+openEndSheets end staying =
+    -- [a, ..]
+    lowers (encode (dyadic TIntersects (interval a unbounded) b)) (stays end)
+    ∷ lowers (encode (dyadic TAfter b (interval a unbounded))) (bytes "\"a\" IS NOT NULL AND (b > " ++ (end ++ bytes ")"))
+    ∷ lowers (encode (dyadic TDuring (interval b c) (interval a unbounded))) (bytes "(b > a) AND (c < " ++ (end ++ bytes ")"))
+    -- [.., ..]
+    ∷ lowers (encode (dyadic TEquals (interval a unbounded) (interval unbounded unbounded)))
+    (bytes "(a = '-2021-01-01') AND (" ++ (end ++ (bytes " = " ++ (end ++ bytes ")"))))
+    ∷ lowers (encode (dyadic TMeets (interval unbounded unbounded) (interval unbounded unbounded))) (end ++ bytes " = '-2021-01-01'")
+    -- an Unbounded that is no Interval's second end
+    ∷ lowers (encode (dyadic TDuring (interval b c) (interval unbounded d))) (bytes "(b > '-2021-01-01') AND (c < d)")
+    ∷ lowers (encode (dyadic TAfter a unbounded)) (bytes "a > '-2021-01-01'")
+    ∷ lowers (encode (function (bytes "f") (unbounded then (array (unbounded then none) then none)))) (bytes "f('-2021-01-01', ('-2021-01-01'))")
+    ∷ reads (stays end) rowStay staying
     ∷ []

@@ -18,6 +18,7 @@ use Rattle.text.proofs.RecordLaws.{bodyOf, kind-at, beyond, part-at, en
 use Rattle.text.proofs.LiteralLaws.{id-no, id-true, body-at}
 use Rattle.tree.specs.TestsLaws.{OfKind, of-null, of-unbounded, of-interval, kind-is}
 use borrow.Author.Tests.{ne-eqb}
+use lib.Dec.{eqb}
 
 never : {A : Type 0} → ⊥ → A
 never v = absurd v
@@ -74,26 +75,29 @@ alone x e =
 
 pub null-is : (s : List ℕ) → Is s Null null
 unfolding isId sound
-null-is s = record { column = refl; fit = refl; here = refl }
+null-is s = record { column = refl; opened = refl; fit = refl; here = refl }
 
 module _ {s : List ℕ} {a z k : ℕ} {x : Tree} (h : Stands s a z x) (e : k ≡ le16 s (a + 4)) where
   kind : k ≡ kindOf x
   kind = e ∙ stands-kind h
 
+  closed : (k ≡ 1 → ⊥) → false ≡ eqb (kindOf x) 1
+  closed q = sym (ne-eqb (kindOf x) 1 (λ y. q (kind ∙ y)))
+
   pub as-null : k ≡ 0 → Is s Null x
-  as-null q = record { column = sym (id-no x (λ y. let w = kind in let v : ⊥ = omega arith in v)); fit = h .fit; here = null-of x (sym kind ∙ q) }
+  as-null q = record { column = sym (id-no x (λ y. let w = kind in let v : ⊥ = omega arith in v)); opened = closed (λ y. let v : ⊥ = omega arith in v); fit = h .fit; here = null-of x (sym kind ∙ q) }
 
   pub as-open : k ≡ 1 → Is s Open x
-  as-open q = record { column = sym (id-no x (λ y. let w = kind in let v : ⊥ = omega arith in v)); fit = h .fit; here = open-of x (sym kind ∙ q) }
+  as-open q = record { column = sym (id-no x (λ y. let w = kind in let v : ⊥ = omega arith in v)); opened = sym (ap (λ (n : ℕ). eqb n 1) (sym kind ∙ q)); fit = h .fit; here = open-of x (sym kind ∙ q) }
 
   pub as-column : k ≡ 8 → Is s (Column a z) x
-  as-column q = record { column = sym (id-true x (sym kind ∙ q)); fit = h .fit; here = stands-part h }
+  as-column q = record { column = sym (id-true x (sym kind ∙ q)); opened = closed (λ y. let v : ⊥ = omega arith in v); fit = h .fit; here = stands-part h }
 
-  pub as-instant : (k ≡ 8 → ⊥) → Is s (Instant a z) x
-  as-instant q = record { column = sym (id-no x (λ y. q (kind ∙ y))); fit = h .fit; here = stands-part h }
+  pub as-instant : (k ≡ 1 → ⊥) → (k ≡ 8 → ⊥) → Is s (Instant a z) x
+  as-instant p q = record { column = sym (id-no x (λ y. q (kind ∙ y))); opened = closed p; fit = h .fit; here = stands-part h }
 
-  pub as-other : (k ≡ 8 → ⊥) → Is s (Other a z) x
-  as-other q = record { column = sym (id-no x (λ y. q (kind ∙ y))); fit = h .fit; here = stands-part h }
+  pub as-other : (k ≡ 1 → ⊥) → (k ≡ 8 → ⊥) → Is s (Other a z) x
+  as-other p q = record { column = sym (id-no x (λ y. q (kind ∙ y))); opened = closed p; fit = h .fit; here = stands-part h }
 
   pub single : (k ≡ 13 → ⊥) → (o : end.End) → Is s o x → IsOperand s (Single o) x
   single q o i =

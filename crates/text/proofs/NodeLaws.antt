@@ -20,8 +20,8 @@ use Rattle.tree.specs.Tree.{Tree, Trees, Settings, encode, null, unbounded, boo
 use Rattle.tree.specs.Tests as trees
 use Rattle.tree.specs.Tests.{first, second, isInterval, isId, isLiteralOrId, isMonadic, isItems, startOf, stopOf, endsOf, columnsOf, byOperator}
 use Rattle.tree.specs.Placed.{isBetween}
-use Rattle.literal.specs.Literal.{Slot, alone, openEnd, startSlot, stopSlot, quoted, collate, nullText}
-use Rattle.literal.specs.LiteralLaws.{slots-alike}
+use Rattle.literal.specs.Literal.{alone, secondEnd, startSlot, stopSlot, quoted, collate, nullText}
+use Rattle.literal.specs.LiteralLaws.{start-alone}
 use Rattle.sql.specs.Translators.{translate}
 use Rattle.sql.specs.Template.{fill, templateOf}
 use Rattle.sql.specs.TemplateLaws.{translate-fills, translate-same}
@@ -31,7 +31,7 @@ use Rattle.text.specs.EndWords.{slot}
 use Rattle.text.specs.FormWords.{twin, twinOf, underOf, operandOf, itemsOf, beforeText, behindText, reducedText, infixText, leftBare, rightBare}
 use Rattle.settings.specs.FlagWords.{collationFlags}
 use Rattle.text.specs.LeafWords.{nameOf}
-use Rattle.tree.specs.TestsLaws.{OfKind, of-unbounded, of-array, of-interval, kind-is, interval-is}
+use Rattle.tree.specs.TestsLaws.{OfKind, of-array, of-interval, kind-is, interval-is}
 use borrow.Author.Tests.{eqb-true}
 
 -- Classes of operators, by number.
@@ -230,22 +230,12 @@ bound-1 writing g u = go (isItems u) refl
     go true e = there u (kind-is 12 u (eqb-true (kindOf u) 12 e))
     go false e = refl
 
--- every slot writes an end as the tree's own text
-end-text : (writing : Writing) (g : Settings) (p : Slot) (t : Tree) → endText p t (text writing g t) ≡ text writing g t
-unfolding text
-end-text writing g p t = go (eqb (kindOf t) UNBOUNDED) refl
-  where
-    there : (t : Tree) → OfKind 1 t → quoted (openEnd p) ≡ text writing g t
-    there t of-unbounded = ap quoted (slots-alike p alone)
-
-    go : (b : Bool) → eqb (kindOf t) UNBOUNDED ≡ b → pick b (quoted (openEnd p)) (text writing g t) ≡ text writing g t
-    go true e = there t (kind-is UNBOUNDED t (eqb-true (kindOf t) UNBOUNDED e))
-    go false e = refl
-
 -- an end: an interval's child, or of an instant itself and Null
-start-text : (writing : Writing) (g : Settings) (t : Tree) → startText t (text writing g t) (children writing g t) ≡ text writing g (startOf t)
+start-text : (writing : Writing) (g : Settings) (t : Tree) → startText writing t (text writing g t) (children writing g t) ≡ endText writing alone (startOf t) (text writing g (startOf t))
 unfolding children startOf first
-start-text writing g t = ap (endText (startSlot (isInterval t)) (startOf t)) (go (isInterval t) refl) ∙ end-text writing g (startSlot (isInterval t)) (startOf t)
+start-text writing g t =
+    ap (λ (x : List ℕ). endText writing (startSlot (isInterval t)) (startOf t) x) (go (isInterval t) refl)
+    ∙ ap (λ (x : List ℕ). pick (eqb (kindOf (startOf t)) UNBOUNDED) (quoted x) (text writing g (startOf t))) (start-alone writing (isInterval t))
   where
     there : (t : Tree) → OfKind 13 t → getD (children writing g t) 0 [] ≡ text writing g (first (trees.children t))
     there t (of-interval a b) = refl
@@ -254,15 +244,18 @@ start-text writing g t = ap (endText (startSlot (isInterval t)) (startOf t)) (go
     go true e = there t (interval-is t e)
     go false e = refl
 
-stop-text : (writing : Writing) (g : Settings) (t : Tree) → stopText t (children writing g t) ≡ text writing g (stopOf t)
+-- a second end that is no Interval's is Null, which every slot writes alike
+stop-text : (writing : Writing) (g : Settings) (t : Tree) → stopText writing t (children writing g t) ≡ endText writing secondEnd (stopOf t) (text writing g (stopOf t))
 unfolding children stopOf first second text
-stop-text writing g t = ap (endText (stopSlot (isInterval t)) (stopOf t)) (go (isInterval t) refl) ∙ end-text writing g (stopSlot (isInterval t)) (stopOf t)
+stop-text writing g t = go (isInterval t) refl
   where
     there : (t : Tree) → OfKind 13 t → getD (children writing g t) 1 [] ≡ text writing g (second (trees.children t))
     there t (of-interval a b) = refl
 
-    go : (b : Bool) → isInterval t ≡ b → pick b (getD (children writing g t) 1 []) nullText ≡ text writing g (pick b (second (trees.children t)) null)
-    go true e = there t (interval-is t e)
+    go : (b : Bool) → isInterval t ≡ b
+        → endText writing (stopSlot b) (pick b (second (trees.children t)) null) (pick b (getD (children writing g t) 1 []) nullText)
+        ≡ endText writing secondEnd (pick b (second (trees.children t)) null) (text writing g (pick b (second (trees.children t)) null))
+    go true e = ap (λ (x : List ℕ). endText writing secondEnd (second (trees.children t)) x) (there t (interval-is t e))
     go false e = refl
 
 module _ (writing : Writing) (g : Settings) (o : Op) (t u : Tree) where
@@ -298,7 +291,7 @@ module _ (writing : Writing) (g : Settings) (o : Op) (t u : Tree) where
           (translate-same _ _ ends-same (opNumber o) (isInterval t) (isInterval u) (columnsOf t u)
           ∙ sym (translate-fills (slot writing g (endsOf t u)) (opNumber o) (isInterval t) (isInterval u) (columnsOf t u)))
         where
-          ends-same : (j : ℕ) → j < 4 → getD (startText t (text writing g t) (children writing g t) ∷ stopText t (children writing g t) ∷ startText u (text writing g u) (children writing g u) ∷ stopText u (children writing g u) ∷ []) j [] ≡ slot writing g (endsOf t u) j
+          ends-same : (j : ℕ) → j < 4 → getD (startText writing t (text writing g t) (children writing g t) ∷ stopText writing t (children writing g t) ∷ startText writing u (text writing g u) (children writing g u) ∷ stopText writing u (children writing g u) ∷ []) j [] ≡ slot writing g (endsOf t u) j
           ends-same zero h = start-text writing g t
           ends-same (suc zero) h = stop-text writing g t
           ends-same (suc (suc zero)) h = start-text writing g u

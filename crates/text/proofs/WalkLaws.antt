@@ -21,19 +21,21 @@ use Rattle.op.specs.declared.Op.{Op}
 use Rattle.op.specs.Op.{opNumber}
 use Rattle.op.specs.OpLaws.{number-below}
 use Rattle.literal.specs.declared.Writing.{Writing}
+use Rattle.tree.specs.Kinds.{UNBOUNDED}
 use Rattle.tree.specs.Tree.{Tree, Trees, Settings, encode, encodes, counted, null, unbounded, bool, num, str, date, timestamp, spatial, id, monadic, dyadic, function, array, interval, none, _then_, kindOf}
-use Rattle.literal.specs.Literal.{nullText, dateText}
+use Rattle.literal.specs.Literal.{Slot, stopSlot, nullText, dateText}
 use Rattle.sql.specs.Template.{fill, spelt, parts, partOf, wordsOf}
 use Rattle.operand.specs.declared.End as end
 use Rattle.operand.specs.declared.End.the-variants.{Column, Instant, Other, Open, Null}
-use Rattle.text.specs.declared.ends.Flat as flat
-use Rattle.text.specs.declared.ends.Flat.the-variants.{Words, Opened, Nothing}
-use Rattle.text.specs.declared.ends.Piece.the-variants as pieces
+use Rattle.part.specs.declared.Flat as flat
+use Rattle.part.specs.declared.Flat.the-variants.{Words, Opened, Nothing}
+use Rattle.part.specs.declared.Piece.the-variants as pieces
+use Rattle.part.specs.PieceWords.{isSecond, endPiece, pieceOf, flatText}
 use Rattle.emit.specs.Emit.{countLimit, ended}
 use Rattle.emit.specs.LaysWords.{Lays}
-use Rattle.text.specs.Text.{text, texts, joined}
+use Rattle.text.specs.Text.{text, texts, joined, endText}
 use Rattle.spelling.specs.Spelling.{word}
-use Rattle.text.specs.EndWords.{Is, Are, nodeEnds, slot, endPiece, pieceOf, flatText, temporalOf}
+use Rattle.text.specs.EndWords.{Is, Are, nodeEnds, slot, temporalOf}
 use Rattle.text.specs.FormWords.{itemsOf, infixText, reducedText, leftBare, rightBare, twin, twinOf, operandOf, beforeText, behindText}
 use Rattle.text.specs.LeafWords.{leafText}
 use Rattle.text.specs.NodeWords.{Node, one, two, Bound, gone, item}
@@ -150,27 +152,27 @@ module _ {s : List ℕ} {es : List end.End} {xs : List Tree} (a : Are s es xs) w
   end-is (suc (suc (suc zero))) h = a .is3
   end-is (suc (suc (suc (suc j)))) h = absurd (let v : ⊥ = omega arith in v)
 
-plain-end : (writing : Writing) (g : Settings) {s : List ℕ} (e : end.End) (x : Tree) (f : flat.Flat) → Is s e x → endPiece e ≡ pieces.Plain f → text writing g x ≡ flatText f
+plain-end : (writing : Writing) (g : Settings) {s : List ℕ} (j : ℕ) (e : end.End) (x : Tree) (f : flat.Flat) → Is s e x → endPiece j e ≡ pieces.Plain f → endText writing (stopSlot (isSecond j)) x (text writing g x) ≡ flatText writing f
 unfolding flatText text
-plain-end writing g (Column a z) x f i e = never (cc)
-plain-end writing g (Instant a z) x f i e = never (cc)
-plain-end writing g (Other a z) x f i e = never (cc)
-plain-end writing g Open x f i e = let q : f ≡ Opened = cc in ap (text writing g) (i .here) ∙ ap flatText (sym q)
-plain-end writing g Null x f i e = let q : f ≡ Nothing = cc in ap (text writing g) (i .here) ∙ ap flatText (sym q)
+plain-end writing g j (Column a z) x f i e = never (cc)
+plain-end writing g j (Instant a z) x f i e = never (cc)
+plain-end writing g j (Other a z) x f i e = never (cc)
+plain-end writing g j Open x f i e = let q : f ≡ Opened (isSecond j) = cc in ap (λ (y : Tree). endText writing (stopSlot (isSecond j)) y (text writing g y)) (i .here) ∙ ap (flatText writing) (sym q)
+plain-end writing g j Null x f i e = let q : f ≡ Nothing = cc in ap (λ (y : Tree). endText writing (stopSlot (isSecond j)) y (text writing g y)) (i .here) ∙ ap (flatText writing) (sym q)
 
-node-end : {s : List ℕ} (e : end.End) (x : Tree) (p z : ℕ) → Is s e x → endPiece e ≡ pieces.Node p z → Inside s p z × (part s p z ≡ encode x)
-node-end (Column a b) x p z i e = never (cc)
-node-end {s} (Instant a b) x p z i e = let q : a ≡ p = cc in let r : b ≡ z = cc in rw (← q, ← r) (i .here)
-node-end {s} (Other a b) x p z i e = let q : a ≡ p = cc in let r : b ≡ z = cc in rw (← q, ← r) (i .here)
-node-end Open x p z i e = never (cc)
-node-end Null x p z i e = never (cc)
+node-end : {s : List ℕ} (j : ℕ) (e : end.End) (x : Tree) (p z : ℕ) → Is s e x → endPiece j e ≡ pieces.Node p z → (Inside s p z × (part s p z ≡ encode x)) × (eqb (kindOf x) UNBOUNDED ≡ false)
+node-end j (Column a b) x p z i e = never (cc)
+node-end {s} j (Instant a b) x p z i e = let q : a ≡ p = cc in let r : b ≡ z = cc in (rw (← q, ← r) (i .here), sym (i .opened))
+node-end {s} j (Other a b) x p z i e = let q : a ≡ p = cc in let r : b ≡ z = cc in (rw (← q, ← r) (i .here), sym (i .opened))
+node-end j Open x p z i e = never (cc)
+node-end j Null x p z i e = never (cc)
 
-name-end : {s : List ℕ} (e : end.End) (x : Tree) (p z : ℕ) → Is s e x → endPiece e ≡ pieces.Name p z → (Inside s p z × (part s p z ≡ encode x)) × (isId x ≡ true)
-name-end {s} (Column a b) x p z i e = let q : a ≡ p = cc in let r : b ≡ z = cc in (rw (← q, ← r) (i .here), sym (i .column))
-name-end (Instant a b) x p z i e = never (cc)
-name-end (Other a b) x p z i e = never (cc)
-name-end Open x p z i e = never (cc)
-name-end Null x p z i e = never (cc)
+name-end : {s : List ℕ} (j : ℕ) (e : end.End) (x : Tree) (p z : ℕ) → Is s e x → endPiece j e ≡ pieces.Name p z → (Inside s p z × (part s p z ≡ encode x)) × (isId x ≡ true) × (eqb (kindOf x) UNBOUNDED ≡ false)
+name-end {s} j (Column a b) x p z i e = let q : a ≡ p = cc in let r : b ≡ z = cc in (rw (← q, ← r) (i .here), sym (i .column), sym (i .opened))
+name-end j (Instant a b) x p z i e = never (cc)
+name-end j (Other a b) x p z i e = never (cc)
+name-end j Open x p z i e = never (cc)
+name-end j Null x p z i e = never (cc)
 
 -- a name's text is its record's body
 name-text : (writing : Writing) (g : Settings) (x : Tree) → isId x ≡ true → text writing g x ≡ drop 6 (encode x)
@@ -229,28 +231,32 @@ small-mod : (c : ℕ) → c < 4 → c % 4 ≡ c
 small-mod c h = omega arith
 
 -- the text of an end's code
-end-part : (writing : Writing) (g : Settings) (xs : List Tree) (c : ℕ) → c < 4 → fill (slot writing g xs) (partOf c) ≡ text writing g (getD xs c null)
+end-part : (writing : Writing) (g : Settings) (xs : List Tree) (c : ℕ) → c < 4 → fill (slot writing g xs) (partOf c) ≡ slot writing g xs c
 unfolding fill
 end-part writing g xs c h =
     ap (fill (slot writing g xs)) (digit-part c h)
     ∙ end-fills (slot writing g xs) c [] (lt→ltb c 4 h)
     ∙ append-nil (slot writing g xs c)
 
+-- an end that is not open is written by its own text
+closed-text : (writing : Writing) (p : Slot) (x : Tree) (y : List ℕ) → eqb (kindOf x) UNBOUNDED ≡ false → endText writing p x y ≡ y
+closed-text writing p x y e = rw e refl
+
 -- a code of a template that is written as it is
-plain-piece : (writing : Writing) (g : Settings) {s : List ℕ} {es : List end.End} {xs : List Tree} → Are s es xs → (c : ℕ) (f : flat.Flat) → pieceOf c (getD es (c % 4) (Column 0 0)) ≡ pieces.Plain f → fill (slot writing g xs) (partOf c) ≡ flatText f
+plain-piece : (writing : Writing) (g : Settings) {s : List ℕ} {es : List end.End} {xs : List Tree} → Are s es xs → (c : ℕ) (f : flat.Flat) → pieceOf c (getD es (c % 4) (Column 0 0)) ≡ pieces.Plain f → fill (slot writing g xs) (partOf c) ≡ flatText writing f
 unfolding pieceOf flatText wordsOf
 plain-piece writing g {s} {es} {xs} a c f e = go (ltb c 4) refl e
   where
-    go : (b : Bool) → ltb c 4 ≡ b → pick b (endPiece (getD es (c % 4) (Column 0 0))) (pieces.Plain (Words c)) ≡ pieces.Plain f → fill (slot writing g xs) (partOf c) ≡ flatText f
+    go : (b : Bool) → ltb c 4 ≡ b → pick b (endPiece c (getD es (c % 4) (Column 0 0))) (pieces.Plain (Words c)) ≡ pieces.Plain f → fill (slot writing g xs) (partOf c) ≡ flatText writing f
     go true q z =
         let h = ltb-true c 4 q in
         end-part writing g xs c h
-        ∙ plain-end writing g (getD es c (Column 0 0)) (getD xs c null) f (end-is a c h) (ap (λ (j : ℕ). endPiece (getD es j (Column 0 0))) (sym (small-mod c h)) ∙ z)
+        ∙ plain-end writing g c (getD es c (Column 0 0)) (getD xs c null) f (end-is a c h) (ap (λ (j : ℕ). endPiece c (getD es j (Column 0 0))) (sym (small-mod c h)) ∙ z)
     go false q z =
         let y : f ≡ Words c = cc in
         clear-fill (slot writing g xs) (partOf c) (clear-part c (ltb-false c 4 q))
         ∙ ap (λ (b : Bool). pick b [] (partOf c)) (sym q)
-        ∙ ap flatText (sym y)
+        ∙ ap (flatText writing) (sym y)
 
 -- a code of a template that stands for a record
 pub record Child (writing : Writing) (g : Settings) (s : List ℕ) (p z : ℕ) (l : List ℕ) : Type 0 where
@@ -264,12 +270,12 @@ pub node-piece : (writing : Writing) (g : Settings) {s : List ℕ} {es : List en
 unfolding pieceOf
 node-piece writing g {s} {es} {xs} a c p z e = go (ltb c 4) refl e
   where
-    go : (b : Bool) → ltb c 4 ≡ b → pick b (endPiece (getD es (c % 4) (Column 0 0))) (pieces.Plain (Words c)) ≡ pieces.Node p z → Child writing g s p z (fill (slot writing g xs) (partOf c))
+    go : (b : Bool) → ltb c 4 ≡ b → pick b (endPiece c (getD es (c % 4) (Column 0 0))) (pieces.Plain (Words c)) ≡ pieces.Node p z → Child writing g s p z (fill (slot writing g xs) (partOf c))
     go true q y =
         let h = ltb-true c 4 q in
         let i = end-is a c h in
-        let n = node-end (getD es c (Column 0 0)) (getD xs c null) p z i (ap (λ (j : ℕ). endPiece (getD es j (Column 0 0))) (sym (small-mod c h)) ∙ y) in
-        record { x = getD xs c null; inside = n .0; stands = n .1; fit = i .fit; filled = end-part writing g xs c h }
+        let n = node-end c (getD es c (Column 0 0)) (getD xs c null) p z i (ap (λ (j : ℕ). endPiece c (getD es j (Column 0 0))) (sym (small-mod c h)) ∙ y) in
+        record { x = getD xs c null; inside = n .0 .0; stands = n .0 .1; fit = i .fit; filled = end-part writing g xs c h ∙ closed-text writing (stopSlot (isSecond c)) (getD xs c null) (text writing g (getD xs c null)) (n .1) }
     go false q y = never (cc)
 
 -- a code of a template that stands for a name
@@ -281,11 +287,11 @@ pub name-piece : (writing : Writing) (g : Settings) {s : List ℕ} {es : List en
 unfolding pieceOf
 name-piece writing g {s} {es} {xs} a c p z e = go (ltb c 4) refl e
   where
-    go : (b : Bool) → ltb c 4 ≡ b → pick b (endPiece (getD es (c % 4) (Column 0 0))) (pieces.Plain (Words c)) ≡ pieces.Name p z → Word s p z (fill (slot writing g xs) (partOf c))
+    go : (b : Bool) → ltb c 4 ≡ b → pick b (endPiece c (getD es (c % 4) (Column 0 0))) (pieces.Plain (Words c)) ≡ pieces.Name p z → Word s p z (fill (slot writing g xs) (partOf c))
     go true q y =
         let h = ltb-true c 4 q in
-        let n = name-end (getD es c (Column 0 0)) (getD xs c null) p z (end-is a c h) (ap (λ (j : ℕ). endPiece (getD es j (Column 0 0))) (sym (small-mod c h)) ∙ y) in
-        record { inside = n .0 .0; filled = end-part writing g xs c h ∙ name-text writing g (getD xs c null) (n .1) ∙ ap (drop 6) (sym (n .0 .1)) }
+        let n = name-end c (getD es c (Column 0 0)) (getD xs c null) p z (end-is a c h) (ap (λ (j : ℕ). endPiece c (getD es j (Column 0 0))) (sym (small-mod c h)) ∙ y) in
+        record { inside = n .0 .0; filled = end-part writing g xs c h ∙ closed-text writing (stopSlot (isSecond c)) (getD xs c null) (text writing g (getD xs c null)) (n .2) ∙ name-text writing g (getD xs c null) (n .1) ∙ ap (drop 6) (sym (n .0 .1)) }
     go false q y = never (cc)
 
 -- one code more of a template
@@ -479,7 +485,7 @@ fourteen s (array ts) k e q a b = absurd (let w = kind-whole s (array ts) e in l
 fourteen s (interval x y) k e q a b = absurd (let w = kind-whole s (interval x y) e in let v : ⊥ = omega arith in v)
 
 module _ (writing : Writing) (g : Settings) {s : List ℕ} {es : List end.End} {xs : List Tree} (a : Are s es xs) (codes : List ℕ) (n k : ℕ) (h : k < n) (l : k < length codes) {at here r : ℕ} {l₀ out m : List ℕ} (laid : Lays countLimit at (fill (slot writing g xs) (spelt (take k (take n codes)))) l₀ out here) where
-  pub plain-step : (f : flat.Flat) → pieceOf (getD codes k 0) (getD es (getD codes k 0 % 4) (Column 0 0)) ≡ pieces.Plain f → Lays countLimit here (flatText f) out m r → Lays countLimit at (fill (slot writing g xs) (spelt (take (k + 1) (take n codes)))) l₀ m r
+  pub plain-step : (f : flat.Flat) → pieceOf (getD codes k 0) (getD es (getD codes k 0 % 4) (Column 0 0)) ≡ pieces.Plain f → Lays countLimit here (flatText writing f) out m r → Lays countLimit at (fill (slot writing g xs) (spelt (take (k + 1) (take n codes)))) l₀ m r
   plain-step f e x = lays-of (sym (fill-next (slot writing g xs) codes n k h l ∙ ap (λ (y : List ℕ). fill (slot writing g xs) (spelt (take k (take n codes))) ++ y) (plain-piece writing g a (getD codes k 0) f e))) (lays-then laid x)
 
   pub node-step : (p z : ℕ) (e : pieceOf (getD codes k 0) (getD es (getD codes k 0 % 4) (Column 0 0)) ≡ pieces.Node p z) → Lays countLimit here (text writing g (node-piece writing g a (getD codes k 0) p z e .x)) out m r → Lays countLimit at (fill (slot writing g xs) (spelt (take (k + 1) (take n codes)))) l₀ m r

@@ -1,28 +1,24 @@
--- The four ends of a temporal node in its record, and the pieces of its condition (src/ends.rt).
+-- The four ends of a temporal node in its record, and the texts that stand for them (src/ends.rt).
 use Prim.Native.Nat.{ℕ}
 use mathlib.Core.Path.{_≡_}
 use mathlib.Core.List.{List, []}
 use mathlib.Core.Bool.{Bool, true, false}
 use lib.ListN.{getD}
-use lib.Dec.{ltb, eqb}
+use lib.Dec.{eqb}
 use Rattle.prelude.specs.Choice.{pick}
-use Rattle.tree.specs.Kinds.{DYADIC}
+use Rattle.tree.specs.Kinds.{UNBOUNDED, DYADIC}
 use Rattle.class.specs.ClassWords.{temporalNumber}
-use Rattle.tree.specs.Tree.{Tree, Settings, encode, null, unbounded}
+use Rattle.tree.specs.Tree.{Tree, Settings, encode, null, unbounded, kindOf}
 use Rattle.tree.specs.Tests.{byOperator, isInterval, isId, startOf, stopOf, endsOf}
 use Rattle.literal.specs.declared.Writing.{Writing}
-use Rattle.literal.specs.Literal.{nullText, unboundedText}
+use Rattle.literal.specs.Literal.{stopSlot}
+use Rattle.part.specs.PieceWords.{isSecond}
 use Rattle.operand.specs.Ends.{isColumn}
 use Rattle.operand.specs.Ends as operandEnds
 use Rattle.operand.specs.declared.Operand as operand
-use Rattle.sql.specs.Template.{wordsOf}
 use Rattle.operand.specs.declared.End as end
 use Rattle.operand.specs.declared.End.the-variants.{Column, Instant, Other, Open, Null}
-use Rattle.text.specs.Text.{text}
-use Rattle.text.specs.declared.ends.Flat as flat
-use Rattle.text.specs.declared.ends.Flat.the-variants.{Words, Opened, Nothing}
-use Rattle.text.specs.declared.ends.Piece as piece
-use Rattle.text.specs.declared.ends.Piece.the-variants as pieces
+use Rattle.text.specs.Text.{text, endText}
 use Rattle.text.specs.RecordWords.{sound, Inside, part}
 
 -- an end in s is the tree x
@@ -33,14 +29,22 @@ Here s (Other a e) x = Inside s a e × (part s a e ≡ encode x)
 Here s Open x = x ≡ unbounded
 Here s Null x = x ≡ null
 
+abbrev pub isOpen : end.End → Bool
+isOpen (Column a e) = false
+isOpen (Instant a e) = false
+isOpen (Other a e) = false
+isOpen Open = true
+isOpen Null = false
+
 pub record Is (s : List ℕ) (e : end.End) (x : Tree) : Type 0 where
   pub column : isColumn e ≡ isId x
+  pub opened : isOpen e ≡ eqb (kindOf x) UNBOUNDED
   pub fit : sound x ≡ true
   pub here : Here s e x
 
 -- the text that a digit of a template stands for
 abbrev pub slot : Writing → Settings → List Tree → ℕ → List ℕ
-slot w g xs j = text w g (getD xs j null)
+slot w g xs j = endText w (stopSlot (isSecond j)) (getD xs j null) (text w g (getD xs j null))
 
 -- four ends are four trees
 pub record Are (s : List ℕ) (e : List end.End) (xs : List Tree) : Type 0 where
@@ -48,22 +52,6 @@ pub record Are (s : List ℕ) (e : List end.End) (xs : List Tree) : Type 0 where
   pub is1 : Is s (getD e 1 (Column 0 0)) (getD xs 1 null)
   pub is2 : Is s (getD e 2 (Column 0 0)) (getD xs 2 null)
   pub is3 : Is s (getD e 3 (Column 0 0)) (getD xs 3 null)
-
--- the pieces of a template
-abbrev pub endPiece : end.End → piece.Piece
-endPiece (Column a e) = pieces.Name a e
-endPiece (Instant a e) = pieces.Node a e
-endPiece (Other a e) = pieces.Node a e
-endPiece Open = pieces.Plain Opened
-endPiece Null = pieces.Plain Nothing
-
-unfoldable pub pieceOf : ℕ → end.End → piece.Piece
-pieceOf code x = pick (ltb code 4) (endPiece x) (pieces.Plain (Words code))
-
-unfoldable pub flatText : flat.Flat → List ℕ
-flatText (Words code) = wordsOf code
-flatText Opened = unboundedText
-flatText Nothing = nullText
 
 -- what an operand is
 pub record IsOperand (s : List ℕ) (o : operand.Operand) (x : Tree) : Type 0 where

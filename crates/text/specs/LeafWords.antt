@@ -8,13 +8,13 @@ use Rattle.prelude.specs.Choice.{pick}
 use Rattle.literal.specs.declared.Writing.{Writing}
 use Rattle.tree.specs.Tree.{Settings}
 use Rattle.tree.specs.Parse.{mantissa}
-use Rattle.literal.specs.Literal.{nullText, boolText, unboundedText, numText, strText, dateText, timestampText, spatialText, collate}
+use Rattle.literal.specs.Literal.{alone, nullText, boolText, unboundedText, numText, strText, dateText, timestampText, spatialText, collate}
 
 -- the text of a node without operands, from its record
 unfoldable pub leafText : Writing → Settings → List ℕ → List ℕ
 leafText w g s =
     pick (eqb (le16 s 4) 0) nullText
-    (pick (eqb (le16 s 4) 1) unboundedText
+    (pick (eqb (le16 s 4) 1) (unboundedText w alone)
     (pick (eqb (le16 s 4) 2) (boolText (eqb (getD s 6 0) 1))
     (pick (eqb (le16 s 4) 3) (numText (mantissa s 6) (getD s 14 0))
     (pick (eqb (le16 s 4) 4) (strText (g .ci) (g .ai) (g .cai) (getD s 6 0) (drop 7 s))

@@ -1,4 +1,4 @@
--- The SQL text of a tree, case by case as `to_sql_impl` (src/ds/gpkg.rs): document 01, "The lowering"; by the writing: document 02, slip 4.
+-- The SQL text of a tree, case by case as `to_sql_impl` (src/ds/gpkg.rs): document 01, "The lowering"; by the writing: document 02, slips 4 and 5.
 use Prim.Native.Nat.{ℕ}
 use mathlib.Core.List.{List, [], _∷_, _++_}
 use mathlib.Core.Bool.{Bool, false}
@@ -15,7 +15,7 @@ use Rattle.tree.specs.Tree.{Tree, Trees, Settings, null, unbounded, bool, num, 
 use Rattle.tree.specs.Placed.{isBetween}
 use Rattle.tree.specs.Tests.{isId, isItems, isInterval, isMonadic, isLiteralOrId, startOf, stopOf, columnsOf}
 use Rattle.literal.specs.declared.Writing.{Writing}
-use Rattle.literal.specs.Literal.{Slot, openEnd, startSlot, stopSlot, quoted, nullText, boolText, unboundedText, numText, strText, dateText, timestampText, spatialText, decimal, collate}
+use Rattle.literal.specs.Literal.{Slot, alone, startSlot, stopSlot, nullText, boolText, unboundedText, numText, strText, dateText, timestampText, spatialText, decimal, collate}
 use Rattle.sql.specs.Condition.{print}
 use Rattle.sql.specs.Translators.{translate}
 
@@ -51,29 +51,29 @@ unfoldable pub reduces : Op → Tree → Tree → Bool
 reduces o t u = both (oneOf o (SWithin ∷ SOverlaps ∷ STouches ∷ [])) (both (isId t) (negated (isId u)))
 
 -- the text of an end by its slot: an open end as the slot spells it, any other by its own text x
-abbrev pub endText : Slot → Tree → List ℕ → List ℕ
-endText slot t x = pick (eqb (kindOf t) UNBOUNDED) (quoted (openEnd slot)) x
+abbrev pub endText : Writing → Slot → Tree → List ℕ → List ℕ
+endText w slot t x = pick (eqb (kindOf t) UNBOUNDED) (unboundedText w slot) x
 
 -- the ends of an operand: of an interval its children, of an instant itself and Null
-abbrev pub startText : Tree → List ℕ → List (List ℕ) → List ℕ
-startText t x xs = endText (startSlot (isInterval t)) (startOf t) (pick (isInterval t) (getD xs 0 []) x)
+abbrev pub startText : Writing → Tree → List ℕ → List (List ℕ) → List ℕ
+startText w t x xs = endText w (startSlot (isInterval t)) (startOf t) (pick (isInterval t) (getD xs 0 []) x)
 
-abbrev pub stopText : Tree → List (List ℕ) → List ℕ
-stopText t xs = endText (stopSlot (isInterval t)) (stopOf t) (pick (isInterval t) (getD xs 1 []) nullText)
+abbrev pub stopText : Writing → Tree → List (List ℕ) → List ℕ
+stopText w t xs = endText w (stopSlot (isInterval t)) (stopOf t) (pick (isInterval t) (getD xs 1 []) nullText)
 
 -- a bound of BETWEEN, whose right side is an Array of two
 abbrev pub boundText : Tree → List (List ℕ) → ℕ → List ℕ
 boundText u ys j = pick (isItems u) (getD ys j nullText) nullText
 
-unfoldable pub dyadicText : Settings → Op → Tree → Tree → List ℕ → List ℕ → List (List ℕ) → List (List ℕ) → List ℕ
-dyadicText g o t u x y xs ys =
+unfoldable pub dyadicText : Writing → Settings → Op → Tree → Tree → List ℕ → List ℕ → List (List ℕ) → List (List ℕ) → List ℕ
+dyadicText w g o t u x y xs ys =
     pick (isBetween o)
     (x ++ (bytes " " ++ (word o ++ (bytes " " ++ (boundText u ys 0 ++ (bytes " AND " ++ boundText u ys 1))))))
     (pick (isSpatial o)
     (word o ++ (bytes "(" ++ (pick (reduces o t u) (reducePrecision (g .precision) x) x
     ++ (bytes ", " ++ (pick (reduces o u t) (reducePrecision (g .precision) y) y ++ bytes ")")))))
     (pick (isTemporal o)
-    (print (λ j. getD (startText t x xs ∷ stopText t xs ∷ startText u y ys ∷ stopText u ys ∷ []) j [])
+    (print (λ j. getD (startText w t x xs ∷ stopText w t xs ∷ startText w u y ys ∷ stopText w u ys ∷ []) j [])
     (translate (opNumber o) (isInterval t) (isInterval u) (columnsOf t u)))
     (pick (isArray o) (x ++ (bytes " " ++ (word o ++ (bytes " " ++ y))))
     (pick (oneOf o (IsLike ∷ IsNotLike ∷ [])) (bare (isLiteralOrId t) x ++ (bytes " " ++ (word o ++ (bytes " " ++ bare false y))))
@@ -83,7 +83,7 @@ dyadicText g o t u x y xs ys =
 unfoldable mutual
   pub text : Writing → Settings → Tree → List ℕ
   text w g null = nullText
-  text w g unbounded = unboundedText
+  text w g unbounded = unboundedText w alone
   text w g (bool b) = boolText b
   text w g (num m s) = numText m s
   text w g (str f s) = strText (g .ci) (g .ai) (g .cai) f s
@@ -92,7 +92,7 @@ unfoldable mutual
   text w g (spatial n s) = spatialText n s
   text w g (id s) = s
   text w g (monadic o t) = monadicText g o t (text w g t) (children w g t)
-  text w g (dyadic o t u) = dyadicText g o t u (text w g t) (text w g u) (children w g t) (children w g u)
+  text w g (dyadic o t u) = dyadicText w g o t u (text w g t) (text w g u) (children w g t) (children w g u)
   text w g (function n ts) = n ++ bare false (joined (texts w g ts))
   text w g (array ts) = bare false (joined (texts w g ts))
   text w g (interval t u) = []

@@ -1,13 +1,11 @@
-// The four ends of a temporal operator, found in its record, and the pieces of its condition.
+// The four ends of a temporal operator, found in its record, and the template of its condition.
 ghost use mathlib.Core.Path.{_≡_};
 ghost use mathlib.Core.Bool.{true, false};
 ghost use Prim.Native.Nat.{_+_, _≤_, _<_};
 ghost use lib.ListN.{length};
-ghost use Rattle.emit.specs.Emit.{countLimit};
-ghost use Rattle.emit.specs.LaysWords.{Lays};
 ghost use Rattle.text.specs.Text.{text};
 ghost use Rattle.tree.specs.Tests.{endsOf};
-ghost use Rattle.text.specs.EndWords.{endPiece, pieceOf, flatText, Is, IsOperand, Are, slot, temporalOf, nodeEnds};
+ghost use Rattle.text.specs.EndWords.{Is, IsOperand, Are, slot, temporalOf, nodeEnds};
 ghost use Rattle.text.specs.NodeWords.{Node};
 ghost use Rattle.text.specs.RecordWords.{Stands};
 ghost use Rattle.literal.specs.declared.Writing.{Writing};
@@ -34,60 +32,6 @@ use tree::INTERVAL;
 use tree::NULL;
 use tree::TIMESTAMP;
 use tree::UNBOUNDED;
-
-// A piece that is written without a walk of another record.
-pub(crate) enum Flat {
-    // The words of a code.
-    Words(u8),
-    // An open end.
-    Opened,
-    // NULL.
-    Nothing,
-}
-
-// A piece of a temporal condition's text.
-pub(crate) enum Piece {
-    Plain(Flat),
-    // The text of the record from a first offset to an end.
-    Node(usize, usize),
-    // The name in such a record.
-    Name(usize, usize),
-}
-
-pub(crate) fn put_flat(flat: Flat, out: &mut [u8], at: usize) -> usize
-    ensures { λ r. ⌜ Lays countLimit at (flatText flat) (now (out .entry)) (now (out .exit)) r ⌝ }
-{
-    match flat {
-        Flat::Words(code) => part::put_part(code, out, at),
-        Flat::Opened => instant::put_unbounded(out, at),
-        Flat::Nothing => emit::put(b"NULL", out, at),
-    }
-}
-
-fn end_piece(e: End) -> Piece
-    ensures { λ r. ⌜ r ≡ endPiece e ⌝ }
-{
-    match e {
-        End::Column(a, z) => Piece::Name(a as usize, z as usize),
-        End::Instant(a, z) => Piece::Node(a as usize, z as usize),
-        End::Other(a, z) => Piece::Node(a as usize, z as usize),
-        End::Open => Piece::Plain(Flat::Opened),
-        End::Null => Piece::Plain(Flat::Nothing),
-    }
-}
-
-// Codes below this are the ends.
-pub(crate) const ENDS: u8 = 4;
-
-// What a code of a template stands for.
-pub(crate) fn piece_of(code: u8, end: End) -> Piece
-    ensures { λ r. ⌜ r ≡ pieceOf code end ⌝ }
-{
-    if code < ENDS {
-        return end_piece(end);
-    }
-    Piece::Plain(Flat::Words(code))
-}
 
 // The end whose record lies from a to z.
 fn end_at(s: &[u8], a: usize, z: usize) -> End

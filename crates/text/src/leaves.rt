@@ -122,7 +122,7 @@ pub(crate) fn put_leaf(s: &[u8], set: &[u8], writing: Writing, out: &mut [u8], a
 {
     match record::word_at(s, KIND) {
         NULL => emit::put(b"NULL", out, at),
-        UNBOUNDED => instant::put_unbounded(out, at),
+        UNBOUNDED => instant::put_unbounded(writing, false, out, at),
         BOOL => literal::put_bool(record::byte_at(s, BODY) == 1, out, at),
         NUM => number::put_num(
             record::signed_at(s, BODY),

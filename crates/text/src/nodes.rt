@@ -16,11 +16,7 @@ ghost use Rattle.tree.specs.Tree.{Tree, Trees, encode, encodes};
 ghost use Rattle.tree.specs.Limits.{treeLimit};
 ghost use Rattle.tree.specs.Kinds.{DYADIC, MONADIC};
 ghost use Rattle.class.specs.ClassWords.{temporalNumber, spatialNumber, betweenNumber};
-use crate::ends::ENDS;
-use crate::ends::Piece;
 use crate::ends::is_temporal;
-use crate::ends::piece_of;
-use crate::ends::put_flat;
 use crate::ends::template_of;
 use crate::ends::temporal_ends;
 use crate::forms::bounds_at;
@@ -54,6 +50,10 @@ use emit::COUNT_LIMIT;
 use literal::Writing;
 use op::S_CONTAINS;
 use op::S_INTERSECTS;
+use part::ENDS;
+use part::Piece;
+use part::piece_of;
+use part::put_flat;
 use record::BODY;
 use record::KIND;
 use tree::ARRAY;
@@ -282,7 +282,7 @@ fn write_operands(
         let piece = piece_of(code, end);
         match piece {
             Piece::Plain(flat) => {
-                here = put_flat(flat, out, here);
+                here = put_flat(flat, writing, out, here);
             }
             Piece::Node(a, z) => {
                 if !inside(a, z, s.len()) {

@@ -16,7 +16,7 @@ use Rattle.string.specs.Quote as quote
 use Rattle.word.specs.Case as case
 use Rattle.keyword.specs.Reserved as keyword
 use Rattle.keyword.specs.Keywords as keywords
-use Rattle.op.specs.declared.Op.the-variants.{Neg, Or, TAfter, TBefore, TContains, TDisjoint, TDuring, TEquals, TIntersects, TMeets, TMetBy, TOverlaps}
+use Rattle.op.specs.declared.Op.the-variants.{Neg, Or, TAfter, TBefore, TContains, TDisjoint, TDuring, TEquals, TFinishes, TIntersects, TMeets, TMetBy, TOverlaps}
 use Rattle.op.specs.Op as op
 use Rattle.spelling.specs.Spelling as spelling
 use Rattle.tree.specs.Tree.{Tree, Settings, null, unbounded, date, timestamp, id, monadic, dyadic, interval}
@@ -47,7 +47,7 @@ use Rattle.time.specs.ConverseLaws.{turned-truth}
 use Rattle.time.specs.ComplementLaws.{disjoint-intersects}
 use Rattle.time.specs.ThirteenLaws.{exactly-one}
 use Rattle.time.specs.OgcLaws.{ogc-agrees}
-use Rattle.time.specs.Ogc.{earlier, sameMoment, ogc, beginsDate, goesOnTime, goesOnMilliseconds, ten, nineteen, twentyFour, isInstant, fields, instants, isPoint, isStart, ogcOperand, momentOn, ogcOn}
+use Rattle.time.specs.Ogc.{earlier, sameMoment, ogc, beginsDate, goesOnTime, goesOnMilliseconds, ten, nineteen, twentyFour, isInstant, fields, instants, isPoint, isStart, isStop, ogcOperand, momentOn, ogcOn}
 
 -- Columns a, b, c, d, and values.
 abbrev a : Tree
@@ -176,12 +176,14 @@ improper :
 unfolding temporalTruth condTruth translators.translate translators.tEquals translators.tMeets sql.checkId sql.checkIds trees.isInterval trees.isId trees.startOf trees.stopOf trees.endsOf valueOn endOn look same order grammar.holds some literal.date literal.low liesBelow below treeAtom endAtom grammar.value trees.first trees.second
 improper = (refl, refl, refl)
 
--- `..` as an end lies below its start: [a, ..] is no proper interval either, and both meets [.., a] and is met by it.
+-- `..` as an end lies below its start in the first call: [a, ..] is no proper interval either, and both meets [.., a] and is met by it. In the
+-- second it lies above, so that [a, ..] and [.., ..] are proper.
 open-end :
     (proper Rust days a unbounded ≡ false) × (temporalTruth Rust days TMeets (interval a unbounded) (interval unbounded a) ≡ True)
     × (temporalTruth Rust days TMetBy (interval a unbounded) (interval unbounded a) ≡ True)
+    × (proper GeoPackage days a unbounded ≡ true) × (proper GeoPackage days unbounded unbounded ≡ true)
 unfolding temporalTruth condTruth translators.translate translators.tMeets translators.tMetBy sql.checkId sql.checkIds trees.isInterval trees.isId trees.startOf trees.stopOf trees.endsOf valueOn endOn look same order grammar.holds some literal.date literal.low liesBelow below literal.openEnd treeAtom endAtom grammar.value trees.first trees.second
-open-end = (refl, refl, refl)
+open-end = (refl, refl, refl, refl, refl)
 
 -- A NULL end, written or in a column: whether such an interval equals itself is unknown.
 null-end :
@@ -211,30 +213,24 @@ ogc-admits :
     (instants ten days ≡ true) × (operands TDuring (interval b c) first-week ≡ true) × (ogcOperand ten (interval b c) ≡ true)
     × (ogcOperand ten first-week ≡ true) × (temporalTruth Rust days TDuring (interval b c) first-week ≡ True)
     × (ogcOn ten days TDuring (interval b c) first-week ≡ true) × (instants nineteen (rowOf (second 1) (second 2) (second 3) (second 4)) ≡ true)
-unfolding temporalTruth condTruth translators.translate translators.tDuring sql.checkId sql.checkIds trees.isInterval trees.isId trees.startOf trees.stopOf trees.endsOf valueOn endOn look same order grammar.holds literal.date literal.low literal.timestamp literal.afterSeconds literal.clock literal.openEnd instants isInstant beginsDate goesOnTime validDate validTime daysIn leap charset.digit operands op.isTemporal op.isInstantOrInterval some ogcOperand isStart isPoint ogcOn ogc earlier below momentOn fields treeAtom endAtom grammar.value isEnd trees.first trees.second
+unfolding temporalTruth condTruth translators.translate translators.tDuring sql.checkId sql.checkIds trees.isInterval trees.isId trees.startOf trees.stopOf trees.endsOf valueOn endOn look same order grammar.holds literal.date literal.low literal.timestamp literal.afterSeconds literal.clock literal.openEnd instants isInstant beginsDate goesOnTime validDate validTime daysIn leap charset.digit operands op.isTemporal op.isInstantOrInterval some ogcOperand isStart isStop isPoint ogcOn ogc earlier below momentOn fields treeAtom endAtom grammar.value isEnd trees.first trees.second
 ogc-admits = (refl, refl, refl, refl, refl, refl, refl)
 
 ogc-instance : temporalTruth Rust days TDuring (interval b c) first-week ≡ truthOf (ogcOn ten days TDuring (interval b c) first-week)
-unfolding op.isTemporal op.isInstantOrInterval some operands trees.isInterval instants isInstant beginsDate validDate daysIn leap charset.digit holds look same ogcOperand isStart isPoint literal.date literal.low valueOn endOn treeAtom endAtom grammar.value trees.everywhere trees.isId trees.startOf trees.stopOf isEnd trees.first trees.second
+unfolding op.isTemporal op.isInstantOrInterval some operands trees.isInterval instants isInstant beginsDate validDate daysIn leap charset.digit holds look same ogcOperand isStart isStop isPoint literal.date literal.low valueOn endOn treeAtom endAtom grammar.value trees.everywhere trees.isId trees.startOf trees.stopOf isEnd trees.first trees.second
 ogc-instance = ogc-agrees ten days TDuring (interval b c) first-week 2 2 refl refl good-instants good-week refl refl refl refl refl
 
 -- A NULL literal, or a column that is NULL: unknown, where a predicate holds or does not.
 ogc-null :
     (ogcOperand ten null ≡ false) × (temporalTruth Rust days TEquals a null ≡ Unknown) × (instants ten sheetN ≡ false) × (temporalTruth Rust sheetN TEquals a b ≡ Unknown)
-unfolding temporalTruth condTruth translators.translate translators.tEquals sql.checkId sql.checkIds trees.isInterval trees.isId trees.startOf trees.stopOf trees.endsOf valueOn endOn look same order grammar.holds literal.date literal.low instants isInstant beginsDate validDate daysIn leap charset.digit some ogcOperand treeAtom endAtom grammar.value isEnd trees.first trees.second isStart isPoint
+unfolding temporalTruth condTruth translators.translate translators.tEquals sql.checkId sql.checkIds trees.isInterval trees.isId trees.startOf trees.stopOf trees.endsOf valueOn endOn look same order grammar.holds literal.date literal.low instants isInstant beginsDate validDate daysIn leap charset.digit some ogcOperand treeAtom endAtom grammar.value isEnd trees.first trees.second isStart isStop isPoint
 ogc-null = (refl, refl, refl, refl)
-
--- `..` as an end is written as a start: [a, ..] reads as before b, though an open end lies above every instant.
-ogc-open-end :
-    (ogcOperand ten (interval a unbounded) ≡ false) × (temporalTruth Rust days TBefore (interval a unbounded) b ≡ True)
-unfolding temporalTruth condTruth translators.translate translators.tBefore sql.checkId sql.checkIds trees.isInterval trees.isId trees.startOf trees.stopOf trees.endsOf valueOn endOn look same order grammar.holds some literal.date literal.low literal.openEnd ogcOperand isStart isPoint treeAtom endAtom grammar.value isEnd trees.first trees.second
-ogc-open-end = (refl, refl)
 
 -- Mixed widths: a date lies below its own midnight, as a shorter prefix comes first.
 ogc-mixed :
     (ogcOperand ten (timestamp 2024 1 1 0 0 0) ≡ false) × (ogcOperand nineteen (date 2024 1 1) ≡ false)
     × (temporalTruth Rust [] TBefore (date 2024 1 1) (timestamp 2024 1 1 0 0 0) ≡ True) × (temporalTruth Rust [] TEquals (date 2024 1 1) (timestamp 2024 1 1 0 0 0) ≡ False)
-unfolding temporalTruth condTruth translators.translate translators.tBefore translators.tEquals sql.checkId sql.checkIds trees.isInterval trees.isId trees.startOf trees.stopOf trees.endsOf valueOn endOn look same order grammar.holds some literal.date literal.low literal.timestamp literal.afterSeconds literal.clock ogcOperand treeAtom endAtom grammar.value isEnd trees.first trees.second isStart isPoint
+unfolding temporalTruth condTruth translators.translate translators.tBefore translators.tEquals sql.checkId sql.checkIds trees.isInterval trees.isId trees.startOf trees.stopOf trees.endsOf valueOn endOn look same order grammar.holds some literal.date literal.low literal.timestamp literal.afterSeconds literal.clock ogcOperand treeAtom endAtom grammar.value isEnd trees.first trees.second isStart isStop isPoint
 ogc-mixed = (refl, refl, refl, refl)
 
 -- A row of another width: two seconds of one day are ordered, their days are not.
@@ -259,8 +255,22 @@ ogc-milliseconds :
     × (temporalTruth Rust timestamps TEquals a midnight ≡ False) × (temporalTruth Rust timestamps TAfter a midnight ≡ True)
     × (ogcOn twentyFour timestamps TAfter b midnight ≡ true) × (temporalTruth GeoPackage timestamps TAfter b midnight ≡ True)
     × (temporalTruth GeoPackage timestamps TBefore (date 2024 1 1) a ≡ True)
-unfolding temporalTruth condTruth translators.translate translators.tBefore translators.tEquals sql.checkId sql.checkIds trees.isInterval trees.isId trees.startOf trees.stopOf trees.endsOf valueOn endOn look same order grammar.holds some literal.date literal.low literal.timestamp literal.afterSeconds literal.clock ogcOperand treeAtom endAtom grammar.value isEnd trees.first trees.second isStart isPoint instants isInstant ogcOn ogc earlier below momentOn fields charset.digit goesOnTime goesOnMilliseconds leap translators.tAfter beginsDate validDate daysIn validTime sameMoment
+unfolding temporalTruth condTruth translators.translate translators.tBefore translators.tEquals sql.checkId sql.checkIds trees.isInterval trees.isId trees.startOf trees.stopOf trees.endsOf valueOn endOn look same order grammar.holds some literal.date literal.low literal.timestamp literal.afterSeconds literal.clock ogcOperand treeAtom endAtom grammar.value isEnd trees.first trees.second isStart isStop isPoint instants isInstant ogcOn ogc earlier below momentOn fields charset.digit goesOnTime goesOnMilliseconds leap translators.tAfter beginsDate validDate daysIn validTime sameMoment
 ogc-milliseconds = (refl, refl, refl, refl, refl, refl, refl, refl, refl, refl)
+
+-- `..` as an end. In the first call it is written as a start: [a, ..] reads as before b, though an open end lies above every instant. In the second
+-- it lies above c, and [a, ..] is as long as [.., ..] at its end, but begins later.
+ogc-open-end :
+    (ogcOperand ten (interval a unbounded) ≡ false) × (temporalTruth Rust days TBefore (interval a unbounded) b ≡ True)
+    × (ogcOperand twentyFour (interval a unbounded) ≡ true) × (temporalTruth GeoPackage timestamps TBefore (interval a unbounded) b ≡ False)
+    × (temporalTruth GeoPackage timestamps TIntersects (interval a unbounded) b ≡ True) × (ogcOn twentyFour timestamps TIntersects (interval a unbounded) b ≡ true)
+    × (temporalTruth GeoPackage timestamps TFinishes (interval a unbounded) (interval unbounded unbounded) ≡ True)
+    × (ogcOn twentyFour timestamps TFinishes (interval a unbounded) (interval unbounded unbounded) ≡ true)
+    × (temporalTruth GeoPackage timestamps TMeets (interval a unbounded) (interval unbounded unbounded) ≡ False)
+    × (ogcOn twentyFour timestamps TMeets (interval a unbounded) (interval unbounded unbounded) ≡ false)
+    × (ogcOperand twentyFour unbounded ≡ false)
+unfolding temporalTruth condTruth translators.translate translators.tBefore translators.tAfter translators.tIntersects translators.tFinishes translators.tMeets sql.checkId sql.checkIds trees.isInterval trees.isId trees.startOf trees.stopOf trees.endsOf valueOn endOn look same order grammar.holds some literal.date literal.low literal.openEnd ogcOperand isStart isStop isPoint treeAtom endAtom grammar.value isEnd trees.first trees.second ogcOn ogc earlier sameMoment below momentOn fields
+ogc-open-end = (refl, refl, refl, refl, refl, refl, refl, refl, refl, refl, refl)
 
 -- A row of 19-byte values in the second call: a lies at the second that is written, and reads as before it.
 ogc-seconds :

@@ -64,9 +64,12 @@ all-append p (c ∷ x) y a b = let h = both-true (p c) (all p x) a in rw (h .0) 
 digit-str : (n : ℕ) → n < 10 → unmarked (48 + n) ≡ true
 digit-str n h = rw (le-leb 32 (48 + n) (omega arith), le-leb (48 + n) 126 (omega arith), ne-eqb (48 + n) 39 (λ e. omega arith))
 
-open-str : (slot : Slot) → all unmarked (literal.openEnd slot) ≡ true
+open-str : (writing : Writing) (slot : Slot) → all unmarked (literal.openEnd writing slot) ≡ true
 unfolding all literal.openEnd
-open-str slot = refl
+open-str writing alone = refl
+open-str writing firstEnd = refl
+open-str Rust secondEnd = refl
+open-str GeoPackage secondEnd = refl
 
 low-str : (w n : ℕ) → all unmarked (low w n) ≡ true
 unfolding low all
@@ -98,13 +101,13 @@ timestamp-str writing y m d h i s =
     (all-append unmarked (literal.clock h i s) (literal.afterSeconds writing) (clock-str h i s) (after-seconds-str writing))
 
 -- the text of an end in its slot is that of its atom
-pub end-text : (writing : Writing) (g : Settings) (slot : Slot) (t : Tree) (n : ℕ) → isEnd t ≡ true → Good t n → AtomText (endText slot t (gpkg.text writing g t)) (endAtom writing slot t)
+pub end-text : (writing : Writing) (g : Settings) (slot : Slot) (t : Tree) (n : ℕ) → isEnd t ≡ true → Good t n → AtomText (endText writing slot t (gpkg.text writing g t)) (endAtom writing slot t)
 unfolding gpkg.text endAtom treeAtom Good literal.quoted
 end-text writing g slot t n e x = go t (end-is t e) x
   where
-    go : (t : Tree) → EndIs t → Good t n → AtomText (endText slot t (gpkg.text writing g t)) (endAtom writing slot t)
+    go : (t : Tree) → EndIs t → Good t n → AtomText (endText writing slot t (gpkg.text writing g t)) (endAtom writing slot t)
     go t null-end x = null-atom
-    go t open-end x = unmarked-atom (literal.openEnd slot) (open-str slot)
+    go t open-end x = unmarked-atom (literal.openEnd writing slot) (open-str writing slot)
     go t (date-end y m d) x = unmarked-atom (literal.date y m d) (date-str y m d)
     go t (timestamp-end y m d h i s) x = unmarked-atom (literal.timestamp writing y m d h i s) (timestamp-str writing y m d h i s)
     go t (column-end s) x = bare-atom s (x .1)
@@ -124,17 +127,17 @@ comparable-text writing g t n e x = go t (comparable-is t e) x
 
 -- Operands: their ends, and the ends' texts.
 pub record Operand (writing : Writing) (g : Settings) (t : Tree) : Type 0 where
-  pub start-atom : AtomText (startText t (gpkg.text writing g t) (children writing g t)) (endAtom writing (startSlot (isInterval t)) (startOf t))
-  pub stop-atom : AtomText (stopText t (children writing g t)) (endAtom writing (stopSlot (isInterval t)) (stopOf t))
-  pub start-name : isId (startOf t) ≡ true → (endAtom writing (startSlot (isInterval t)) (startOf t) ≡ column (startText t (gpkg.text writing g t) (children writing g t))) × (name (startText t (gpkg.text writing g t) (children writing g t)) ≡ true)
-  pub stop-name : isId (stopOf t) ≡ true → (endAtom writing (stopSlot (isInterval t)) (stopOf t) ≡ column (stopText t (children writing g t))) × (name (stopText t (children writing g t)) ≡ true)
+  pub start-atom : AtomText (startText writing t (gpkg.text writing g t) (children writing g t)) (endAtom writing (startSlot (isInterval t)) (startOf t))
+  pub stop-atom : AtomText (stopText writing t (children writing g t)) (endAtom writing (stopSlot (isInterval t)) (stopOf t))
+  pub start-name : isId (startOf t) ≡ true → (endAtom writing (startSlot (isInterval t)) (startOf t) ≡ column (startText writing t (gpkg.text writing g t) (children writing g t))) × (name (startText writing t (gpkg.text writing g t) (children writing g t)) ≡ true)
+  pub stop-name : isId (stopOf t) ≡ true → (endAtom writing (stopSlot (isInterval t)) (stopOf t) ≡ column (stopText writing t (children writing g t))) × (name (stopText writing t (children writing g t)) ≡ true)
 
 -- an end that is a column is a name
-end-name : (writing : Writing) (g : Settings) (slot : Slot) (t : Tree) (n : ℕ) → Good t n → isId t ≡ true → (endAtom writing slot t ≡ column (endText slot t (gpkg.text writing g t))) × (name (endText slot t (gpkg.text writing g t)) ≡ true)
+end-name : (writing : Writing) (g : Settings) (slot : Slot) (t : Tree) (n : ℕ) → Good t n → isId t ≡ true → (endAtom writing slot t ≡ column (endText writing slot t (gpkg.text writing g t))) × (name (endText writing slot t (gpkg.text writing g t)) ≡ true)
 unfolding gpkg.text endAtom treeAtom Good
 end-name writing g slot t n x e = go t (id-is t e) x
   where
-    go : (t : Tree) → OfKind ID t → Good t n → (endAtom writing slot t ≡ column (endText slot t (gpkg.text writing g t))) × (name (endText slot t (gpkg.text writing g t)) ≡ true)
+    go : (t : Tree) → OfKind ID t → Good t n → (endAtom writing slot t ≡ column (endText writing slot t (gpkg.text writing g t))) × (name (endText writing slot t (gpkg.text writing g t)) ≡ true)
     go t (of-id s) x = (refl, x .1)
 
 -- an instant: it is its own start, and Null its stop
@@ -169,12 +172,12 @@ operand writing g t n e x = go (isInterval t) refl e
 
 -- the four ends of two operands
 pub four-ends : (writing : Writing) (g : Settings) (t u : Tree) → Operand writing g t → Operand writing g u
-    → Ends (λ j. getD (startText t (gpkg.text writing g t) (children writing g t) ∷ stopText t (children writing g t) ∷ startText u (gpkg.text writing g u) (children writing g u) ∷ stopText u (children writing g u) ∷ []) j [])
+    → Ends (λ j. getD (startText writing t (gpkg.text writing g t) (children writing g t) ∷ stopText writing t (children writing g t) ∷ startText writing u (gpkg.text writing g u) (children writing g u) ∷ stopText writing u (children writing g u) ∷ []) j [])
     (λ j. endAtom writing (slotAt t u j) (getD (endsOf t u) j null)) (columnsOf t u)
 unfolding endsOf
 four-ends writing g t u A B = record { atoms = λ j h. atoms j h; names = λ j h c. names j h c }
   where
-    atoms : (j : ℕ) → j < 4 → AtomText (getD (startText t (gpkg.text writing g t) (children writing g t) ∷ stopText t (children writing g t) ∷ startText u (gpkg.text writing g u) (children writing g u) ∷ stopText u (children writing g u) ∷ []) j []) (endAtom writing (slotAt t u j) (getD (startOf t ∷ stopOf t ∷ startOf u ∷ stopOf u ∷ []) j null))
+    atoms : (j : ℕ) → j < 4 → AtomText (getD (startText writing t (gpkg.text writing g t) (children writing g t) ∷ stopText writing t (children writing g t) ∷ startText writing u (gpkg.text writing g u) (children writing g u) ∷ stopText writing u (children writing g u) ∷ []) j []) (endAtom writing (slotAt t u j) (getD (startOf t ∷ stopOf t ∷ startOf u ∷ stopOf u ∷ []) j null))
     atoms zero h = A .start-atom
     atoms (suc zero) h = A .stop-atom
     atoms (suc (suc zero)) h = B .start-atom
@@ -182,8 +185,8 @@ four-ends writing g t u A B = record { atoms = λ j h. atoms j h; names = λ j h
     atoms (suc (suc (suc (suc j)))) h = absurd (omega arith)
 
     names : (j : ℕ) → j < 4 → isId (getD (startOf t ∷ stopOf t ∷ startOf u ∷ stopOf u ∷ []) j null) ≡ true
-        → (endAtom writing (slotAt t u j) (getD (startOf t ∷ stopOf t ∷ startOf u ∷ stopOf u ∷ []) j null) ≡ column (getD (startText t (gpkg.text writing g t) (children writing g t) ∷ stopText t (children writing g t) ∷ startText u (gpkg.text writing g u) (children writing g u) ∷ stopText u (children writing g u) ∷ []) j []))
-        × (name (getD (startText t (gpkg.text writing g t) (children writing g t) ∷ stopText t (children writing g t) ∷ startText u (gpkg.text writing g u) (children writing g u) ∷ stopText u (children writing g u) ∷ []) j []) ≡ true)
+        → (endAtom writing (slotAt t u j) (getD (startOf t ∷ stopOf t ∷ startOf u ∷ stopOf u ∷ []) j null) ≡ column (getD (startText writing t (gpkg.text writing g t) (children writing g t) ∷ stopText writing t (children writing g t) ∷ startText writing u (gpkg.text writing g u) (children writing g u) ∷ stopText writing u (children writing g u) ∷ []) j []))
+        × (name (getD (startText writing t (gpkg.text writing g t) (children writing g t) ∷ stopText writing t (children writing g t) ∷ startText writing u (gpkg.text writing g u) (children writing g u) ∷ stopText writing u (children writing g u) ∷ []) j []) ≡ true)
     names zero h c = A .start-name c
     names (suc zero) h c = A .stop-name c
     names (suc (suc zero)) h c = B .start-name c

@@ -1,4 +1,4 @@
--- The truth of a time filter on a row, over the tree, without text: document 01, "Truth", and for the two writings document 02, slip 4. And, Or,
+-- The truth of a time filter on a row, over the tree, without text: document 01, "Truth", and for the two writings document 02, slips 4 and 5. And, Or,
 -- Neg by the three-valued tables, a test by its values, a temporal predicate by the comparisons that its `t_…_sql` names, a conjunct being false
 -- where a column it guards is NULL.
 use Prim.Native.Nat.{ℕ}
@@ -33,7 +33,7 @@ use Rattle.time.specs.Filter.{isNeg, isAnd, isOr, compares}
 -- or NULL
 unfoldable pub treeAtom : Writing → Tree → Atom
 treeAtom w null = none
-treeAtom w unbounded = text (literal.openEnd alone)
+treeAtom w unbounded = text (literal.openEnd w alone)
 treeAtom w (bool b) = none
 treeAtom w (num m s) = none
 treeAtom w (str f s) = text s
@@ -49,7 +49,7 @@ treeAtom w (interval t u) = none
 
 -- what stands for an end by its slot: the string that the slot spells for an open end, and for any other end what stands for the tree
 unfoldable pub endAtom : Writing → Slot → Tree → Atom
-endAtom w slot t = pick (eqb (kindOf t) UNBOUNDED) (text (literal.openEnd slot)) (treeAtom w t)
+endAtom w slot t = pick (eqb (kindOf t) UNBOUNDED) (text (literal.openEnd w slot)) (treeAtom w t)
 
 -- the value on a row of what is compared, or tested for NULL
 unfoldable pub valueOn : Writing → List Column → Tree → Found

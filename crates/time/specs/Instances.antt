@@ -13,7 +13,7 @@ use Rattle.prelude.specs.ChoiceLaws.{both-true}
 use Rattle.op.specs.declared.Op.{Op}
 use Rattle.op.specs.declared.Op.the-variants.{TAfter, TBefore, TContains, TDisjoint, TDuring, TEquals, TFinishedBy, TFinishes, TIntersects, TMeets, TMetBy, TOverlappedBy, TOverlaps, TStartedBy, TStarts}
 use Rattle.op.specs.Op.{isTemporal}
-use Rattle.tree.specs.Tree.{Tree, Settings, timestamp, id, dyadic, interval, encode, encodeSettings, Bytes}
+use Rattle.tree.specs.Tree.{Tree, Settings, unbounded, timestamp, id, dyadic, interval, encode, encodeSettings, Bytes}
 use Rattle.tree.specs.Parse.{got}
 use Rattle.tree.specs.Accepted.{accepted}
 use Rattle.literal.specs.declared.Writing.{Writing}
@@ -152,6 +152,13 @@ midnight n = timestamp 2024 1 n 0 0 0
 abbrev after : ℕ → Tree
 after n = dyadic TAfter a (midnight n)
 
+-- a stay that began at a and has not ended goes on a day later
+abbrev stay : Tree
+stay = interval a unbounded
+
+abbrev staying : Tree
+staying = dyadic TIntersects stay (midnight 2)
+
 -- All that is computed, at once; what names no timestamp is so in either writing.
 record Computed (w : Writing) : Type 0 where
   rowNull-is : rowOf rowNull ≡ columns columnsNull
@@ -180,9 +187,14 @@ record Computed (w : Writing) : Type 0 where
   stamps : (instants twentyFour columnsTimestamp ≡ true) × (ogcOperand twentyFour a ≡ true) × (ogcOperand twentyFour (midnight 1) ≡ true)
   later : answered (truthOf (ogcOn twentyFour columnsTimestamp TAfter a (midnight 1))) ≡ SaysTrue
   not-later : answered (truthOn GeoPackage columnsTimestamp (after 2)) ≡ SaysFalse
+  stay-lowers : Lowers GeoPackage staying (sql GeoPackage staying)
+  meets-temporal : isTemporal TIntersects ≡ true
+  heldStay : (holds columnsTimestamp stay ≡ true) × (holds columnsTimestamp (midnight 2) ≡ true)
+  stays : (ogcOperand twentyFour stay ≡ true) × (ogcOperand twentyFour (midnight 2) ≡ true)
+  stays-there : answered (truthOf (ogcOn twentyFour columnsTimestamp TIntersects stay (midnight 2))) ≡ SaysTrue
 
 computed : (w : Writing) → Computed w
-unfolding prelude-choice.all prelude-choice.some prelude-choice.same record-record.frame record-record.recordOf charset-charset.letter charset-charset.digit charset-charset.nameStart charset-charset.nameByte word-case.upper keyword-reserved.reservedWords keyword-keywords.keywords keyword-keywords.keywordTexts keyword-reserved.reserved charset-charset.name string-utf8.sequences string-utf8.goesOn string-utf8.valid string-quote.doubled string-quote.undoubled string-quote.closing string-quote.quotedSize charset-charset.spatialByte civil-civil.leap civil-civil.daysIn civil-civil.validDate civil-civil.validTime op-op.opAt op-op.isArithmetic op-op.isArray op-op.isComparison op-op.isXtdComparison op-op.isSpatial op-op.isTemporal op-op.isInstantOrInterval op-op.isNullable spelling-spelling.spelledAs tree-tree.twos tree-tree.dateBytes tree-tree.counted tree-tree.encodeSettings tree-tree.encode tree-parse.also tree-parse.cons tree-parse.end tree-parse.exactly tree-parse.many tree-tests.first tree-tests.second record-record.signed charset-named.namedAt tree-parse.emptyBody tree-parse.boolBody tree-parse.numBody tree-parse.strBody tree-parse.dateBody tree-parse.timestampBody tree-parse.spatialBody tree-parse.takesOne tree-parse.takesTwo tree-parse.allowed tree-parse.operated tree-parse.readFunction tree-parse.choose tree-parse.kinds tree-parse.node tree-parse.parse tree-tests.isInterval tree-tests.count tree-tests.isPair tree-placed.isBetween tree-placed.operands tree-placed.placed tree-placed.noInterval tree-placed.inPlace tree-placed.inner tree-tests.everywhere tree-tests.everywhereIn tree-tests.byOperator settings-settings.isFrame settings-settings.settingsBody settings-settings.isSettings tree-accepted.settings tree-accepted.accepted literal-literal.low literal-literal.digits literal-literal.decimal literal-literal.pointed literal-literal.plain literal-literal.sign literal-literal.numText literal-literal.quoted literal-literal.collate literal-literal.strText literal-literal.spatialText literal-literal.date literal-literal.clock literal-literal.timestamp literal-literal.afterSeconds literal-literal.openEnd sql-condition.print sql-condition.checkId sql-condition.checkIds sql-translators.tAfter sql-translators.tBefore sql-translators.tDisjoint sql-translators.tEquals sql-translators.tIntersects sql-translators.tContains sql-translators.tDuring sql-translators.tFinishedBy sql-translators.tFinishes sql-translators.tMeets sql-translators.tMetBy sql-translators.tOverlappedBy sql-translators.tOverlaps sql-translators.tStartedBy sql-translators.tStarts sql-translators.translate tree-tests.isId tree-tests.isLiteralOrId tree-tests.isMonadic tree-tests.isItems tree-tests.startOf tree-tests.stopOf tree-tests.endsOf gpkg-text.joined gpkg-text.reducePrecision gpkg-text.monadicText gpkg-text.reduces gpkg-text.dyadicText tree-tests.isLiteral gpkg-text.text gpkg-lowered.fitted gpkg-lowered.lowering gpkg-lowered.answer gpkg-lowered.leaves order-order.order order-order.below row-row.cellOf row-row.columnIn row-row.framed row-row.front row-row.clash row-row.joined row-row.rowFrom row-row.rowOf row-row.look truth-lex.run truth-lex.wordKind truth-lex.signKind truth-lex.signMore truth-lex.quoteKind truth-lex.lexeme truth-lex.cut truth-lex.tokensIn truth-lex.tokens truth-lex.kind truth-lex.body truth-lex.rest truth-grammar.value truth-grammar.holds truth-grammar.eval truth-grammar.atomOf truth-grammar.notNull truth-grammar.nullTest truth-grammar.fromAtom truth-grammar.simple truth-grammar.orE truth-reading.parse truth-reading.readingOf truth-reading.decided time-filter.comparable time-filter.isEnd time-filter.isOperand time-filter.timeFilter time-filtertruth.treeAtom time-filtertruth.holds time-filtertruth.valueOn time-filtertruth.endAtom time-filtertruth.endOn time-filtertruth.condTruth time-filtertruth.temporalTruth time-filtertruth.comparison time-filtertruth.truthOn time-filtertruth.isValue time-filtertruth.liesBelow time-filtertruth.columnsNonNull time-converse.converse time-converse.thirteen time-ogc.earlier time-ogc.sameMoment time-ogc.ogc time-ogc.beginsDate time-ogc.goesOnTime time-ogc.goesOnMilliseconds time-ogc.isInstant time-ogc.fields time-ogc.instants time-ogc.isPoint time-ogc.isStart time-ogc.ogcOperand time-ogc.momentOn time-ogc.ogcOn
+unfolding prelude-choice.all prelude-choice.some prelude-choice.same record-record.frame record-record.recordOf charset-charset.letter charset-charset.digit charset-charset.nameStart charset-charset.nameByte word-case.upper keyword-reserved.reservedWords keyword-keywords.keywords keyword-keywords.keywordTexts keyword-reserved.reserved charset-charset.name string-utf8.sequences string-utf8.goesOn string-utf8.valid string-quote.doubled string-quote.undoubled string-quote.closing string-quote.quotedSize charset-charset.spatialByte civil-civil.leap civil-civil.daysIn civil-civil.validDate civil-civil.validTime op-op.opAt op-op.isArithmetic op-op.isArray op-op.isComparison op-op.isXtdComparison op-op.isSpatial op-op.isTemporal op-op.isInstantOrInterval op-op.isNullable spelling-spelling.spelledAs tree-tree.twos tree-tree.dateBytes tree-tree.counted tree-tree.encodeSettings tree-tree.encode tree-parse.also tree-parse.cons tree-parse.end tree-parse.exactly tree-parse.many tree-tests.first tree-tests.second record-record.signed charset-named.namedAt tree-parse.emptyBody tree-parse.boolBody tree-parse.numBody tree-parse.strBody tree-parse.dateBody tree-parse.timestampBody tree-parse.spatialBody tree-parse.takesOne tree-parse.takesTwo tree-parse.allowed tree-parse.operated tree-parse.readFunction tree-parse.choose tree-parse.kinds tree-parse.node tree-parse.parse tree-tests.isInterval tree-tests.count tree-tests.isPair tree-placed.isBetween tree-placed.operands tree-placed.placed tree-placed.noInterval tree-placed.inPlace tree-placed.inner tree-tests.everywhere tree-tests.everywhereIn tree-tests.byOperator settings-settings.isFrame settings-settings.settingsBody settings-settings.isSettings tree-accepted.settings tree-accepted.accepted literal-literal.low literal-literal.digits literal-literal.decimal literal-literal.pointed literal-literal.plain literal-literal.sign literal-literal.numText literal-literal.quoted literal-literal.collate literal-literal.strText literal-literal.spatialText literal-literal.date literal-literal.clock literal-literal.timestamp literal-literal.afterSeconds literal-literal.openEnd sql-condition.print sql-condition.checkId sql-condition.checkIds sql-translators.tAfter sql-translators.tBefore sql-translators.tDisjoint sql-translators.tEquals sql-translators.tIntersects sql-translators.tContains sql-translators.tDuring sql-translators.tFinishedBy sql-translators.tFinishes sql-translators.tMeets sql-translators.tMetBy sql-translators.tOverlappedBy sql-translators.tOverlaps sql-translators.tStartedBy sql-translators.tStarts sql-translators.translate tree-tests.isId tree-tests.isLiteralOrId tree-tests.isMonadic tree-tests.isItems tree-tests.startOf tree-tests.stopOf tree-tests.endsOf gpkg-text.joined gpkg-text.reducePrecision gpkg-text.monadicText gpkg-text.reduces gpkg-text.dyadicText tree-tests.isLiteral gpkg-text.text gpkg-lowered.fitted gpkg-lowered.lowering gpkg-lowered.answer gpkg-lowered.leaves order-order.order order-order.below row-row.cellOf row-row.columnIn row-row.framed row-row.front row-row.clash row-row.joined row-row.rowFrom row-row.rowOf row-row.look truth-lex.run truth-lex.wordKind truth-lex.signKind truth-lex.signMore truth-lex.quoteKind truth-lex.lexeme truth-lex.cut truth-lex.tokensIn truth-lex.tokens truth-lex.kind truth-lex.body truth-lex.rest truth-grammar.value truth-grammar.holds truth-grammar.eval truth-grammar.atomOf truth-grammar.notNull truth-grammar.nullTest truth-grammar.fromAtom truth-grammar.simple truth-grammar.orE truth-reading.parse truth-reading.readingOf truth-reading.decided time-filter.comparable time-filter.isEnd time-filter.isOperand time-filter.timeFilter time-filtertruth.treeAtom time-filtertruth.holds time-filtertruth.valueOn time-filtertruth.endAtom time-filtertruth.endOn time-filtertruth.condTruth time-filtertruth.temporalTruth time-filtertruth.comparison time-filtertruth.truthOn time-filtertruth.isValue time-filtertruth.liesBelow time-filtertruth.columnsNonNull time-converse.converse time-converse.thirteen time-ogc.earlier time-ogc.sameMoment time-ogc.ogc time-ogc.beginsDate time-ogc.goesOnTime time-ogc.goesOnMilliseconds time-ogc.isInstant time-ogc.fields time-ogc.instants time-ogc.isPoint time-ogc.isStart time-ogc.isStop time-ogc.ogcOperand time-ogc.momentOn time-ogc.ogcOn
 computed w =
     record {
       rowNull-is = refl;
@@ -225,6 +237,11 @@ computed w =
       stamps = (refl, refl, refl);
       later = refl;
       not-later = refl;
+      stay-lowers = lowers-by GeoPackage staying refl refl refl;
+      meets-temporal = refl;
+      heldStay = (refl, refl);
+      stays = (refl, refl);
+      stays-there = refl;
     }
 
 is-rowNull : IsRow rowNull columnsNull
@@ -273,3 +290,9 @@ pub geopackage-ogc-instance : readingOf (sql GeoPackage (after 1)) rowTimestamp 
 geopackage-ogc-instance =
     agrees-with-ogc twentyFour (computed GeoPackage .after-lowers) (computed GeoPackage .after-temporal) is-rowTimestamp (computed GeoPackage .heldTimestamp .0) (computed GeoPackage .heldTimestamp .1) (computed GeoPackage .stamps .0) (computed GeoPackage .stamps .1) (computed GeoPackage .stamps .2)
     ∙ computed GeoPackage .later
+
+-- and with an open end
+pub open-end-instance : readingOf (sql GeoPackage staying) rowTimestamp ≡ SaysTrue
+open-end-instance =
+    agrees-with-ogc twentyFour (computed GeoPackage .stay-lowers) (computed GeoPackage .meets-temporal) is-rowTimestamp (computed GeoPackage .heldStay .0) (computed GeoPackage .heldStay .1) (computed GeoPackage .stamps .0) (computed GeoPackage .stays .0) (computed GeoPackage .stays .1)
+    ∙ computed GeoPackage .stays-there

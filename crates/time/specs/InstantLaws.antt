@@ -1,6 +1,6 @@
 -- The order of bytes of two valid values of one width is the order of their calendar fields: digit by digit is number by number, as two or three
--- digits or two numbers compared in turn are compared as one. A written date or timestamp reads back as its fields, and an open end lies below every
--- valid value.
+-- digits or two numbers compared in turn are compared as one. A written date or timestamp reads back as its fields, an open start lies below every
+-- valid value and the second call's open end above.
 use Prim.Native.Nat.{ℕ, suc, _+_, _-_, _*_, _/_, _%_, _≤_, _<_}
 use mathlib.Core.Path.{_≡_, refl, sym, ap, _∙_}
 use mathlib.Core.List.{List, [], _∷_, _++_}
@@ -20,7 +20,9 @@ use Rattle.order.specs.declared.Ordering.the-variants.{Less, Equal, Greater}
 use Rattle.order.specs.Order.{order}
 use Rattle.order.specs.OrderLaws.{three}
 use Rattle.literal.specs.Literal as literal
-use Rattle.literal.specs.Literal.{firstEnd}
+use Rattle.literal.specs.Literal.{firstEnd, secondEnd}
+use Rattle.literal.specs.declared.Writing.{Writing}
+use Rattle.literal.specs.declared.Writing.the-variants.{GeoPackage}
 use Rattle.prelude.specs.Bytes.{bytes}
 use Rattle.tree.specs.Kinds.{TIMESTAMP}
 use Rattle.tree.specs.Tree.{timestamp}
@@ -271,7 +273,7 @@ fields-order twentyFour x y e f =
     (millisecond-order x y (omega arith) (omega arith) (millisecond-parts x (g .1)) (millisecond-parts y (h .1))
     ∙ ap (λ r. step (threeAt x 20) (threeAt y 20) r) (at-end x y 24 l m))
 
--- An open end lies below every valid value.
+-- An open start lies below every valid value, and the second call's open end above.
 begins : (w : Width) (x : List ℕ) → isInstant w x ≡ true → (10 ≤ length x) × DateParts x
 unfolding isInstant
 begins ten x e =
@@ -289,15 +291,25 @@ begins twentyFour x e =
     let l : length x ≡ 24 = eqb-true (length x) 24 (a .0) in
     (omega arith, date-parts x (c .0))
 
-open-first : (x : List ℕ) → 0 < length x → 48 ≤ getD x 0 0 → order (literal.openEnd firstEnd) x ≡ Less
+open-first : (w : Writing) (x : List ℕ) → 0 < length x → 48 ≤ getD x 0 0 → order (literal.openEnd w firstEnd) x ≡ Less
 unfolding order literal.openEnd
-open-first [] h k = absurd (omega arith)
-open-first (a ∷ x) h k = let l : 45 < a = omega arith in rw (lt-ltb 45 a l)
+open-first w [] h k = absurd (omega arith)
+open-first w (a ∷ x) h k = let l : 45 < a = omega arith in rw (lt-ltb 45 a l)
 
-pub open-below : (w : Width) (x : List ℕ) → isInstant w x ≡ true → order (literal.openEnd firstEnd) x ≡ Less
+pub open-below : (w : Width) (x : List ℕ) → isInstant w x ≡ true → order (literal.openEnd (writingOf w) firstEnd) x ≡ Less
 open-below w x e =
     let b = begins w x e in
-    open-first x (omega (arith, b .0)) (first x x x 0 (b .1 .century) .0)
+    open-first (writingOf w) x (omega (arith, b .0)) (first x x x 0 (b .1 .century) .0)
+
+open-last : (x : List ℕ) → 0 < length x → getD x 0 0 ≤ 57 → order x (literal.openEnd GeoPackage secondEnd) ≡ Less
+unfolding order literal.openEnd
+open-last [] h k = absurd (omega arith)
+open-last (a ∷ x) h k = let l : a < 65 = omega arith in rw (lt-ltb a 65 l)
+
+pub open-above : (w : Width) (x : List ℕ) → isInstant w x ≡ true → order x (literal.openEnd GeoPackage secondEnd) ≡ Less
+open-above w x e =
+    let b = begins w x e in
+    open-last x (omega (arith, b .0)) (first x x x 0 (b .1 .century) .1)
 
 -- A written instant reads back as its fields.
 days-few : (y m : ℕ) → daysIn y m ≤ 31

@@ -1,6 +1,6 @@
 -- Instants, intervals and the fifteen temporal predicates of OGC 21-065r2 (CQL2), by their formulas over starts and ends; an open start
--- lies below every instant and equals any other open start. Valid ten-byte dates, 19-byte timestamps and 24-byte values of GeoPackage's DATETIME
--- (document 02, slip 4) are instants in calendar order.
+-- lies below every instant and equals any other open start, an open end (document 02, slip 5) lies above every instant and every open start and equals
+-- any other open end. Valid ten-byte dates, 19-byte timestamps and 24-byte values of GeoPackage's DATETIME (slip 4) are instants in calendar order.
 use Prim.Native.Nat.{ℕ, _+_, _-_, _*_}
 use mathlib.Core.List.{List, [], _∷_, _++_}
 use mathlib.Core.Bool.{Bool, true, false}
@@ -22,23 +22,32 @@ use Rattle.row.specs.Row.{Value, val, Column, Found, absent, has, look}
 use Rattle.row.specs.Row as row
 use Rattle.time.specs.Operators.{entry}
 
--- an instant by its calendar fields, the largest first; or an open start
+-- an instant by its calendar fields, the largest first; or an open start or end
 pub data Moment : Type 0 where
   openStart : Moment
   moment : List ℕ → Moment
+  openEnd : Moment
 
 -- calendar order: by the year, then the month, and so on
 unfoldable pub earlier : Moment → Moment → Bool
 earlier openStart openStart = false
 earlier openStart (moment y) = true
+earlier openStart openEnd = true
 earlier (moment x) openStart = false
 earlier (moment x) (moment y) = below x y
+earlier (moment x) openEnd = true
+earlier openEnd n = false
 
 unfoldable pub sameMoment : Moment → Moment → Bool
 sameMoment openStart openStart = true
 sameMoment openStart (moment y) = false
+sameMoment openStart openEnd = false
 sameMoment (moment x) openStart = false
 sameMoment (moment x) (moment y) = isEqual (order x y)
+sameMoment (moment x) openEnd = false
+sameMoment openEnd openStart = false
+sameMoment openEnd (moment y) = false
+sameMoment openEnd openEnd = true
 
 -- what a predicate says of a's start and end and b's start and end; of an instant both are the instant
 abbrev pub Formula : Type 0
@@ -154,12 +163,18 @@ writtenFields twentyFour t = fieldsOf t ++ (0 ∷ [])
 unfoldable pub isPoint : Width → Tree → Bool
 isPoint w t = kindIn (ID ∷ written w ∷ []) t
 
--- `..` only as an interval's start
+-- `..` as an interval's start
 unfoldable pub isStart : Width → Tree → Bool
 isStart w t = kindIn (ID ∷ written w ∷ UNBOUNDED ∷ []) t
 
+-- and as its end in the second call alone
+unfoldable pub isStop : Width → Tree → Bool
+isStop ten t = isPoint ten t
+isStop nineteen t = isPoint nineteen t
+isStop twentyFour t = isStart twentyFour t
+
 unfoldable pub ogcOperand : Width → Tree → Bool
-ogcOperand w t = pick (isInterval t) (both (isStart w (startOf t)) (isPoint w (stopOf t))) (isPoint w t)
+ogcOperand w t = pick (isInterval t) (both (isStart w (startOf t)) (isStop w (stopOf t))) (isPoint w t)
 
 -- the instant that an end stands for on a row
 abbrev pub momentOf : Width → Found → Moment
@@ -167,15 +182,16 @@ momentOf w absent = openStart
 momentOf w (has row.null) = openStart
 momentOf w (has (val x)) = moment (fields w x)
 
-unfoldable pub momentOn : Width → List Column → Tree → Moment
-momentOn w cs t = pick (isId t) (momentOf w (look (columnName t) cs)) (pick (eqb (kindOf t) UNBOUNDED) openStart (moment (writtenFields w t)))
+-- `..` stands for the moment that is given
+unfoldable pub momentOn : Width → List Column → Moment → Tree → Moment
+momentOn w cs whenOpen t = pick (isId t) (momentOf w (look (columnName t) cs)) (pick (eqb (kindOf t) UNBOUNDED) whenOpen (moment (writtenFields w t)))
 
 -- the start and the end of an operand: of an instant both are the instant
 abbrev pub startMoment : Width → List Column → Tree → Moment
-startMoment w cs t = momentOn w cs (startOf t)
+startMoment w cs t = momentOn w cs openStart (startOf t)
 
 abbrev pub endMoment : Width → List Column → Tree → Moment
-endMoment w cs t = momentOn w cs (pick (isInterval t) (stopOf t) (startOf t))
+endMoment w cs t = pick (isInterval t) (momentOn w cs openEnd (stopOf t)) (startMoment w cs t)
 
 -- the predicate of 21-065r2 on two operands
 unfoldable pub ogcOn : Width → List Column → Op → Tree → Tree → Bool

@@ -4,7 +4,6 @@ use Prim.Native.Nat.{ℕ, _-_}
 use mathlib.Core.Path.{_≡_, refl, ap, sym, _∙_, subst}
 use mathlib.Core.List.{List, [], _∷_}
 use mathlib.Core.Bool.{Bool, true, false, false≢true}
-use lib.Dec.{eqb}
 use Rattle.prelude.specs.Choice.{pick, both, either, negated, some, same}
 use Rattle.prelude.specs.ChoiceLaws.{both-true}
 use Rattle.civil.specs.Civil.{validDate, validTime}
@@ -21,6 +20,7 @@ use Rattle.tree.specs.Placed.{operands}
 use Rattle.tree.specs.Tests.{children, first, second, everywhere, isId, isInterval, startOf, stopOf, endsOf, columnsOf}
 use Rattle.tree.specs.TestsLaws.{one-of-all, OfKind, of-interval, interval-is}
 use Rattle.tree.specs.GoodWords.{Good}
+use Rattle.literal.specs.declared.Writing.the-variants.{GeoPackage}
 use Rattle.literal.specs.Literal as literal
 use Rattle.literal.specs.Literal.{Slot, alone, firstEnd, secondEnd, startSlot, stopSlot}
 use Rattle.sql.specs.Condition.{Cond, test, lt, gt, eq, checkId, checkIds}
@@ -34,15 +34,16 @@ use Rattle.truth.specs.Grammar as grammar
 use Rattle.time.specs.Filter.{isEnd}
 use Rattle.time.specs.FilterLaws.{EndIs, null-end, open-end, date-end, timestamp-end, column-end, end-is}
 use Rattle.time.specs.FilterTruth.{found, holds, treeAtom, endAtom, valueOn, endOn, condTruth, endValues, temporalTruth, isValue}
-use Rattle.time.specs.Ogc.{Moment, openStart, moment, earlier, sameMoment, ogc, Width, ten, nineteen, twentyFour, isInstant, fields, writingOf, written, writtenFields, isInstantValue, instants, isPoint, isStart, ogcOperand, momentOf, momentOn, ogcOn}
+use Rattle.time.specs.Ogc.{Moment, openStart, moment, openEnd, earlier, sameMoment, ogc, Width, ten, nineteen, twentyFour, isInstant, fields, writingOf, written, writtenFields, isInstantValue, instants, isPoint, isStart, isStop, ogcOperand, momentOf, momentOn, ogcOn}
 use Rattle.time.specs.OperatorLaws.{done, _also_, of-temporal}
-use Rattle.time.specs.TruthLaws.{and3-known, or3-known, not3-known, orders, gt-lt, guard, guard-passes, check-id, check-ids, closed-end}
+use Rattle.time.specs.TruthLaws.{and3-known, or3-known, not3-known, orders, gt-lt, guard, guard-passes, check-id, check-ids}
 use Rattle.time.specs.ComplementLaws.{ne-eq}
-use Rattle.time.specs.InstantLaws.{fields-order, open-below, date-instant, date-fields, timestamp-instant, timestamp-fields}
+use Rattle.time.specs.InstantLaws.{fields-order, open-below, open-above, date-instant, date-fields, timestamp-instant, timestamp-fields}
 
 -- A value and the moment that it stands for.
 data Stands (w : Width) : Found → Moment → Type 0 where
-  opens : Stands w (has (val (literal.openEnd firstEnd))) openStart
+  opens : Stands w (has (val (literal.openEnd (writingOf w) firstEnd))) openStart
+  ends : Stands w (has (val (literal.openEnd GeoPackage secondEnd))) openEnd
   at : {x : List ℕ} → isInstant w x ≡ true → Stands w (has (val x)) (moment (fields w x))
 
 -- A truth that is the answer of a test.
@@ -80,15 +81,25 @@ eq-equal Greater = refl
 lt-known : {w : Width} {x y : Found} {m n : Moment} → Stands w x m → Stands w y n → Known (compared LT x y) (earlier m n)
 unfolding grammar.holds order below literal.openEnd earlier some
 lt-known opens opens = record { is = refl }
+lt-known opens ends = record { is = refl }
+lt-known ends opens = record { is = refl }
+lt-known ends ends = record { is = refl }
 lt-known {w = w} opens (at {x = y} k) = record { is = rw (open-below w y k) }
-lt-known {w = w} (at {x = x} h) opens = record { is = rw (order-above (literal.openEnd firstEnd) x (open-below w x h)) }
+lt-known {w = w} (at {x = x} h) opens = record { is = rw (order-above (literal.openEnd (writingOf w) firstEnd) x (open-below w x h)) }
+lt-known {w = w} ends (at {x = y} k) = record { is = rw (order-above y (literal.openEnd GeoPackage secondEnd) (open-above w y k)) }
+lt-known {w = w} (at {x = x} h) ends = record { is = rw (open-above w x h) }
 lt-known {w = w} (at {x = x} h) (at {x = y} k) = record { is = ap truthOf (lt-less (order x y) ∙ ap isLess (fields-order w x y h k)) }
 
 eq-known : {w : Width} {x y : Found} {m n : Moment} → Stands w x m → Stands w y n → Known (compared EQ x y) (sameMoment m n)
 unfolding grammar.holds order literal.openEnd sameMoment some
 eq-known opens opens = record { is = refl }
+eq-known opens ends = record { is = refl }
+eq-known ends opens = record { is = refl }
+eq-known ends ends = record { is = refl }
 eq-known {w = w} opens (at {x = y} k) = record { is = rw (open-below w y k) }
-eq-known {w = w} (at {x = x} h) opens = record { is = rw (order-above (literal.openEnd firstEnd) x (open-below w x h)) }
+eq-known {w = w} (at {x = x} h) opens = record { is = rw (order-above (literal.openEnd (writingOf w) firstEnd) x (open-below w x h)) }
+eq-known {w = w} ends (at {x = y} k) = record { is = rw (order-above y (literal.openEnd GeoPackage secondEnd) (open-above w y k)) }
+eq-known {w = w} (at {x = x} h) ends = record { is = rw (open-above w x h) }
 eq-known {w = w} (at {x = x} h) (at {x = y} k) = record { is = ap truthOf (eq-equal (order x y) ∙ ap isEqual (fields-order w x y h k)) }
 
 gt-known : {w : Width} {x y : Found} {m n : Moment} → Stands w x m → Stands w y n → Known (compared GT x y) (earlier n m)
@@ -99,7 +110,12 @@ same-or : (m n : Moment) → sameMoment m n ≡ negated (either (earlier m n) (e
 unfolding sameMoment earlier below
 same-or openStart openStart = refl
 same-or openStart (moment y) = refl
+same-or openStart openEnd = refl
 same-or (moment x) openStart = refl
+same-or (moment x) openEnd = refl
+same-or openEnd openStart = refl
+same-or openEnd (moment y) = refl
+same-or openEnd openEnd = refl
 same-or (moment x) (moment y) = orders (λ i j. isEqual i ≡ negated (either (isLess i) (isLess j))) refl refl refl x y
 
 negated-twice : (p : Bool) → negated (negated p) ≡ p
@@ -123,6 +139,7 @@ ne-known {x = x} {y = y} {m = m} {n = n} h k =
 valued : {w : Width} {x : Found} {m : Moment} → Stands w x m → isValue x ≡ true
 unfolding isValue
 valued opens = refl
+valued ends = refl
 valued (at h) = refl
 
 -- The fifteen, by whether each operand is an interval.
@@ -322,69 +339,83 @@ point-start ten t = one-of-all (ID ∷ DATE ∷ []) (ID ∷ DATE ∷ UNBOUNDED �
 point-start nineteen t = one-of-all (ID ∷ TIMESTAMP ∷ []) (ID ∷ TIMESTAMP ∷ UNBOUNDED ∷ []) (kindOf t) refl
 point-start twentyFour t = one-of-all (ID ∷ TIMESTAMP ∷ []) (ID ∷ TIMESTAMP ∷ UNBOUNDED ∷ []) (kindOf t) refl
 
--- a point is not open, so that its slot does not matter
+-- a stop is a point, or in the second call an open end
+pub stop-start : (w : Width) (t : Tree) → isStop w t ≡ true → isStart w t ≡ true
+unfolding isStop
+stop-start ten t f = point-start ten t f
+stop-start nineteen t f = point-start nineteen t f
+stop-start twentyFour t f = f
+
 open-points : (w : Width) → isPoint w unbounded ≡ true → ⊥
 unfolding isPoint
 open-points ten f = false≢true f
 open-points nineteen f = false≢true f
 open-points twentyFour f = false≢true f
 
-point-closed : (w : Width) (t : Tree) → isPoint w t ≡ true → eqb (kindOf t) UNBOUNDED ≡ false
-point-closed w t f = go t (end-is t (start-is-end w t (point-start w t f))) f
-  where
-    go : (t : Tree) → EndIs t → isPoint w t ≡ true → eqb (kindOf t) UNBOUNDED ≡ false
-    go t null-end f = refl
-    go t open-end f = absurd (open-points w f)
-    go t (date-end y m d) f = refl
-    go t (timestamp-end y m d h i s) f = refl
-    go t (column-end s) f = refl
+-- only the second call's width has an open end
+second-stands : (w : Width) → isStop w unbounded ≡ true → Stands w (has (val (literal.openEnd (writingOf w) secondEnd))) openEnd
+unfolding isStop
+second-stands ten f = absurd (open-points ten f)
+second-stands nineteen f = absurd (open-points nineteen f)
+second-stands twentyFour f = ends
+
+-- a slot where `..` may stand, and the moment that it stands for there
+record Opening (w : Width) (slot : Slot) (whenOpen : Moment) (t : Tree) : Type 0 where
+  allowed : isStart w t ≡ true
+  opened : t ≡ unbounded → Stands w (has (val (literal.openEnd (writingOf w) slot))) whenOpen
 
 module _ (w : Width) (cs : List Column) (e : instants w cs ≡ true) where
-  start-stands : (t : Tree) (n : ℕ) → Good t n → holds cs t ≡ true → isStart w t ≡ true → Stands w (endOn (writingOf w) cs firstEnd t) (momentOn w cs t)
+  end-stands : (slot : Slot) (whenOpen : Moment) (t : Tree) (n : ℕ) → Good t n → holds cs t ≡ true → Opening w slot whenOpen t
+      → Stands w (endOn (writingOf w) cs slot t) (momentOn w cs whenOpen t)
   unfolding Good holds everywhere endOn endAtom valueOn treeAtom value momentOn isId
-  start-stands t n g p f = go t (end-is t (start-is-end w t f)) g p f
+  end-stands slot whenOpen t n g p f = go t (end-is t (start-is-end w t (f .allowed))) g p f
     where
-      go : (t : Tree) → EndIs t → Good t n → holds cs t ≡ true → isStart w t ≡ true → Stands w (endOn (writingOf w) cs firstEnd t) (momentOn w cs t)
-      go t null-end g p f = absurd (null-starts w f)
-      go t open-end g p f = opens
-      go t (date-end y m d) g p f = date-stands w y m d (g .1) f
-      go t (timestamp-end y m d h i s) g p f = timestamp-stands w y m d h i s (g .1) (g .2) f
+      go : (t : Tree) → EndIs t → Good t n → holds cs t ≡ true → Opening w slot whenOpen t → Stands w (endOn (writingOf w) cs slot t) (momentOn w cs whenOpen t)
+      go t null-end g p f = absurd (null-starts w (f .allowed))
+      go t open-end g p f = f .opened refl
+      go t (date-end y m d) g p f = date-stands w y m d (g .1) (f .allowed)
+      go t (timestamp-end y m d h i s) g p f = timestamp-stands w y m d h i s (g .1) (g .2) (f .allowed)
       go t (column-end s) g p f = look-stands w s cs e p
 
-  point-stands : (slot : Slot) (t : Tree) (n : ℕ) → Good t n → holds cs t ≡ true → isPoint w t ≡ true → Stands w (endOn (writingOf w) cs slot t) (momentOn w cs t)
-  point-stands slot t n g p f =
-      let c = point-closed w t f in
-      subst (λ v. Stands w v (momentOn w cs t)) (closed-end (writingOf w) cs firstEnd t c ∙ sym (closed-end (writingOf w) cs slot t c)) (start-stands t n g p (point-start w t f))
+  start-opens : (t : Tree) → isStart w t ≡ true → Opening w firstEnd openStart t
+  start-opens t f = record { allowed = f; opened = λ q. opens }
+
+  stop-opens : (t : Tree) → isStop w t ≡ true → Opening w secondEnd openEnd t
+  stop-opens t f = record { allowed = stop-start w t f; opened = λ q. second-stands w (ap (isStop w) (sym q) ∙ f) }
+
+  -- a point is not open
+  point-opens : (t : Tree) → isPoint w t ≡ true → Opening w alone openStart t
+  point-opens t f = record { allowed = point-start w t f; opened = λ q. absurd (open-points w (ap (isPoint w) (sym q) ∙ f)) }
 
   -- the ends of an interval
   ends-stand : (t : Tree) (n : ℕ) → OfKind INTERVAL t → Good t n → holds cs t ≡ true → ogcOperand w t ≡ true
-      → Stands w (endOn (writingOf w) cs (startSlot (isInterval t)) (startOf t)) (momentOn w cs (startOf t)) × Stands w (endOn (writingOf w) cs (stopSlot (isInterval t)) (stopOf t)) (momentOn w cs (stopOf t))
+      → Stands w (endOn (writingOf w) cs (startSlot (isInterval t)) (startOf t)) (momentOn w cs openStart (startOf t))
+      × Stands w (endOn (writingOf w) cs (stopSlot (isInterval t)) (stopOf t)) (momentOn w cs openEnd (stopOf t))
   unfolding Good holds everywhere endOn endAtom valueOn treeAtom value ogcOperand isInterval startOf stopOf first second isId
   ends-stand t n (of-interval a b) g p f =
       let h = both-true (holds cs a) (holds cs b) p in
-      let k = both-true (isStart w a) (isPoint w b) f in
-      (start-stands a (n - 1) (g .1) (h .0) (k .0), point-stands secondEnd b (n - 1) (g .2) (h .1) (k .1))
+      let k = both-true (isStart w a) (isStop w b) f in (
+        end-stands firstEnd openStart a (n - 1) (g .1) (h .0) (start-opens a (k .0)),
+        end-stands secondEnd openEnd b (n - 1) (g .2) (h .1) (stop-opens b (k .1)),
+      )
 
-  first-stands : (t : Tree) (n : ℕ) → Good t n → holds cs t ≡ true → ogcOperand w t ≡ true → Stands w (endOn (writingOf w) cs (startSlot (isInterval t)) (startOf t)) (momentOn w cs (startOf t))
+  first-stands : (t : Tree) (n : ℕ) → Good t n → holds cs t ≡ true → ogcOperand w t ≡ true
+      → Stands w (endOn (writingOf w) cs (startSlot (isInterval t)) (startOf t)) (momentOn w cs openStart (startOf t))
   unfolding ogcOperand startOf
   first-stands t n g p f = go (isInterval t) refl f
     where
-      go : (b : Bool) → isInterval t ≡ b → pick b (both (isStart w (startOf t)) (isPoint w (stopOf t))) (isPoint w t) ≡ true
-          → Stands w (endOn (writingOf w) cs (startSlot b) (pick b (first (children t)) t)) (momentOn w cs (pick b (first (children t)) t))
-      go true i q = subst (λ (c : Bool). Stands w (endOn (writingOf w) cs (startSlot c) (pick c (first (children t)) t)) (momentOn w cs (pick c (first (children t)) t))) i (ends-stand t n (interval-is t i) g p f .0)
-      go false i q = point-stands alone t n g p q
+      go : (b : Bool) → isInterval t ≡ b → pick b (both (isStart w (startOf t)) (isStop w (stopOf t))) (isPoint w t) ≡ true
+          → Stands w (endOn (writingOf w) cs (startSlot b) (pick b (first (children t)) t)) (momentOn w cs openStart (pick b (first (children t)) t))
+      go true i q = subst (λ (c : Bool). Stands w (endOn (writingOf w) cs (startSlot c) (pick c (first (children t)) t)) (momentOn w cs openStart (pick c (first (children t)) t))) i (ends-stand t n (interval-is t i) g p f .0)
+      go false i q = end-stands alone openStart t n g p (point-opens t q)
 
   last-stands : (t : Tree) (n : ℕ) → Good t n → holds cs t ≡ true → ogcOperand w t ≡ true → isInterval t ≡ true
-      → Stands w (endOn (writingOf w) cs (stopSlot (isInterval t)) (stopOf t)) (momentOn w cs (stopOf t))
+      → Stands w (endOn (writingOf w) cs (stopSlot (isInterval t)) (stopOf t)) (momentOn w cs openEnd (stopOf t))
   last-stands t n g p f i = ends-stand t n (interval-is t i) g p f .1
 
--- the moment of an end that is chosen
-chosen : (w : Width) (cs : List Column) (b : Bool) (t u : Tree) → pick b (momentOn w cs t) (momentOn w cs u) ≡ momentOn w cs (pick b t u)
-chosen w cs true t u = refl
-chosen w cs false t u = refl
-
 -- On a row without NULL, all of its values valid and of one width, the written instants as that width's call writes them, `..` only as an
--- interval's start and no NULL literal, a temporal predicate is true if the predicate of 21-065r2 holds, and false if not.
+-- interval's start, or in the second call as its end, and no NULL literal, a temporal predicate is true if the predicate of 21-065r2 holds, and
+-- false if not.
 pub ogc-agrees : (w : Width) (cs : List Column) (o : Op) (t u : Tree) (n m : ℕ) → isTemporal o ≡ true → operands o t u ≡ true → Good t n → Good u m
     → instants w cs ≡ true → holds cs t ≡ true → holds cs u ≡ true → ogcOperand w t ≡ true → ogcOperand w u ≡ true
     → temporalTruth (writingOf w) cs o t u ≡ truthOf (ogcOn w cs o t u)
@@ -392,11 +423,8 @@ unfolding temporalTruth ogcOn endsOf operands
 ogc-agrees w cs o t u n m e f p q r ht hu ot ou =
     let d : either (isInstantOrInterval o) (both (isInterval t) (isInterval u)) ≡ true = rw e at f in
     let k =
-    agrees w (endValues (writingOf w) cs t u) (columnsOf t u) (momentOn w cs (startOf t)) (momentOn w cs (stopOf t)) (momentOn w cs (startOf u)) (momentOn w cs (stopOf u))
+    agrees w (endValues (writingOf w) cs t u) (columnsOf t u)
+    (momentOn w cs openStart (startOf t)) (momentOn w cs openEnd (stopOf t)) (momentOn w cs openStart (startOf u)) (momentOn w cs openEnd (stopOf u))
     (first-stands w cs r t n p ht ot) (first-stands w cs r u m q hu ou) o e (isInterval t) (isInterval u)
     (last-stands w cs r t n p ht ot) (last-stands w cs r u m q hu ou) d in
     k .is
-    ∙ ap (λ a. truthOf (ogc o (momentOn w cs (startOf t)) a (momentOn w cs (startOf u)) (pick (isInterval u) (momentOn w cs (stopOf u)) (momentOn w cs (startOf u)))))
-    (chosen w cs (isInterval t) (stopOf t) (startOf t))
-    ∙ ap (λ b. truthOf (ogc o (momentOn w cs (startOf t)) (momentOn w cs (pick (isInterval t) (stopOf t) (startOf t))) (momentOn w cs (startOf u)) b))
-    (chosen w cs (isInterval u) (stopOf u) (startOf u))

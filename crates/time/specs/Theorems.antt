@@ -34,14 +34,14 @@ use Rattle.truth.specs.Reading.{answered, readingOf}
 use Rattle.time.specs.Filter.{comparable, isEnd, isOperand, timeFilter}
 use Rattle.time.specs.FilterTruth.{treeAtom, valueOn, holds, temporalTruth, comparison, columnsNonNull, proper, truthOn}
 use Rattle.time.specs.Converse.{converse, Turned, keep, turn, in-both, in-neg, thirteen}
-use Rattle.time.specs.Ogc.{Width, isStart, isPoint, writingOf, instants, ogcOperand, ogcOn}
+use Rattle.time.specs.Ogc.{Width, isStart, isStop, isPoint, writingOf, instants, ogcOperand, ogcOn}
 use Rattle.time.specs.Accepted.{Lowers, IsRow}
 use Rattle.time.specs.Claims.{Alike, both-yes, both-no, both-unknown, Opposite, ExactlyOne, Demand3}
 use Rattle.time.specs.OperatorLaws.{AllOf, done, _also_, among, of-temporal}
 use Rattle.time.specs.ConverseLaws.{turned-truth, converse-temporal, predicate-truth}
 use Rattle.time.specs.ComplementLaws.{complement-readings}
 use Rattle.time.specs.ThirteenLaws as laws
-use Rattle.time.specs.OgcLaws.{start-is-end, point-start, ogc-agrees}
+use Rattle.time.specs.OgcLaws.{start-is-end, point-start, stop-start, ogc-agrees}
 use Rattle.time.specs.ReadsTruth.{parts, known, reads-as, reads-truth}
 
 -- a temporal predicate is a time filter if its operands are operands
@@ -129,10 +129,10 @@ ogc-is-operand : (w : Width) (t : Tree) → ogcOperand w t ≡ true → isOperan
 unfolding ogcOperand isOperand
 ogc-is-operand w t e = go (isInterval t) e
   where
-    go : (b : Bool) → pick b (both (isStart w (startOf t)) (isPoint w (stopOf t))) (isPoint w t) ≡ true → pick b (both (isEnd (startOf t)) (isEnd (stopOf t))) (isEnd t) ≡ true
+    go : (b : Bool) → pick b (both (isStart w (startOf t)) (isStop w (stopOf t))) (isPoint w t) ≡ true → pick b (both (isEnd (startOf t)) (isEnd (stopOf t))) (isEnd t) ≡ true
     go true f =
-        let h = both-true (isStart w (startOf t)) (isPoint w (stopOf t)) f in
-        both-of (isEnd (startOf t)) (isEnd (stopOf t)) (start-is-end w (startOf t) (h .0)) (start-is-end w (stopOf t) (point-start w (stopOf t) (h .1)))
+        let h = both-true (isStart w (startOf t)) (isStop w (stopOf t)) f in
+        both-of (isEnd (startOf t)) (isEnd (stopOf t)) (start-is-end w (startOf t) (h .0)) (start-is-end w (stopOf t) (stop-start w (stopOf t) (h .1)))
     go false f = start-is-end w t (point-start w t f)
 
 predicate-placed : (o : Op) (t u : Tree) → placed (dyadic o t u) ≡ true → operands o t u ≡ true
@@ -140,8 +140,8 @@ unfolding placed inner inPlace everywhere byOperator isInterval
 predicate-placed o t u e = both-true (operands o t u) (both (inner t) (inner u)) e .0
 
 -- On a row without NULL, in the first call all values valid ten-byte dates or all valid 19-byte timestamps, in the second all valid 24-byte values,
--- the written instants of that width, `..` only as an interval's start and no NULL literal: a temporal predicate's text reads true exactly if the
--- predicate of 21-065r2 holds, and false exactly if not.
+-- the written instants of that width, `..` only as an interval's start, in the second also as its end, and no NULL literal: a temporal predicate's
+-- text reads true exactly if the predicate of 21-065r2 holds, and false exactly if not.
 pub agrees-with-ogc : {o : Op} {t u : Tree} {x row : List ℕ} {cs : List Column} (w : Width) → Lowers (writingOf w) (dyadic o t u) x → isTemporal o ≡ true
     → IsRow row cs → holds cs t ≡ true → holds cs u ≡ true → instants w cs ≡ true → ogcOperand w t ≡ true → ogcOperand w u ≡ true
     → readingOf x row ≡ answered (truthOf (ogcOn w cs o t u))

@@ -227,16 +227,11 @@ value-found writing cs (interval t u) = refl
 -- Ends by their slots.
 
 -- what holds of the string that a slot spells and of the tree's value holds of the end's value
-pub end-on : (P : Found → Bool) (writing : Writing) (cs : List Column) (slot : Slot) (t : Tree) → P (has (val (openEnd slot))) ≡ true → P (valueOn writing cs t) ≡ true
+pub end-on : (P : Found → Bool) (writing : Writing) (cs : List Column) (slot : Slot) (t : Tree) → P (has (val (openEnd writing slot))) ≡ true → P (valueOn writing cs t) ≡ true
     → P (endOn writing cs slot t) ≡ true
 unfolding endOn endAtom valueOn value
 end-on P writing cs slot t e f = go (eqb (kindOf t) UNBOUNDED)
   where
-    go : (b : Bool) → P (value cs (pick b (text (openEnd slot)) (treeAtom writing t))) ≡ true
+    go : (b : Bool) → P (value cs (pick b (text (openEnd writing slot)) (treeAtom writing t))) ≡ true
     go true = e
     go false = f
-
--- the slot of an end that is not open does not matter
-pub closed-end : (writing : Writing) (cs : List Column) (slot : Slot) (t : Tree) → eqb (kindOf t) UNBOUNDED ≡ false → endOn writing cs slot t ≡ valueOn writing cs t
-unfolding endOn endAtom valueOn
-closed-end writing cs slot t e = ap (λ b. value cs (pick b (text (openEnd slot)) (treeAtom writing t))) e

@@ -49,16 +49,16 @@ returns-3 : tie.Need-returns-3
 returns-3 c = λ x h. as-open h (c .before .word-at .ensures .0) (c .match .keys2)
 
 returns-4 : tie.Need-returns-4
-returns-4 c = λ x h. as-instant h (c .before .word-at .ensures .0) (λ y. let w = c .match .keys3 in let v : ⊥ = omega arith in v)
+returns-4 c = λ x h. as-instant h (c .before .word-at .ensures .0) (λ y. let w = c .match .keys3 in let v : ⊥ = omega arith in v) (λ y. let w = c .match .keys3 in let v : ⊥ = omega arith in v)
 
 returns-5 : tie.Need-returns-5
-returns-5 c = λ x h. as-instant h (c .before .word-at .ensures .0) (λ y. let w = c .match .keys4 in let v : ⊥ = omega arith in v)
+returns-5 c = λ x h. as-instant h (c .before .word-at .ensures .0) (λ y. let w = c .match .keys4 in let v : ⊥ = omega arith in v) (λ y. let w = c .match .keys4 in let v : ⊥ = omega arith in v)
 
 returns-6 : tie.Need-returns-6
 returns-6 c = λ x h. as-column h (c .before .word-at .ensures .0) (c .match .keys5)
 
 returns-7 : tie.Need-returns-7
-returns-7 c = λ x h. as-other h (c .before .word-at .ensures .0) (c .match .rest .1)
+returns-7 c = λ x h. as-other h (c .before .word-at .ensures .0) (c .match .rest .0 .0 .0 .1) (c .match .rest .1)
 
 pub end-at-spec : {M : Type 1} → statement M
 end-at-spec =

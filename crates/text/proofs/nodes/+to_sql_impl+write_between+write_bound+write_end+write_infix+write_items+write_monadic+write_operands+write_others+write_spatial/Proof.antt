@@ -56,8 +56,8 @@ use Rattle.emit.proofs.ended.Reads as ended-reads
 use Rattle.emit.proofs.put.Reads as put-reads
 use Rattle.emit.proofs.put_either.Reads as put-either-reads
 use Rattle.text.proofs.ends.is_temporal.Reads as is-temporal-reads
-use Rattle.text.proofs.ends.piece_of.Reads as piece-of-reads
-use Rattle.text.proofs.ends.put_flat.Reads as put-flat-reads
+use Rattle.part.proofs.piece_of.Reads as piece-of-reads
+use Rattle.part.proofs.put_flat.Reads as put-flat-reads
 use Rattle.text.proofs.ends.template_of.Reads as template-of-reads
 use Rattle.text.proofs.ends.temporal_ends.Reads as temporal-ends-reads
 use Rattle.text.proofs.forms.bounds_at.Reads as bounds-at-reads
@@ -774,7 +774,7 @@ write-operands-loop-less : (t : ℕ) → write-operands-lts.Need-loop-less (writ
 write-operands-loop-less t c = search needs
 
 write-operands-loop-again : (t : ℕ) → write-operands-lts.Need-loop-again (write-operands-calls t) (write-operands-at t) write-operands.Post write-operands-Inv-loop write-operands-μ-loop
-write-operands-loop-again t c = (c .before .before .put-flat .kept .1 .0 ∙ c .before .before .before .before .before .before .before .before .before .before .loop .inv .0, omega arith, λ t e f a b. let tn = temporal-node (sym (c .before .before .before .before .before .before .before .before .before .before .before .before .before .before .before .before .is-temporal .ensures) ∙ not-false (c .before .before .before .before .before .before .before .before .before .before .before .before .before .before .before .before .is-temporal .result) (c .before .before .before .before .before .before .before .before .before .before .before .before .before .before .before .if1 .left)) (node-of (c .before .before .before .before .before .before .before .before .before .before .before .before .before .before .before .before .before .before .before .before .before .before .before .args .s .now) (c .before .before .before .before .before .before .before .before .before .before .before .before .before .before .before .before .before .before .before .word-at .result) (c .before .before .before .before .before .before .before .before .before .before .before .before .before .before .before .before .before .before .word-at2 .result) (c .before .before .before .before .before .before .before .before .before .before .before .before .before .before .before .before .before .end-of .result) t e f (c .before .before .before .before .before .before .before .before .before .before .before .before .before .before .before .before .before .before .before .word-at .ensures .0) (c .before .before .before .before .before .before .before .before .before .before .before .before .before .before .before .before .before .before .word-at2 .ensures .0) (c .before .before .before .before .before .before .before .before .before .before .before .before .before .before .before .before .before .end-of .ensures) (let q = c .before .before .before .before .before .before .before .before .before .before .before .before .before .before .before .before .before .before .before .word-at .ensures .0 in omega arith) (let q = c .before .before .before .before .before .before .before .before .before .before .before .before .before .before .before .before .before .before .before .word-at .ensures .0 in omega arith)) in let ar = node-ends (tn .0) _ (c .before .before .before .before .before .before .before .before .before .before .before .before .before .before .temporal-ends .ensures) in let hb = c .before .before .before .before .before .before .before .before .before .before .before .before .before .template-of .ensures .1 in let lb : length (c .before .before .before .before .before .before .before .before .before .before .before .before .before .template-of .result .codes) ≡ 24 = search (needs, c .before .before .before .before .before .before .before .before .before .before .before .before .before .template-of .ok) in plain-step (c .before .before .before .before .before .before .before .before .before .before .before .before .before .before .before .before .before .before .before .before .before .before .before .args .writing) (settingsIn (c .before .before .before .before .before .before .before .before .before .before .before .before .before .before .before .before .before .before .before .before .before .before .before .args .set .now)) ar (c .before .before .before .before .before .before .before .before .before .before .before .before .before .template-of .result .codes) (c .before .before .before .before .before .before .before .before .before .before .before .before .before .template-of .result .len) (c .before .before .before .before .before .before .before .before .before .before .loop .k) (omega arith) (omega arith) (c .before .before .before .before .before .before .before .before .before .before .loop .inv .2 t e f a b) _ (sym (c .before .before .before .before .before .before .before .piece-of .ensures) ∙ c .before .before .before .before .before .piece .given .1) (c .before .before .put-flat .ensures))
+write-operands-loop-again t c = (c .before .before .put-flat .kept .1 .1 .0 ∙ c .before .before .before .before .before .before .before .before .before .before .loop .inv .0, omega arith, λ t e f a b. let tn = temporal-node (sym (c .before .before .before .before .before .before .before .before .before .before .before .before .before .before .before .before .is-temporal .ensures) ∙ not-false (c .before .before .before .before .before .before .before .before .before .before .before .before .before .before .before .before .is-temporal .result) (c .before .before .before .before .before .before .before .before .before .before .before .before .before .before .before .if1 .left)) (node-of (c .before .before .before .before .before .before .before .before .before .before .before .before .before .before .before .before .before .before .before .before .before .before .before .args .s .now) (c .before .before .before .before .before .before .before .before .before .before .before .before .before .before .before .before .before .before .before .word-at .result) (c .before .before .before .before .before .before .before .before .before .before .before .before .before .before .before .before .before .before .word-at2 .result) (c .before .before .before .before .before .before .before .before .before .before .before .before .before .before .before .before .before .end-of .result) t e f (c .before .before .before .before .before .before .before .before .before .before .before .before .before .before .before .before .before .before .before .word-at .ensures .0) (c .before .before .before .before .before .before .before .before .before .before .before .before .before .before .before .before .before .before .word-at2 .ensures .0) (c .before .before .before .before .before .before .before .before .before .before .before .before .before .before .before .before .before .end-of .ensures) (let q = c .before .before .before .before .before .before .before .before .before .before .before .before .before .before .before .before .before .before .before .word-at .ensures .0 in omega arith) (let q = c .before .before .before .before .before .before .before .before .before .before .before .before .before .before .before .before .before .before .before .word-at .ensures .0 in omega arith)) in let ar = node-ends (tn .0) _ (c .before .before .before .before .before .before .before .before .before .before .before .before .before .before .temporal-ends .ensures) in let hb = c .before .before .before .before .before .before .before .before .before .before .before .before .before .template-of .ensures .1 in let lb : length (c .before .before .before .before .before .before .before .before .before .before .before .before .before .template-of .result .codes) ≡ 24 = search (needs, c .before .before .before .before .before .before .before .before .before .before .before .before .before .template-of .ok) in plain-step (c .before .before .before .before .before .before .before .before .before .before .before .before .before .before .before .before .before .before .before .before .before .before .before .args .writing) (settingsIn (c .before .before .before .before .before .before .before .before .before .before .before .before .before .before .before .before .before .before .before .before .before .before .before .args .set .now)) ar (c .before .before .before .before .before .before .before .before .before .before .before .before .before .template-of .result .codes) (c .before .before .before .before .before .before .before .before .before .before .before .before .before .template-of .result .len) (c .before .before .before .before .before .before .before .before .before .before .loop .k) (omega arith) (omega arith) (c .before .before .before .before .before .before .before .before .before .before .loop .inv .2 t e f a b) _ (sym (c .before .before .before .before .before .before .before .piece-of .ensures) ∙ c .before .before .before .before .before .piece .given .1) (lays (c .before .before .put-flat .ensures)))
 
 write-operands-enum-known-piece-2 : (t : ℕ) → write-operands-lts.Need-enum-known-piece-2 (write-operands-calls t) (write-operands-at t) write-operands.Post write-operands-Inv-loop write-operands-μ-loop
 write-operands-enum-known-piece-2 t c = search needs

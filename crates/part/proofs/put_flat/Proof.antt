@@ -1,10 +1,10 @@
 -- What the calls ensure, by the case that was taken.
 use mathlib.Core.Path.{sym, ap}
-use Rattle.text.specs.EndWords.{flatText}
-use Rattle.emit.specs.EmitLaws.{lays, lays-of}
+use Rattle.part.specs.PieceWords.{flatText}
+use Rattle.emit.specs.EmitLaws.{puts-of}
 use borrow.Author.Needs.{needs}
-use Rattle.text.proofs.ends.put_flat.Statement.{statement}
-use Rattle.text.proofs.ends.put_flat.Tie as tie
+use Rattle.part.proofs.put_flat.Statement.{statement}
+use Rattle.part.proofs.put_flat.Tie as tie
 
 enum-known-flat : tie.Need-enum-known-flat
 enum-known-flat c = search needs
@@ -12,14 +12,14 @@ enum-known-flat c = search needs
 put-part-requires : tie.Need-put-part-requires
 put-part-requires c κs = search needs
 
-enum-told : tie.Need-enum-told
-enum-told c = search needs
+enum-known-flat-2 : tie.Need-enum-known-flat-2
+enum-known-flat-2 c = search needs
 
 put-unbounded-requires : tie.Need-put-unbounded-requires
 put-unbounded-requires c κs = search needs
 
-enum-told-2 : tie.Need-enum-told-2
-enum-told-2 c = search needs
+enum-told : tie.Need-enum-told
+enum-told c = search needs
 
 slice-aggregate-put : tie.Need-slice-aggregate-put
 slice-aggregate-put c = search needs
@@ -32,21 +32,21 @@ same-length c = search needs
 
 returns : tie.Need-returns
 unfolding flatText
-returns c = lays-of (ap flatText (sym (c .before .before .before .before .before .flat .given .1))) (lays (c .before .before .put-part .ensures))
+returns c = puts-of (ap (flatText _) (sym (c .before .before .before .before .before .flat .given .1))) (c .before .before .put-part .ensures)
 
 same-length-2 : tie.Need-same-length-2
 same-length-2 c = search needs
 
 returns-2 : tie.Need-returns-2
 unfolding flatText
-returns-2 c = lays-of (ap flatText (sym (c .before .before .before .before .enum-told .given .1))) (lays (c .before .before .put-unbounded .ensures))
+returns-2 c = puts-of (ap (flatText _) (sym (c .before .before .before .before .before .flat2 .given .1))) (c .before .before .put-unbounded .ensures)
 
 same-length-3 : tie.Need-same-length-3
 same-length-3 c = search needs
 
 returns-3 : tie.Need-returns-3
 unfolding flatText
-returns-3 c = lays-of (ap flatText (sym (c .before .before .before .before .before .enum-told2 .given .1))) (lays (c .before .before .put .ensures))
+returns-3 c = puts-of (ap (flatText _) (sym (c .before .before .before .before .before .enum-told .given .1))) (c .before .before .put .ensures)
 
 pub put-flat-spec : {M : Type 1} → statement M
 put-flat-spec =
@@ -54,9 +54,9 @@ put-flat-spec =
     (tie.spec
     enum-known-flat
     put-part-requires
-    enum-told
+    enum-known-flat-2
     put-unbounded-requires
-    enum-told-2
+    enum-told
     slice-aggregate-put
     put-requires
     same-length

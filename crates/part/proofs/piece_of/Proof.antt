@@ -1,10 +1,10 @@
 -- Each branch is a case of the definition.
 use Prim.Native.Nat.{_-_}
 use borrow.Author.Tests.{lt-ltb, le-ltb}
-use Rattle.text.specs.EndWords.{pieceOf}
+use Rattle.part.specs.PieceWords.{pieceOf}
 use borrow.Author.Needs.{needs}
-use Rattle.text.proofs.ends.piece_of.Statement.{statement}
-use Rattle.text.proofs.ends.piece_of.Tie as tie
+use Rattle.part.proofs.piece_of.Statement.{statement}
+use Rattle.part.proofs.piece_of.Tie as tie
 
 end-piece-requires : tie.Need-end-piece-requires
 end-piece-requires c κs = search needs
