@@ -74,7 +74,7 @@ fn write_timestamp(body: &[u8], out: &mut [u8]) -> usize {
 fn write_leaf(kind: usize, body: &[u8], out: &mut [u8]) -> usize {
     match kind {
         NULL => emit::put(b"NULL", out, START),
-        UNBOUNDED => instant::put_unbounded(out, START),
+        UNBOUNDED => instant::put_unbounded(Writing::Rust, false, out, START),
         BOOL => literal::put_bool(byte_at(body, 0) != 0, out, START),
         NUM => number::put_num(
             record::signed_at(body, 0),
