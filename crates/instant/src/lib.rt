@@ -1,4 +1,5 @@
-// Dates, timestamps and open ends (src/ds/gpkg.rs, `to_sql_impl`, but for GeoPackage's timestamps and second ends), each written whole or not at all.
+// Dates, timestamps and open ends (src/ds/gpkg.rs, `to_sql_impl`, but for GeoPackage's timestamps and open second ends),
+// each written whole or not at all.
 ghost use mathlib.Core.Path.{_≡_};
 ghost use mathlib.Core.List.{_++_};
 ghost use Prim.Native.Nat.{_+_};

@@ -108,8 +108,8 @@ startSlot isInterval = pick isInterval firstEnd alone
 abbrev pub stopSlot : Bool → Slot
 stopSlot isInterval = pick isInterval secondEnd alone
 
--- an open end by its slot: `MIN_DATE_SQL`, and as an Interval's second end in GeoPackage's writing (document 02, slip 5) a letter, which lies above
--- every digit
+-- an open end by the writing and its slot: `MIN_DATE_SQL`, and as an Interval's second end in GeoPackage's writing (document 02, slip 5) a letter,
+-- which lies above every digit
 unfoldable pub openEnd : Writing → Slot → List ℕ
 openEnd w alone = bytes "-2021-01-01"
 openEnd w firstEnd = bytes "-2021-01-01"

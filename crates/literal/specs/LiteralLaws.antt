@@ -1,4 +1,5 @@
--- Laws of specs/Literal.antt: a number's digits one at a time, how many they are, the lengths of the texts, and an open end in every slot alike.
+-- Laws of specs/Literal.antt: a number's digits one at a time, how many they are, the lengths of the texts, and where open ends are
+-- spelled alike: a start as one that stands alone, and in the Rust's writing every slot.
 use Prim.Native.Nat.{ℕ, zero, suc, _+_, _-_, _*_, _/_, _%_, _^_, _≤_, _<_}
 use mathlib.Core.Path.{_≡_, refl, ap, sym, _∙_}
 use mathlib.Core.List.{List, [], _∷_, _++_}

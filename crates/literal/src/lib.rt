@@ -1,5 +1,5 @@
 // Definitions of the texts of the leaves (src/ds/gpkg.rs, `to_sql_impl` and `qstr_to_sql`, but for the apostrophes of a Str and for GeoPackage's
-// timestamps), and the writers of words and of texts in quotes, each written whole or not at all. Numbers and instants stand in crates of their own.
+// timestamps and open second ends), and the writers of words and of texts in quotes, each written whole or not at all. Numbers and instants stand in crates of their own.
 ghost use mathlib.Core.Path.{_≡_};
 ghost use mathlib.Core.List.{_∷_, []};
 ghost use Prim.Native.Nat.{_+_, _%_, _≤_};
@@ -17,7 +17,7 @@ const QUOTES: usize = 2;
 
 const COLLATE: usize = 9;
 
-// How timestamps are written: as the Rust does, or as GeoPackage stores them in DATETIME columns.
+// How timestamps and an Interval's open second end are written: as the Rust does, or for DATETIME columns as GeoPackage stores them.
 pub enum Writing {
     Rust,
     GeoPackage,

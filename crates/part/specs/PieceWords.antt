@@ -14,11 +14,11 @@ use Rattle.part.specs.declared.Flat.the-variants.{Words, Opened, Nothing
 use Rattle.part.specs.declared.Piece as piece
 use Rattle.part.specs.declared.Piece.the-variants as pieces
 
--- whether the j-th of the four ends is an operand's second
+-- whether of the four ends, 0 to 3, this one is an operand's second
 abbrev pub isSecond : ℕ → Bool
 isSecond j = eqb (j % 2) 1
 
--- what the j-th end stands for; an open second end is an Interval's, since an instant's partner is Null
+-- what an end stands for, by its number; an open second end is an Interval's, since an instant's partner is Null
 abbrev pub endPiece : ℕ → end.End → piece.Piece
 endPiece j (Column a e) = pieces.Name a e
 endPiece j (Instant a e) = pieces.Node a e
@@ -30,6 +30,7 @@ endPiece j Null = pieces.Plain Nothing
 unfoldable pub pieceOf : ℕ → end.End → piece.Piece
 pieceOf code x = pick (ltb code 4) (endPiece code x) (pieces.Plain (Words code))
 
+-- the text of a piece that needs no record; a first end is spelled as one that stands alone
 unfoldable pub flatText : Writing → flat.Flat → List ℕ
 flatText w (Words code) = wordsOf code
 flatText w (Opened second) = unboundedText w (stopSlot second)

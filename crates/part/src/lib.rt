@@ -89,7 +89,7 @@ fn end_piece(code: u8, e: End) -> Piece
     }
 }
 
-// What a code of a template stands for, where it is an end that one.
+// What a code of a template stands for; `end` is the end that it names, if it names one.
 pub fn piece_of(code: u8, end: End) -> Piece
     ensures { λ r. ⌜ r ≡ pieceOf code end ⌝ }
 {

@@ -1,6 +1,7 @@
 -- Document 01's sixteen sheets A to P as one table, a second table for the call that writes timestamps as GeoPackage stores them (document 02,
--- slip 4), and a third for open ends in either call (slip 5): precision 7, collations NC, NA, NCA. Each line is checked by `right`, and `Hold.antt` has the one proof. The settings, the trees of A, B
--- and O and the second table's first Timestamp stand as bytes, so that a mistake that `encode` and `parse` share cannot pass.
+-- slip 4), and a third for open ends in either call (slip 5): precision 7, collations NC, NA, NCA. Each line is checked by `right`, and `Hold.antt`
+-- has the one proof. The settings, the trees of A, B and O and the second table's first Timestamp stand as bytes, so that a mistake that `encode`
+-- and `parse` share cannot pass.
 use Prim.Native.Nat.{ℕ}
 use mathlib.Core.List.{List, [], _∷_, _++_}
 use mathlib.Core.Bool.{Bool, true, false}
@@ -181,6 +182,7 @@ openEndSheets end staying =
     -- an Unbounded that is no Interval's second end
     ∷ lowers (encode (dyadic TDuring (interval b c) (interval unbounded d))) (bytes "(b > '-2021-01-01') AND (c < d)")
     ∷ lowers (encode (dyadic TAfter a unbounded)) (bytes "a > '-2021-01-01'")
+    ∷ lowers (encode (dyadic TAfter b (interval a (function (bytes "f") (unbounded then none))))) (bytes "\"a\" IS NOT NULL AND (b > f('-2021-01-01'))")
     ∷ lowers (encode (function (bytes "f") (unbounded then (array (unbounded then none) then none)))) (bytes "f('-2021-01-01', ('-2021-01-01'))")
     ∷ reads (stays end) rowStay staying
     ∷ []

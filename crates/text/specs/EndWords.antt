@@ -42,7 +42,7 @@ pub record Is (s : List ℕ) (e : end.End) (x : Tree) : Type 0 where
   pub fit : sound x ≡ true
   pub here : Here s e x
 
--- the text that a digit of a template stands for
+-- the text that a digit of a template stands for; a first end is spelled as one that stands alone
 abbrev pub slot : Writing → Settings → List Tree → ℕ → List ℕ
 slot w g xs j = endText w (stopSlot (isSecond j)) (getD xs j null) (text w g (getD xs j null))
 

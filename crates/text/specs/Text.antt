@@ -50,7 +50,7 @@ monadicText g o t x xs =
 unfoldable pub reduces : Op → Tree → Tree → Bool
 reduces o t u = both (oneOf o (SWithin ∷ SOverlaps ∷ STouches ∷ [])) (both (isId t) (negated (isId u)))
 
--- the text of an end by its slot: an open end as the slot spells it, any other by its own text x
+-- the text of an end by the writing and its slot: an open end as these spell it, any other by its own text x
 abbrev pub endText : Writing → Slot → Tree → List ℕ → List ℕ
 endText w slot t x = pick (eqb (kindOf t) UNBOUNDED) (unboundedText w slot) x
 

@@ -259,7 +259,8 @@ unfolding temporalTruth condTruth translators.translate translators.tBefore tran
 ogc-milliseconds = (refl, refl, refl, refl, refl, refl, refl, refl, refl, refl)
 
 -- `..` as an end. In the first call it is written as a start: [a, ..] reads as before b, though an open end lies above every instant. In the second
--- it lies above c, and [a, ..] is as long as [.., ..] at its end, but begins later.
+-- it lies above b: [a, ..] is not before b and intersects it; it ends where [.., ..] does and begins later, and does not meet it. `..` as a whole
+-- operand stays outside: in either call every instant is after it.
 ogc-open-end :
     (ogcOperand ten (interval a unbounded) ≡ false) × (temporalTruth Rust days TBefore (interval a unbounded) b ≡ True)
     × (ogcOperand twentyFour (interval a unbounded) ≡ true) × (temporalTruth GeoPackage timestamps TBefore (interval a unbounded) b ≡ False)
@@ -268,9 +269,9 @@ ogc-open-end :
     × (ogcOn twentyFour timestamps TFinishes (interval a unbounded) (interval unbounded unbounded) ≡ true)
     × (temporalTruth GeoPackage timestamps TMeets (interval a unbounded) (interval unbounded unbounded) ≡ False)
     × (ogcOn twentyFour timestamps TMeets (interval a unbounded) (interval unbounded unbounded) ≡ false)
-    × (ogcOperand twentyFour unbounded ≡ false)
+    × (ogcOperand twentyFour unbounded ≡ false) × (temporalTruth Rust days TAfter a unbounded ≡ True) × (temporalTruth GeoPackage timestamps TAfter a unbounded ≡ True)
 unfolding temporalTruth condTruth translators.translate translators.tBefore translators.tAfter translators.tIntersects translators.tFinishes translators.tMeets sql.checkId sql.checkIds trees.isInterval trees.isId trees.startOf trees.stopOf trees.endsOf valueOn endOn look same order grammar.holds some literal.date literal.low literal.openEnd ogcOperand isStart isStop isPoint treeAtom endAtom grammar.value isEnd trees.first trees.second ogcOn ogc earlier sameMoment below momentOn fields
-ogc-open-end = (refl, refl, refl, refl, refl, refl, refl, refl, refl, refl, refl)
+ogc-open-end = (refl, refl, refl, refl, refl, refl, refl, refl, refl, refl, refl, refl, refl)
 
 -- A row of 19-byte values in the second call: a lies at the second that is written, and reads as before it.
 ogc-seconds :

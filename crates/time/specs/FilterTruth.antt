@@ -47,7 +47,7 @@ treeAtom w (function n ts) = none
 treeAtom w (array ts) = none
 treeAtom w (interval t u) = none
 
--- what stands for an end by its slot: the string that the slot spells for an open end, and for any other end what stands for the tree
+-- what stands for an end by the writing and its slot: the string that these spell for an open end, and for any other end what stands for the tree
 unfoldable pub endAtom : Writing → Slot → Tree → Atom
 endAtom w slot t = pick (eqb (kindOf t) UNBOUNDED) (text (literal.openEnd w slot)) (treeAtom w t)
 

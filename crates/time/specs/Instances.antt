@@ -152,7 +152,7 @@ midnight n = timestamp 2024 1 n 0 0 0
 abbrev after : ℕ → Tree
 after n = dyadic TAfter a (midnight n)
 
--- a stay that began at a and has not ended goes on a day later
+-- a stay that began at a and has not ended goes on at the next midnight
 abbrev stay : Tree
 stay = interval a unbounded
 

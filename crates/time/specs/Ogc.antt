@@ -28,7 +28,7 @@ pub data Moment : Type 0 where
   moment : List ℕ → Moment
   openEnd : Moment
 
--- calendar order: by the year, then the month, and so on
+-- calendar order: by the year, then the month, and so on; an open start before all, an open end after all
 unfoldable pub earlier : Moment → Moment → Bool
 earlier openStart openStart = false
 earlier openStart (moment y) = true
@@ -163,11 +163,11 @@ writtenFields twentyFour t = fieldsOf t ++ (0 ∷ [])
 unfoldable pub isPoint : Width → Tree → Bool
 isPoint w t = kindIn (ID ∷ written w ∷ []) t
 
--- `..` as an interval's start
+-- an interval's start: such a point, or `..`
 unfoldable pub isStart : Width → Tree → Bool
 isStart w t = kindIn (ID ∷ written w ∷ UNBOUNDED ∷ []) t
 
--- and as its end in the second call alone
+-- an interval's end: such a point, and in the second call also `..`
 unfoldable pub isStop : Width → Tree → Bool
 isStop ten t = isPoint ten t
 isStop nineteen t = isPoint nineteen t
