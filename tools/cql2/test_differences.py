@@ -158,6 +158,12 @@ BY_CALL = [
     ('Unbounded', OPEN, "'-2021-01-01'", "'-2021-01-01'"),
     ('Str `2024-02-29T12:00:00`', text('2024-02-29T12:00:00'), "'2024-02-29T12:00:00'", "'2024-02-29T12:00:00'"),
 ]
+# The first cell of the row; the tree; its text by each call; a value of a; what SQLite makes of each text.
+OPEN_BY_CALL = [
+    ('TAfter(a, [.., ..])', two('TAfter', A, interval(OPEN, OPEN)), "a > '-2021-01-01'", "a > 'A'", '9999-12-31T23:59:59.999Z', 1, 0),
+    ('TIntersects(a, [2026-03-20, ..])', two('TIntersects', A, interval(date(2026, 3, 20), OPEN)), "NOT((a < '2026-03-20') OR (a > '-2021-01-01'))",
+     "NOT((a < '2026-03-20') OR (a > 'A'))", '2026-03-21', 0, 1),
+]
 # A value; the instant that it is compared with; how the value lies to it as each call writes it, by the first word of the row's cells.
 LIES = [
     ('2024-02-29T12:00:00.000Z', NOON, 'above', 'equal'), ('2024-02-29T12:00:00', NOON, 'equal', 'below'), ('2024-02-29T12:00:00Z', NOON, 'above', 'above'),
@@ -246,10 +252,19 @@ class Differences(unittest.TestCase):
                 for cell, words in zip(self.row(first).split(' | ')[1:], due):
                     self.assertTrue(cell.startswith('`%s`' % words), cell)
 
+    def test_open_ends_by_call(self):
+        trees = [case[1] for case in OPEN_BY_CALL]
+        for (first, _, *texts, value, one, other), *lines in zip(OPEN_BY_CALL, self.lower(trees), self.lower(trees, GEOPACKAGE)):
+            with self.subTest(first):
+                self.assertEqual(lines, texts)
+                self.assertEqual([[asked(words, {'a': value}, kind) for words in texts] for kind in ('DATETIME', 'TEXT')], [[one, other]] * 2)
+                for cell, words, found in zip(self.row(first).split(' | ')[1:], texts, (one, other)):
+                    self.assertTrue(cell.startswith('`%s`: %d' % (words, found)), cell)
+
     @unittest.skipUnless(rust.program(), rust.MISSING)
-    def test_timestamps_of_the_rust(self):
-        told = rust.answers([(SETTINGS, case[1].encode()) for case in BY_CALL])
-        self.assertEqual(told, [('T', case[2]) for case in BY_CALL])
+    def test_timestamps_and_open_ends_of_the_rust(self):
+        told = rust.answers([(SETTINGS, case[1].encode()) for case in BY_CALL + OPEN_BY_CALL])
+        self.assertEqual(told, [('T', case[2]) for case in BY_CALL + OPEN_BY_CALL])
 
     def test_values_beside_timestamps(self):
         signs = {'Lt': 'below', 'Eq': 'equal', 'Gt': 'above'}
