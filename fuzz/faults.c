@@ -252,53 +252,6 @@ static int64_t first_length(const uint8_t *s, size_t sn, const uint8_t *t, size_
     return true_to_sql(s, sn, t, tn, whole, sizeof whole);
 }
 
-/* A text that is shorter than the first call's, and is counted as that. */
-static int64_t faulty_lengths(const uint8_t *s, size_t sn, const uint8_t *t, size_t tn, size_t room, int64_t n)
-{
-    switch (FAULT) {
-    case 65: /* 65 the second call refuses with 8 what the first does */
-        return (n >= 0 || n == -9) && first_length(s, sn, t, tn) == -8 ? -8 : n;
-    case 66: /* 66 the second call decides 9 by the first call's longer text */
-        return n >= 0 && first_length(s, sn, t, tn) > (int64_t)room ? -9 : n;
-    default:
-        return n;
-    }
-}
-
-static int64_t faulty_to_geopackage_sql(const uint8_t *s, size_t sn, const uint8_t *t, size_t tn, uint8_t *out, size_t room, int64_t n)
-{
-    switch (FAULT) {
-    case 50: /* 50 the second call writes .000Z after dates too */
-        return n < 0 ? n : replaced(out, n, room, "", DAY, 1, ".000Z'");
-    case 51: /* 51 the second call writes .00Z */
-        return n < 0 ? n : replaced(out, n, room, "", "'" CLOCK ".000Z'", 3, "Z'");
-    case 52: /* 52 the second call writes .000 without Z */
-        return n < 0 ? n : replaced(out, n, room, "", "'" CLOCK ".000Z'", 2, "'");
-    case 53: /* 53 the second call leaves the timestamps of a list without */
-        return n < 0 ? n : replaced(out, n, room, ", ", "'" CLOCK ".000Z'", 6, "'");
-    case 54: /* 54 the second call leaves them without if there is an Interval */
-        return n >= 0 && has_kind(t, tn, 13) ? true_to_sql(s, sn, t, tn, out, room) : n;
-    case 55: /* 55 the second call writes .000Z after texts like timestamps */
-        return n < 0 ? n : replaced(out, n, room, "'", CLOCK "'", 1, ".000Z'");
-    case 56: /* 56 the second call decides 9 by the first call's length */
-        return n == -9 && first_length(s, sn, t, tn) <= (int64_t)room ? true_to_sql(s, sn, t, tn, out, room) : n;
-    case 57: /* 57 the second call decides 8 by the first call's length */
-        return n == -8 && first_length(s, sn, t, tn) >= 0 ? -9 : n;
-    case 58: /* 58 the second call refuses a buffer of the text's exact length */
-        return n == (int64_t)room && n > 0 ? -9 : n;
-    case 59: /* 59 the second call leaves the first byte written after a 9 */
-        if (n == -9 && room)
-            out[0] ^= 1;
-        return n;
-    case 60: /* 60 the second call writes the byte after the text */
-        if (n >= 0 && n < (int64_t)room)
-            out[n] = 0;
-        return n;
-    default:
-        return faulty_lengths(s, sn, t, tn, room, n);
-    }
-}
-
 /* Where an Unbounded can stand: an Interval's two ends, by their number, and any other place. */
 enum { START, END, ALONE };
 
@@ -341,10 +294,57 @@ static int64_t ends_written(writer *call, unsigned place, const char *text, cons
     return m && m <= WENDUULIG_TREE_MAX ? call(s, sn, copy, m, out, room) : call(s, sn, t, tn, out, room);
 }
 
+/* A text that is shorter than the first call's, and is counted as that. */
+static int64_t faulty_lengths(const uint8_t *s, size_t sn, const uint8_t *t, size_t tn, size_t room, int64_t n)
+{
+    switch (FAULT) {
+    case 65: /* 65 the second call refuses with 8 what the first does */
+        return (n >= 0 || n == -9) && first_length(s, sn, t, tn) == -8 ? -8 : n;
+    case 66: /* 66 the second call decides 9 by the first call's longer text */
+        return n >= 0 && first_length(s, sn, t, tn) > (int64_t)room ? -9 : n;
+    default:
+        return n;
+    }
+}
+
+static int64_t faulty_to_geopackage_sql(const uint8_t *s, size_t sn, const uint8_t *t, size_t tn, uint8_t *out, size_t room, int64_t n)
+{
+    switch (FAULT) {
+    case 50: /* 50 the second call writes .000Z after dates too */
+        return n < 0 ? n : replaced(out, n, room, "", DAY, 1, ".000Z'");
+    case 51: /* 51 the second call writes .00Z */
+        return n < 0 ? n : replaced(out, n, room, "", "'" CLOCK ".000Z'", 3, "Z'");
+    case 52: /* 52 the second call writes .000 without Z */
+        return n < 0 ? n : replaced(out, n, room, "", "'" CLOCK ".000Z'", 2, "'");
+    case 53: /* 53 the second call leaves the timestamps of a list without */
+        return n < 0 ? n : replaced(out, n, room, ", ", "'" CLOCK ".000Z'", 6, "'");
+    case 54: /* 54 the second call leaves them without if there is an Interval */
+        return n >= 0 && has_kind(t, tn, 13) ? ends_written(true_to_sql, END, "A", s, sn, t, tn, out, room) : n;
+    case 55: /* 55 the second call writes .000Z after texts like timestamps */
+        return n < 0 ? n : replaced(out, n, room, "'", CLOCK "'", 1, ".000Z'");
+    case 56: /* 56 the second call decides 9 by the first call's length */
+        return n == -9 && first_length(s, sn, t, tn) <= (int64_t)room ? true_to_sql(s, sn, t, tn, out, room) : n;
+    case 57: /* 57 the second call decides 8 by the first call's length */
+        return n == -8 && first_length(s, sn, t, tn) >= 0 ? -9 : n;
+    case 58: /* 58 the second call refuses a buffer of the text's exact length */
+        return n == (int64_t)room && n > 0 ? -9 : n;
+    case 59: /* 59 the second call leaves the first byte written after a 9 */
+        if (n == -9 && room)
+            out[0] ^= 1;
+        return n;
+    case 60: /* 60 the second call writes the byte after the text */
+        if (n >= 0 && n < (int64_t)room)
+            out[n] = 0;
+        return n;
+    default:
+        return faulty_lengths(s, sn, t, tn, room, n);
+    }
+}
+
 int64_t wenduulig_to_sql(const uint8_t *s, size_t sn, const uint8_t *t, size_t tn, uint8_t *out, size_t room)
 {
     if (FAULT == 49) /* 49 the first call writes .000Z */
-        return true_to_geopackage_sql(s, sn, t, tn, out, room);
+        return ends_written(true_to_geopackage_sql, END, "-2021-01-01", s, sn, t, tn, out, room);
     if (FAULT == 64) /* 64 the first call writes 'A' for an open end */
         return ends_written(true_to_sql, END, "A", s, sn, t, tn, out, room);
     return faulty_to_sql(s, sn, t, tn, out, room, true_to_sql(s, sn, t, tn, out, room));
