@@ -92,8 +92,8 @@ class Lowerings:
         return self.settings(), encode(self.tree(self.stamped))
 
     def open_ends(self):
-        """`..` at either end of intervals, alone, in lists and calls, and such conditions inside an end; among columns, dates and texts like those that are
-        written for it."""
+        """`..` at either end of intervals, alone, in lists and calls, and such conditions inside an end; among columns, dates and texts like those that
+        are written for it."""
         r, inside = self.r, ('array', [OPEN, OPEN])
         for _ in range(r.randint(1, 3)):
             others = ('id', 'a'), ('date', 2024, 2, 29), ('str', 0, r.choice(('A', '-2021-01-01', '..'))), ('function', 'f', [OPEN]), inside

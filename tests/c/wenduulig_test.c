@@ -530,7 +530,7 @@ static void test_open_end_limits(void)
         end(&tree, both);
         int clean, second = *writing->after != 0;
         if (second && !more)
-            check(lower(&settings, &tree, 65535, &text, &clean) == 65535 && clean, "65,535 bytes, which the first call refuses with 8");
+            check(lower(&settings, &tree, 65535, &text, &clean) == 65535 && clean, "65,535 bytes, an 8 by the first call");
         else
             expect_refusal(65535, WENDUULIG_TEXT_TOO_LONG, "8: open ends written twice at each level");
     }
@@ -555,7 +555,8 @@ static void test_open_end_truths(void)
     for (size_t i = 0; i < sizeof cases / sizeof *cases; i++) {
         make_spans(&tree, cases[i].op, cases[i].names);
         lower(&settings, &tree, 200, &text, &clean);
-        check(read_row(text.at, text.n, &row) == (*writing->after ? cases[i].second : cases[i].first), "a stay that has not ended");
+        int32_t want = *writing->after ? cases[i].second : cases[i].first;
+        check(read_row(text.at, text.n, &row) == want, "a stay that has not ended");
     }
 }
 

@@ -195,12 +195,12 @@ def timed(x, value):
 
 class Silence(unittest.TestCase):
     def test_columns_of_dates_and_times(self):
-        """Every operator between a column and written instants around its values, or open ends, in both orders and writings: another answer than by time has
-        a warning, and of timestamps there is none where the column holds them as they are written; nor of open ends in GeoPackage's writing."""
+        """Every operator between a column and written instants around its values, or open ends, in both orders and writings: another answer than by time
+        has a warning, and of timestamps there is none where the column holds them as they are written; nor of open ends in GeoPackage's writing."""
         literals = [{'date': '2024-01-02'}, {'timestamp': '2024-01-02T00:00:00Z'}, {'timestamp': '2024-01-02T12:00:00Z'}]
         intervals = [{'interval': ['2024-01-02', '2024-01-03']}, {'interval': ['2024-01-02T00:00:00Z', '2024-01-02T12:00:00Z']},
-                     {'interval': ['2024-01-02', '2024-01-02T12:00:00Z']}, {'interval': ['2024-01-02T12:00:00Z', '..']}, {'interval': ['2024-01-02', '..']},
-                     {'interval': ['..', '2024-01-02T00:00:00Z']}, {'interval': ['..', '..']}]
+                     {'interval': ['2024-01-02', '2024-01-02T12:00:00Z']}, {'interval': ['2024-01-02T12:00:00Z', '..']},
+                     {'interval': ['2024-01-02', '..']}, {'interval': ['..', '2024-01-02T00:00:00Z']}, {'interval': ['..', '..']}]
         column, both, since = {'property': 'a'}, {'interval': [{'property': 'a'}, {'property': 'a'}]}, {'interval': [{'property': 'a'}, '..']}
         filters = [op(name, *pair) for name in COMPARED for x in literals for pair in ((column, x), (x, column))]
         filters += [op(name, *pair) for name in INSTANTS for x in literals + intervals for pair in ((column, x), (x, column))]

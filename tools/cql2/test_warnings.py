@@ -113,17 +113,18 @@ OPEN_ENDS = [
     (op('t_metBy', interval('..', DAY), interval(A, '..')), ['$.args[1].interval[1]'], [DATE], [['2024-01-01']], [], [1], None),
     (op('t_after', A, interval(B, '..')), ['$.args[1].interval[1]'], [DATE] * 2, [['2026-03-20', '2026-03-19']], [], [1],
      op('t_after', A, interval(B, '9999-12-31'))),
-    (op('t_disjoint', A, interval('..', '..')), ['$.args[1].interval[1]'], [DATE], [['2026-03-20']], [], [1], op('t_disjoint', A, interval('..', '9999-12-31'))),
-    (op('t_during', interval(A, B), interval('2026-03-01', '..')), ['$.args[1].interval[1]'], [DATE] * 2, [['2026-03-02', '2026-03-03'], ['2026-03-01'] * 2],
-     [1], [], op('t_during', interval(A, B), interval('2026-03-01', '9999-12-31'))),
+    (op('t_disjoint', A, interval('..', '..')), ['$.args[1].interval[1]'], [DATE], [['2026-03-20']], [], [1],
+     op('t_disjoint', A, interval('..', '9999-12-31'))),
+    (op('t_during', interval(A, B), interval('2026-03-01', '..')), ['$.args[1].interval[1]'], [DATE] * 2,
+     [['2026-03-02', '2026-03-03'], ['2026-03-01'] * 2], [1], [], op('t_during', interval(A, B), interval('2026-03-01', '9999-12-31'))),
     (op('t_contains', interval(A, '..'), interval(B, C)), ['$.args[0].interval[1]'], [DATE] * 3, [['2026-03-01', '2026-03-02', '2026-03-03']], [1], [],
      op('t_contains', interval(A, '9999-12-31'), interval(B, C))),
     (op('t_starts', interval(A, B), interval(C, '..')), ['$.args[1].interval[1]'], [DATE] * 3, [['2026-03-01', '2026-03-02', '2026-03-01']], [1], [],
      op('t_starts', interval(A, B), interval(C, '9999-12-31'))),
     (op('t_overlaps', interval(A, B), interval(C, '..')), ['$.args[1].interval[1]'], [DATE] * 3, [['2026-03-01', '2026-03-03', '2026-03-02']], [1], [],
      op('t_overlaps', interval(A, B), interval(C, '9999-12-31'))),
-    (op('t_intersects', interval(A, '..'), interval(B, '..')), ['$.args[0].interval[1]', '$.args[1].interval[1]'], ['DATETIME'] * 2, [[LONG, LONG]], [1], [],
-     None),
+    (op('t_intersects', interval(A, '..'), interval(B, '..')), ['$.args[0].interval[1]', '$.args[1].interval[1]'], ['DATETIME'] * 2, [[LONG, LONG]],
+     [1], [], None),
 ]
 
 # Columns a that hold noon in one form or several, as declared and with their values: by each writing how a value lies to its own instant as written,
@@ -254,12 +255,11 @@ class Warnings(unittest.TestCase):
         other, last = 'take --writing geopackage, by which it lies above every instant', 'write a last instant in its place, as 9999-12-31'
         dated, timed = (op('t_intersects', A, interval(start, '..')) for start in ('2026-03-01', '2026-03-01T12:00:00Z'))
         beside = op('and', dated, op('t_before', B, NOON))
-        rust = '--writing', 'rust'
-        for data, words, helps in ((dated, (), True), (timed, (), True), (dated, ('-g', self.package([TEXT], [[SHORT]]), *rust), True),
-                                   (timed, ('-g', self.package([TEXT], [[SHORT]]), *rust), False), (timed, ('-g', self.package([TEXT], [[LONG]]), *rust), True),
-                                   (timed, ('-g', self.package(['DATETIME'], []), *rust), True), (dated, ('-g', self.package([DATE], []), *rust), True),
-                                   (beside, ('-g', self.package([DATE, TEXT], [['2026-03-01', SHORT]]), *rust), False),
-                                   (beside, ('-g', self.package([DATE, TEXT], [['2026-03-01', LONG]]), *rust), True)):
+        for data, kinds, rows, helps in ((dated, None, None, True), (timed, None, None, True), (dated, [TEXT], [[SHORT]], True),
+                                         (timed, [TEXT], [[SHORT]], False), (timed, [TEXT], [[LONG]], True), (timed, ['DATETIME'], [], True),
+                                         (dated, [DATE], [], True), (beside, [DATE, TEXT], [['2026-03-01', SHORT]], False),
+                                         (beside, [DATE, TEXT], [['2026-03-01', LONG]], True)):
+            words = ('-g', self.package(kinds, rows), '--writing', 'rust') if kinds else ()
             [line] = [line for line in self.told(data, *words)[1] if 'the open end is written' in line]
             self.assertEqual((other in line, last in line), (helps, True), line)
 

@@ -58,7 +58,8 @@ def open_corners():
             yield from (('dyadic', operator, *pair) for pair in ((OPEN, OPEN), (OPEN, ('interval', A, OPEN)), (('interval', OPEN, OPEN), A)))
     yield from (OPEN, ('array', [OPEN, A, ('array', [OPEN])]), ('function', 'f', [OPEN, A]), ('dyadic', 'Eq', A, OPEN), ('dyadic', 'IsLike', OPEN, OPEN))
     yield from (('dyadic', 'IsBetween', OPEN, ('array', [OPEN, OPEN])), ('dyadic', 'IsInList', A, ('array', [OPEN, DAY])), ('monadic', 'CaseI', OPEN))
-    inside = ('array', [OPEN]), ('function', 'f', [OPEN]), ('dyadic', 'TEquals', OPEN, OPEN), ('dyadic', 'TMeets', ('interval', A, OPEN), ('interval', OPEN, B))
+    inside = [('array', [OPEN]), ('function', 'f', [OPEN]), ('dyadic', 'TEquals', OPEN, OPEN)]
+    inside.append(('dyadic', 'TMeets', ('interval', A, OPEN), ('interval', OPEN, B)))
     yield from (('dyadic', 'TAfter', A, ('interval', B, end)) for end in inside)
     yield from (('dyadic', 'TAfter', A, ('interval', B, ('str', 0, text))) for text in ('A', '-2021-01-01', '..', "'A'"))
 

@@ -47,7 +47,8 @@ SINCE_A, SINCE_B, UNTIL_A, UNTIL_B = ('interval', A, OPEN), ('interval', B, OPEN
 ALWAYS = ('interval', OPEN, OPEN)
 ENDS = [    # `..` in every place of a tree; each ^ is one as the second end of an Interval, each _ any other
     (('dyadic', 'TAfter', A, SINCE_B), '"b" IS NOT NULL AND (a > ^)'), (('dyadic', 'TBefore', SINCE_A, B), '"a" IS NOT NULL AND (^ < b)'),
-    (('dyadic', 'TBefore', A, SINCE_B), 'a < b'), (('dyadic', 'TAfter', SINCE_A, B), 'a > b'), (('dyadic', 'TAfter', UNTIL_A, B), '"a" IS NOT NULL AND (_ > b)'),
+    (('dyadic', 'TBefore', A, SINCE_B), 'a < b'), (('dyadic', 'TAfter', SINCE_A, B), 'a > b'),
+    (('dyadic', 'TAfter', UNTIL_A, B), '"a" IS NOT NULL AND (_ > b)'),
     (('dyadic', 'TDisjoint', SINCE_A, UNTIL_B), '("a" IS NOT NULL AND "b" NOT NULL AND (^ < _)) OR (a > b)'),
     (('dyadic', 'TIntersects', A, SINCE_B), 'NOT((a < b) OR (a > ^))'), (('dyadic', 'TIntersects', ALWAYS, ALWAYS), 'NOT((^ < _) OR (_ > ^))'),
     (('dyadic', 'TEquals', SINCE_A, SINCE_B), '(a = b) AND (^ = ^)'), (('dyadic', 'TEquals', A, ALWAYS), '(a = _) AND (a = ^)'),
@@ -99,7 +100,8 @@ class Lowering(unittest.TestCase):
     def test_both_writings(self):
         """They differ in what stands after a timestamp's seconds, in `..` as the second end of an Interval, and in nothing else."""
         for tree, form in STAMPS + ENDS:
-            for call, writing, stamp, end in ((calls.to_sql, lowering.RUST, WRITTEN, BELOW), (calls.to_geopackage_sql, lowering.GEOPACKAGE, LONGER, ABOVE)):
+            for call, writing, stamp, end in ((calls.to_sql, lowering.RUST, WRITTEN, BELOW),
+                                              (calls.to_geopackage_sql, lowering.GEOPACKAGE, LONGER, ABOVE)):
                 written = form.replace('%', stamp)
                 if (tree, form) in ENDS:    # a name of the others has a _
                     written = written.replace('^', end).replace('_', BELOW)
