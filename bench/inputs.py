@@ -47,6 +47,13 @@ STAMP_FILTERS = [    # of the same kinds, about DATETIME columns
     two('TOverlaps', STAY, MONDAY),
     two('TEquals', ENTERED, NOON)]
 
+NOT_ENDED = span(ENTERED, OPEN)
+NOT_ENDED_FILTERS = [    # stays that have not ended
+    two('And', one('IsNull', EXITED), two('TIntersects', NOT_ENDED, MONDAY)),
+    one('Neg', two('TAfter', NOON, NOT_ENDED)),
+    two('TDisjoint', STAY, NOT_ENDED),
+    two('Or', two('TContains', NOT_ENDED, MONDAY), two('TEquals', NOT_ENDED, span(NOON, OPEN)))]
+
 MIXED_FILTERS = [
     two('Or', two('And', two('TDisjoint', ENTERED, MONTH), two('Lte', MASS, num(1250, 2))), two('IsInList', name('shelf'), ('array', [num(n) for n in range(1, 5)]))),
     two('And', two('And', two('Eq', name('road_class'), word('motorway')), two('IsBetween', name('depth'), ('array', [num(1000, 1), num(15055, 2)]))),
@@ -225,10 +232,10 @@ def checked():
 
 def stamped():
     """Label, and the same trees by the first call, in which the Rust takes part, and by the second."""
-    listed = two('IsInList', ENTERED, ('array', [NOON] * 1800))
+    listed, ended = two('IsInList', ENTERED, ('array', [NOON] * 1800)), ('array', [two('TAfter', ENTERED, span(OPEN, OPEN))] * 700)
     return [(label, lowering(trees), lowering(trees, 'G')) for label, trees in (
         ('time filters with timestamps', STAMP_FILTERS), ('time filters, mostly dates', TIME_FILTERS), ('mixed filters, no timestamp', MIXED_FILTERS),
-        ('1,800 timestamps', [listed]))]
+        ('1,800 timestamps', [listed]), ('stays that have not ended', NOT_ENDED_FILTERS), ('700 open ends', [ended]))]
 
 
 def compared():

@@ -15,7 +15,7 @@ DATETIME = 'timestamps against DATETIME values'    # of which SQLite is asked on
 LOWERING = [
     ('accepted trees', 'accepted', 1200), ('larger trees', 'larger', 300), ('leaves at their limits', 'leaves', 700), ('stored trees', 'stored', 300),
     ('strings of any characters', 'texts', 700), ('strings of apostrophes', 'apostrophes', 80),
-    ('timestamps in every place', 'stamps', 700), ('timestamps, 65,535 bytes of text', 'stamps_limit', 40),
+    ('timestamps in every place', 'stamps', 700), ('timestamps, 65,535 bytes of text', 'stamps_limit', 40), ('open ends in every place', 'open_ends', 500),
     ('stored trees, damaged', 'stored_damaged', 300), ('settings damaged', 'settings_damaged', 250),
     ('settings at their limits', 'settings_edges', 250),
     ('random bytes as a tree', 'random_bytes', 250), ('random records', 'random_records', 700), ('30 to 34 levels', 'deep', 200),

@@ -252,6 +252,61 @@ static int64_t first_length(const uint8_t *s, size_t sn, const uint8_t *t, size_
     return true_to_sql(s, sn, t, tn, whole, sizeof whole);
 }
 
+/* Where an Unbounded can stand: an Interval's two ends, by their number, and any other place. */
+enum { START, END, ALONE };
+
+/* At `to` the record at `t`, with a Str of the text for each Unbounded that stands at `place`; it stands itself at `here`. Its length then. The tree is
+   a right one. */
+static size_t with_strings(const uint8_t *t, uint8_t *to, unsigned here, unsigned place, const char *text)
+{
+    uint32_t length;
+    size_t size = strlen(text), kind = t[4], m = kind == 11 ? 7 + (size_t)t[6] : kind == 9 || kind == 10 ? 8 : 6;
+    memcpy(&length, t, 4);
+    if (kind == 1 && here == place) {
+        memcpy(to + 4, "\4\0", 3); /* the kind, and no flags */
+        memcpy(to + 7, text, size);
+        m = 7 + size;
+    } else if (kind < 9) {
+        m = 4 + (size_t)length;
+        memcpy(to, t, m);
+    } else {
+        memcpy(to, t, m);
+        for (size_t i = m, k = 0; i < 4 + (size_t)length; k++) {
+            uint32_t inner;
+            memcpy(&inner, t + i, 4);
+            m += with_strings(t + i, to + m, kind == 13 ? (unsigned)k : ALONE, place, text);
+            i += 4 + (size_t)inner;
+        }
+    }
+    length = (uint32_t)m - 4;
+    memcpy(to, &length, 4);
+    return m;
+}
+
+typedef int64_t writer(const uint8_t *, size_t, const uint8_t *, size_t, uint8_t *, size_t);
+
+/* What the call answers if it writes the text for each Unbounded that stands at `place`. */
+static int64_t ends_written(writer *call, unsigned place, const char *text, const uint8_t *s, size_t sn, const uint8_t *t, size_t tn, uint8_t *out,
+                            size_t room)
+{
+    int64_t n = call(s, sn, t, tn, out, 0);
+    size_t m = n == -8 || n == -9 ? with_strings(t, copy, ALONE, place, text) : 0;
+    return m && m <= WENDUULIG_TREE_MAX ? call(s, sn, copy, m, out, room) : call(s, sn, t, tn, out, room);
+}
+
+/* A text that is shorter than the first call's, and is counted as that. */
+static int64_t faulty_lengths(const uint8_t *s, size_t sn, const uint8_t *t, size_t tn, size_t room, int64_t n)
+{
+    switch (FAULT) {
+    case 65: /* 65 the second call refuses with 8 what the first does */
+        return (n >= 0 || n == -9) && first_length(s, sn, t, tn) == -8 ? -8 : n;
+    case 66: /* 66 the second call decides 9 by the first call's longer text */
+        return n >= 0 && first_length(s, sn, t, tn) > (int64_t)room ? -9 : n;
+    default:
+        return n;
+    }
+}
+
 static int64_t faulty_to_geopackage_sql(const uint8_t *s, size_t sn, const uint8_t *t, size_t tn, uint8_t *out, size_t room, int64_t n)
 {
     switch (FAULT) {
@@ -264,7 +319,7 @@ static int64_t faulty_to_geopackage_sql(const uint8_t *s, size_t sn, const uint8
     case 53: /* 53 the second call leaves the timestamps of a list without */
         return n < 0 ? n : replaced(out, n, room, ", ", "'" CLOCK ".000Z'", 6, "'");
     case 54: /* 54 the second call leaves them without if there is an Interval */
-        return n >= 0 && has_kind(t, tn, 13) ? true_to_sql(s, sn, t, tn, out, room) : n;
+        return n >= 0 && has_kind(t, tn, 13) ? ends_written(true_to_sql, END, "A", s, sn, t, tn, out, room) : n;
     case 55: /* 55 the second call writes .000Z after texts like timestamps */
         return n < 0 ? n : replaced(out, n, room, "'", CLOCK "'", 1, ".000Z'");
     case 56: /* 56 the second call decides 9 by the first call's length */
@@ -282,14 +337,16 @@ static int64_t faulty_to_geopackage_sql(const uint8_t *s, size_t sn, const uint8
             out[n] = 0;
         return n;
     default:
-        return n;
+        return faulty_lengths(s, sn, t, tn, room, n);
     }
 }
 
 int64_t wenduulig_to_sql(const uint8_t *s, size_t sn, const uint8_t *t, size_t tn, uint8_t *out, size_t room)
 {
     if (FAULT == 49) /* 49 the first call writes .000Z */
-        return true_to_geopackage_sql(s, sn, t, tn, out, room);
+        return ends_written(true_to_geopackage_sql, END, "-2021-01-01", s, sn, t, tn, out, room);
+    if (FAULT == 64) /* 64 the first call writes 'A' for an open end */
+        return ends_written(true_to_sql, END, "A", s, sn, t, tn, out, room);
     return faulty_to_sql(s, sn, t, tn, out, room, true_to_sql(s, sn, t, tn, out, room));
 }
 
@@ -297,6 +354,12 @@ int64_t wenduulig_to_geopackage_sql(const uint8_t *s, size_t sn, const uint8_t *
 {
     if (FAULT == 48) /* 48 the second call is the first */
         return true_to_sql(s, sn, t, tn, out, room);
+    if (FAULT == 61) /* 61 the second call writes 'A' for an open start */
+        return ends_written(true_to_geopackage_sql, START, "A", s, sn, t, tn, out, room);
+    if (FAULT == 62) /* 62 the second call writes 'A' for a lone Unbounded */
+        return ends_written(true_to_geopackage_sql, ALONE, "A", s, sn, t, tn, out, room);
+    if (FAULT == 63) /* 63 the second call writes '-2021-01-01' for an open end */
+        return ends_written(true_to_geopackage_sql, END, "-2021-01-01", s, sn, t, tn, out, room);
     return faulty_to_geopackage_sql(s, sn, t, tn, out, room, true_to_geopackage_sql(s, sn, t, tn, out, room));
 }
 

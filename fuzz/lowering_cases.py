@@ -16,6 +16,7 @@ def numbers(names):
 
 AND, EQ = numbers(('And', 'Eq'))
 SPANNING = numbers(INSTANT_OR_INTERVAL)
+OPEN = ('unbounded',)
 SOUP = numbers('Eq And TAfter TDisjoint TEquals TIntersects IsBetween'.split())
 
 
@@ -89,6 +90,18 @@ class Lowerings:
 
     def stamps(self):
         return self.settings(), encode(self.tree(self.stamped))
+
+    def open_ends(self):
+        """`..` at either end of intervals, alone, in lists and calls, and such conditions inside an end; among columns, dates and texts like those that
+        are written for it."""
+        r, inside = self.r, ('array', [OPEN, OPEN])
+        for _ in range(r.randint(1, 3)):
+            others = ('id', 'a'), ('date', 2024, 2, 29), ('str', 0, r.choice(('A', '-2021-01-01', '..'))), ('function', 'f', [OPEN]), inside
+            end = lambda: OPEN if r.random() < .6 else r.choice(others)
+            operator = r.choice(TEMPORAL)
+            side = lambda: end() if operator in INSTANT_OR_INTERVAL and r.random() < .5 else ('interval', end(), end())
+            inside = ('dyadic', operator, side(), side())
+        return self.settings(), encode(r.choice((inside, ('array', [inside, OPEN]), ('dyadic', 'Or', inside, OPEN))))
 
     def stamps_limit(self):
         """Timestamps, written twice, with a text of 65,533 to 65,538 bytes by one of the two calls that write."""
@@ -166,23 +179,25 @@ class Lowerings:
         return (self.settings() if r.random() < .9 else b''), tree
 
     def text_limit(self):
-        """A text of 65,533 to 65,538 bytes, most of it written several times."""
+        """A text of 65,533 to 65,538 bytes by one of the two calls that write, most of it written several times."""
         r, want = self.r, PLANNER.text + self.r.choice((-2, -1, 0, 0, 0, 1, 1, 1, 2, 3))
-        g = self.m.settings()
+        g, writing = self.m.settings(), r.choice((lowering.RUST, lowering.GEOPACKAGE))
         t = ('array', [('str', r.randrange(4), 'x' * 3900)] * 3)
         for _ in range(2):
-            t = ('dyadic', r.choice(('TEquals', 'TDisjoint', 'TIntersects')), t, ('interval', ('id', 'a'), ('id', 'b')))
+            ends = (r.choice((('id', name), ('unbounded',))) for name in 'ab')
+            t = ('dyadic', r.choice(('TEquals', 'TDisjoint', 'TIntersects')), t, ('interval', *ends))
         full = lambda n: ('dyadic', 'And', t, ('array', [('str', 0, 'y' * 3700)] * (n // 3710) + [('str', 0, 'y' * (n % 3710))]))
-        n = want - len(lowering.text(g, full(0)))
+        n = want - len(lowering.text(g, full(0), writing))
         for _ in range(9):    # the filler's own marks count too
-            n += want - len(lowering.text(g, full(n)))
+            n += want - len(lowering.text(g, full(n), writing))
         return settings_record(g), encode(full(n))
 
     def doubled_ends(self):
         """Ends that are written twice at each level: texts past every limit from a small tree, or an end that is left out."""
         r, t = self.r, self.m.end(1)
         for _ in range(r.randint(8, 29)):
-            side = ('interval', r.choice((('id', 'b'), ('unbounded',), ('null',))), ('id', 'c')) if r.random() < .7 else ('id', 'd')
+            ends = (r.choice((('id', name), ('unbounded',), ('null',))) for name in 'bc')
+            side = ('interval', *ends) if r.random() < .7 else r.choice((('id', 'd'), ('id', 'd'), ('unbounded',)))
             op = r.choice(INSTANT_OR_INTERVAL if r.random() < .8 else ('TDisjoint',))
             t = ('dyadic', op, t, side) if r.random() < .5 else ('dyadic', op, side, t)
             if r.random() < .1:

@@ -9,7 +9,7 @@ from model.records import SHEET_SETTINGS
 
 WORDS = [b'AND', b'OR', b'NOT', b'NULL', b'IS', b'TRUE', b'FALSE', b'(', b')', b'<', b'>', b'<=', b'>=', b'=', b'<>', b'!=', b'a', b'b', b'"a"',
          b"'x'", b"''", b'zz']
-EDGES, STAMPED = reading_edges.edges(), [*stamps.predicates(), *stamps.outside()]
+EDGES, STAMPED = reading_edges.edges(), [*stamps.predicates(), *stamps.open_ended(), *stamps.outside()]
 SMALL_READINGS, LARGE_READINGS = ([c for c in EDGES if (len(c[0]) + len(c[1]) < 2000) == small] for small in (True, False))
 
 
@@ -106,9 +106,9 @@ class Readings:
         return ('dyadic', r.choice(('And', 'Or')), self.time_filter(depth - 1), self.time_filter(depth - 1))
 
     def lowered(self):
-        """The text of a time filter, on a row that holds its columns or lacks one."""
+        """The text of a time filter by either call that writes, on a row that holds its columns or lacks one."""
         r = self.r
-        text = lowering.text(SHEET_SETTINGS, self.time_filter(r.choice((0, 1, 2)))).encode()
+        text = lowering.text(SHEET_SETTINGS, self.time_filter(r.choice((0, 1, 2))), r.choice((lowering.RUST, lowering.GEOPACKAGE))).encode()
         names = list('abcd') if r.random() < .9 else list('abc')
         r.shuffle(names)
         value = lambda: b'2024-01-0%d' % r.randint(1, 5) if r.random() < .9 else any_text(r).encode()

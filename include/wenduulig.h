@@ -9,13 +9,18 @@
  * inputs (crates/capi, crates/gpkg, crates/truth).
  *
  * Two of them write. They take the same arguments and refuse by the same rules: 1 to 7 the same inputs, 8 and 9 by the
- * bytes of the text that the call writes. Their texts differ in nothing but the timestamps, wherever they stand:
+ * bytes of the text that the call writes. Their texts differ in two things alone. Timestamps, wherever they stand:
  *    wenduulig_to_sql              '2024-02-29T12:00:00'        the text of ogc-cql2, for columns that hold instants so
  *    wenduulig_to_geopackage_sql   '2024-02-29T12:00:00.000Z'   for DATETIME columns as OGC GeoPackage stores them; the
  *                                                               fields of a Timestamp are then UTC
+ * And an open end, Unbounded as the second record of an Interval:
+ *    wenduulig_to_sql              '-2021-01-01'                the text of ogc-cql2, below every instant
+ *    wenduulig_to_geopackage_sql   'A'                          above every instant, as CQL2 has it
  * SQLite, and reading here, compare texts by their bytes, a shorter prefix first: '2024-02-29T12:00:00' lies below the same
- * instant with .000Z. So take the call that writes instants as the columns hold them. A Date is '2024-02-29' in both texts,
- * for DATE columns; an open end is '-2021-01-01' in both.
+ * instant with .000Z. So take the call that writes instants as the columns hold them. For stays that have not ended, from a
+ * start to .., take wenduulig_to_geopackage_sql, over DATETIME and DATE columns; by the other call such a stay ends before it
+ * begins. A Date is '2024-02-29' in both texts, for DATE columns; an open start, and an Unbounded that is no end of an
+ * Interval, is '-2021-01-01' in both, below every instant.
  *
  * Records. Length, 4 bytes; kind, 2 bytes; body. Numbers are little-endian; the length counts kind and body.
  *    0 Null, 1 Unbounded (..)   empty
@@ -214,7 +219,8 @@ enum wenduulig_refusal {
 int64_t wenduulig_to_sql(const uint8_t *settings, size_t settings_len, const uint8_t *tree, size_t tree_len, uint8_t *out,
                          size_t out_len);
 
-/* The same, with each timestamp as a GeoPackage's DATETIME columns hold it: .000Z stands after its seconds. */
+/* The same, with each timestamp as a GeoPackage's DATETIME columns hold it: .000Z stands after its seconds; and with the open
+ * end of an Interval above every instant: 'A'. For stays that have not ended, and for DATETIME columns. */
 int64_t wenduulig_to_geopackage_sql(const uint8_t *settings, size_t settings_len, const uint8_t *tree, size_t tree_len,
                                     uint8_t *out, size_t out_len);
 

@@ -16,13 +16,14 @@ struct bytes {
     size_t n;
 };
 
-/* The calls that write, and what stands after a timestamp's seconds. */
+/* The calls that write, what stands after a timestamp's seconds, and an Interval's open end. */
 static const struct writing {
     int64_t (*to_sql)(const uint8_t *, size_t, const uint8_t *, size_t, uint8_t *, size_t);
-    const char *name, *after;
-} first_call = {wenduulig_to_sql, "to_sql", ""}, second_call = {wenduulig_to_geopackage_sql, "to_geopackage_sql", ".000Z"},
+    const char *name, *after, *end;
+} first_call = {wenduulig_to_sql, "to_sql", "", "'-2021-01-01'"},
+  second_call = {wenduulig_to_geopackage_sql, "to_geopackage_sql", ".000Z", "'A'"},
   /* what is tested is reading, on texts of the first */
-  before_reading = {wenduulig_to_sql, "read", ""};
+  before_reading = {wenduulig_to_sql, "read", "", "'-2021-01-01'"};
 
 static const struct writing *writing = &first_call;
 static int passed, failed;
@@ -348,7 +349,7 @@ static void make_stamps(struct bytes *b)
     end(b, list);
 }
 
-/* Only timestamps are written otherwise, in every place, and the room is that of the longer text. */
+/* Only timestamps are written otherwise here, in every place, and the room is that of the longer text. */
 static void test_timestamps(void)
 {
     make_settings(&settings);
@@ -412,6 +413,150 @@ static void test_timestamp_truths(void)
         row.n = 0;
         put_column(&row, "a", values[i]);
         check(read_row(text.at, text.n, &row) == truths[i], values[i]);
+    }
+}
+
+static void put_interval(struct bytes *b, const char *first, const char *second)
+{
+    size_t interval = begin(b, WENDUULIG_INTERVAL);
+    for (int side = 0; side < 2; side++) {
+        const char *name = side ? second : first;
+        if (*name)
+            put_id(b, name);
+        else
+            put_leaf(b, WENDUULIG_UNBOUNDED);
+    }
+    end(b, interval);
+}
+
+/* The operator of two intervals; a name is a column's, none stands for an open start or end. */
+static void make_spans(struct bytes *b, unsigned op, const char *const names[4])
+{
+    b->n = 0;
+    size_t start = begin_op(b, WENDUULIG_DYADIC, op);
+    put_interval(b, names[0], names[1]);
+    put_interval(b, names[2], names[3]);
+    end(b, start);
+}
+
+/* Ends and starts; in the texts each ^ is an open end, each _ an open start. */
+static const struct spans {
+    unsigned op;
+    const char *names[4], *form;
+} spans[] = {
+    {WENDUULIG_T_AFTER, {"a", "", "b", ""}, "\"b\" IS NOT NULL AND (a > ^)"},
+    {WENDUULIG_T_BEFORE, {"a", "", "b", "c"}, "\"a\" IS NOT NULL AND \"c\" NOT NULL AND (^ < b)"},
+    {WENDUULIG_T_INTERSECTS, {"", "", "", ""}, "NOT((^ < _) OR (_ > ^))"},
+    {WENDUULIG_T_DISJOINT, {"a", "", "", "b"}, "(\"a\" IS NOT NULL AND \"b\" NOT NULL AND (^ < _)) OR (a > b)"},
+    {WENDUULIG_T_EQUALS, {"a", "", "b", ""}, "(a = b) AND (^ = ^)"},
+    {WENDUULIG_T_DURING, {"", "a", "b", ""}, "(_ > b) AND (a < ^)"},
+    {WENDUULIG_T_CONTAINS, {"a", "", "b", "c"}, "(a < b) AND (^ > c)"},
+    {WENDUULIG_T_OVERLAPPED_BY, {"a", "", "b", "c"}, "(a > b) AND (a < c) AND (^ > c)"},
+    {WENDUULIG_T_MEETS, {"a", "", "", "b"}, "\"a\" IS NOT NULL AND \"b\" NOT NULL AND (^ = _)"},
+    {WENDUULIG_T_MET_BY, {"", "a", "b", ""}, "\"a\" IS NOT NULL AND \"b\" NOT NULL AND (_ = ^)"}};
+
+/* The form with this call's open end for each ^, and an open start for each _. */
+static const char *with_ends(const char *form)
+{
+    size_t n = 0;
+    for (; *form; form++) {
+        const char one[] = {*form, 0}, *part = *form == '^' ? writing->end : *form == '_' ? "'-2021-01-01'" : one;
+        n += (size_t)snprintf(expected + n, sizeof expected - n, "%s", part);
+    }
+    return expected;
+}
+
+/* An open end is this call's own, an open start the same in both, and the room is that of the call's text. */
+static void test_open_ends(void)
+{
+    make_settings(&settings);
+    for (size_t i = 0; i < sizeof spans / sizeof *spans; i++) {
+        const char *want = with_ends(spans[i].form);
+        make_spans(&tree, spans[i].op, spans[i].names);
+        expect_text(strlen(want), want, spans[i].form);
+        expect_text(300, want, spans[i].form);
+        expect_refusal(strlen(want) - 1, WENDUULIG_BUFFER_TOO_SHORT, "9: a buffer one byte short of it");
+    }
+}
+
+/* An Unbounded that is no end of an Interval: alone, as an operand beside one, in a list and as an argument inside an end. */
+static void test_lone_unbounded(void)
+{
+    make_settings(&settings);
+    tree.n = 0;
+    put_leaf(&tree, WENDUULIG_UNBOUNDED);
+    expect_text(100, "'-2021-01-01'", "a lone Unbounded");
+    tree.n = 0;
+    size_t start = begin_op(&tree, WENDUULIG_DYADIC, WENDUULIG_T_EQUALS);
+    put_leaf(&tree, WENDUULIG_UNBOUNDED);
+    put_interval(&tree, "", "");
+    end(&tree, start);
+    expect_text(100, with_ends("(_ = _) AND (_ = ^)"), "an Unbounded beside an Interval of two");
+    tree.n = 0;
+    start = begin_op(&tree, WENDUULIG_DYADIC, WENDUULIG_T_AFTER);
+    put_id(&tree, "a");
+    size_t interval = begin(&tree, WENDUULIG_INTERVAL), list, call;
+    put_id(&tree, "b");
+    list = begin(&tree, WENDUULIG_ARRAY);
+    put_leaf(&tree, WENDUULIG_UNBOUNDED);
+    call = begin(&tree, WENDUULIG_FUNCTION);
+    put_named(&tree, "f");
+    put_leaf(&tree, WENDUULIG_UNBOUNDED);
+    end(&tree, call);
+    end(&tree, list);
+    end(&tree, interval);
+    end(&tree, start);
+    expect_text(100, with_ends("\"b\" IS NOT NULL AND (a > (_, f(_)))"), "Unbounded in a list and a call inside an end");
+}
+
+/* 8 counts this call's text: TEquals(a, [.., ..]) eleven times over beside a Str, 65,535 bytes by the second call, 86,005 by
+ * the first. */
+static void test_open_end_limits(void)
+{
+    static const char filler[] = "yyyyyyyyyyyyyyyyyyyyyy";
+    size_t starts[11];
+    make_settings(&settings);
+    for (size_t more = 0; more < 2; more++) {
+        tree.n = 0;
+        size_t both = begin_op(&tree, WENDUULIG_DYADIC, WENDUULIG_AND);
+        for (int i = 0; i < 11; i++)
+            starts[i] = begin_op(&tree, WENDUULIG_DYADIC, WENDUULIG_T_EQUALS);
+        put_id(&tree, "a");
+        for (int i = 10; i >= 0; i--) {
+            put_interval(&tree, "", "");
+            end(&tree, starts[i]);
+        }
+        put_str(&tree, 0, filler + 1 - more);
+        end(&tree, both);
+        int clean, second = *writing->after != 0;
+        if (second && !more)
+            check(lower(&settings, &tree, 65535, &text, &clean) == 65535 && clean, "65,535 bytes, an 8 by the first call");
+        else
+            expect_refusal(65535, WENDUULIG_TEXT_TOO_LONG, "8: open ends written twice at each level");
+    }
+}
+
+/* What each call's text says of a stay that has not ended, [a, ..], against a later instant. */
+static void test_open_end_truths(void)
+{
+    static const struct {
+        unsigned op;
+        const char *names[4];
+        int32_t first, second;
+    } cases[] = {{WENDUULIG_T_INTERSECTS, {"a", "", "b", "b"}, 0, 1}, {WENDUULIG_T_BEFORE, {"a", "", "b", "b"}, 1, 0},
+                 {WENDUULIG_T_DISJOINT, {"b", "b", "a", ""}, 1, 0},   {WENDUULIG_T_CONTAINS, {"a", "", "b", "b"}, 0, 1},
+                 {WENDUULIG_T_AFTER, {"b", "b", "a", ""}, 1, 0},      {WENDUULIG_T_EQUALS, {"a", "", "a", ""}, 1, 1},
+                 {WENDUULIG_T_MEETS, {"a", "", "", "b"}, 1, 0},       {WENDUULIG_T_FINISHES, {"b", "", "a", ""}, 1, 1}};
+    int clean;
+    make_settings(&settings);
+    row.n = 0;
+    put_column(&row, "a", "2024-02-29T12:00:00.000Z");
+    put_column(&row, "b", "9999-12-31T23:59:59.999Z");
+    for (size_t i = 0; i < sizeof cases / sizeof *cases; i++) {
+        make_spans(&tree, cases[i].op, cases[i].names);
+        lower(&settings, &tree, 200, &text, &clean);
+        int32_t want = *writing->after ? cases[i].second : cases[i].first;
+        check(read_row(text.at, text.n, &row) == want, "a stay that has not ended");
     }
 }
 
@@ -748,6 +893,10 @@ static void test_lowering(const struct writing *call)
     test_timestamps();
     test_timestamp_limits();
     test_timestamp_truths();
+    test_open_ends();
+    test_lone_unbounded();
+    test_open_end_limits();
+    test_open_end_truths();
     test_outer_refusals();
     test_inner_refusals();
     test_length_refusals();

@@ -1,7 +1,7 @@
 #!/usr/bin/env python3
 """Compares the Rust's texts of accepted trees with the model's: 1,648 corners (every temporal operator over every kind of end, and the like), and
 random trees with each operator at the root. The second call's texts are compared with the Rust's of the same trees with a string in the place of each
-timestamp, as a GeoPackage stores it.
+timestamp, as a GeoPackage stores it, and 'A' in that of `..` where it is the second end of an interval.
 
 usage: python3 tools/answers/compare_lowerings.py ORACLE [COUNT] [SEED]
        ORACLE: the program that ../shared/oracle/build.py makes; COUNT: of random trees, 20,000; SEED: 1
@@ -14,7 +14,7 @@ import sys
 sys.path.insert(0, os.path.join(os.path.dirname(os.path.abspath(__file__)), '..'))
 from answers import counts, rust
 from answers.literals import as_stored
-from generators import filters
+from generators import filters, stamps
 from model import lowering
 from model.lowering import GEOPACKAGE, RUST
 from model.operators import DYADIC, MONADIC
@@ -46,8 +46,9 @@ def random_and_corners(oracle, count, seed):
     roots = {tree[:2] for _, tree, _ in agree if tree[0] in ('monadic', 'dyadic')}
     print('%d trees, %d agree, %d differ, %d operators at the root, %d bytes of text'
           % (len(cases), len(agree), differ, len(roots), sum(len(text) for *_, text in agree)))
-    print('by the second call: %d agree, %d differ, %d longer than by the first'
-          % (len(second), others, sum(len(text) > len(first) for (*_, text), (*_, first) in zip(second, agree))))
+    more = [len(text) - len(first) for (*_, text), (*_, first) in zip(second, agree)]
+    print('by the second call: %d agree, %d differ, %d longer than by the first, %d shorter, %d with an open end'
+          % (len(second), others, sum(n > 0 for n in more), sum(n < 0 for n in more), sum(stamps.ends_open(tree) for _, tree, _ in second)))
     counts.stop_if_wrong(differ + others, ('trees', len(agree), CORNERS + count * 99 // 100),
                          ('operators at the root', len(roots), len(MONADIC) + len(DYADIC)))
     return agree

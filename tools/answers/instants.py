@@ -15,15 +15,15 @@ FORMULAS = {    # over the starts and ends a, b and c, d of the two sides
 SIGNS = dict(zip(RELATIONS, (lambda a, b: a == b, lambda a, b: a != b, lambda a, b: a < b, lambda a, b: a > b, lambda a, b: a <= b, lambda a, b: a >= b)))
 
 
-def instant(end, cells):
-    """In the order of time: an open start lies below every instant and is equal to any other."""
+def instant(end, cells, second=False):
+    """In the order of time: an open start lies below every instant, an open end, the second of an interval, above, and each is equal to any other such."""
     if end[0] == 'unbounded':
-        return 0, None
+        return 2 if second else 0, None
     return 1, datetime.datetime(*end[1:]) if end[0] == 'timestamp' else datetime.datetime.strptime(cells[end[1]], FORM)
 
 
 def span(side, cells):
-    return [instant(end, cells) for end in (side[1:] if side[0] == 'interval' else (side, side))]
+    return [instant(side[1], cells), instant(side[2], cells, True)] if side[0] == 'interval' else [instant(side, cells)] * 2
 
 
 def truth(tree, cells):

@@ -17,11 +17,16 @@ MORE = '''examples:
   ./filter filters/during.json
   ./filter filters/during.json --geopackage target/demo/stays.gpkg
   ./filter filters/late_shift.json --geopackage target/demo/stays.gpkg --writing rust
+  ./filter filters/not_ended.json --writing geopackage
   cat filters/during.json | ./filter - --geopackage target/demo/stays.gpkg --table stays
 
 timestamps:
   With --geopackage they are written as GeoPackage defines DATETIME, 2026-03-16T14:00:00.000Z, else as ogc-cql2 does, 2026-03-16T14:00:00;
   --writing takes the other. They are compared as texts, so that what is written must have the form of what the column holds.
+
+open ends:
+  An interval that has not ended, as ["2026-03-16T14:00:00Z", ".."]: with --geopackage, or --writing geopackage, its end lies above every instant, as CQL2
+  has it; ogc-cql2, and --writing rust, put it below every instant.
 
 operators:
   and or not  = <> < > <= >=  isNull like between in  casei accenti  + - * / div % ^
@@ -81,7 +86,8 @@ def parser():
     p.add_argument('-g', '--geopackage', metavar='FILE', help='run the text on this GeoPackage and show the rows')
     p.add_argument('-t', '--table', metavar='NAME', help='its table (may be left out if there is only one)')
     p.add_argument('--writing', metavar='{%s,%s}' % (RUST, GEOPACKAGE), type=writing_name,
-                   help='how timestamps are written: with their seconds last, or .000Z behind them (default: geopackage with --geopackage, else rust)')
+                   help='how timestamps and open ends are written: as ogc-cql2 does, or as GeoPackage and CQL2 have them (default: geopackage with '
+                        '--geopackage, else rust)')
     p.add_argument('--rows', metavar='N', type=whole(0, 10 ** 9), default=40, help='show at most N rows (default 40; 0: all)')
     p.add_argument('--spatialite', action='store_true', help='load SpatiaLite, for the s_ operators')
     p.add_argument('--strict', action='store_true', help='refuse a filter that has a warning')

@@ -9,7 +9,7 @@ Difference = collections.namedtuple('Difference', 'sees entry happens instead ca
 TABLE = [
     Difference(looking.open_end, 'an open end, `..`',
                'the open end is written as the text -2021-01-01, which lies before every instant, so that %(op)s picks the wrong rows, or none',
-               'write a last instant in its place, as 9999-12-31, or 9999-12-31T23:59:59Z beside timestamps'),
+               '%(writing)swrite a last instant in its place, as 9999-12-31, or 9999-12-31T23:59:59Z beside timestamps'),
     Difference(looking.false_for_unknown, 'NOT TAfter(a, [b, c]), b NULL',
                'where %(columns)s is NULL the text of %(op)s can be false instead of unknown, so that `not` picks the row, and isNull does not',
                'join it by `and` with not isNull of %(each)s'),

@@ -45,6 +45,11 @@ class Whole:
             self.beside = {one for name in names for one in table.forms(name)}
         return self.beside
 
+    def as_the_rust_writes(self, table):
+        """Whether a column that stands beside a written timestamp holds instants in the form of the Rust's writing."""
+        names = {column for part in walk(self.value) for x, _, column, _ in beside(part) if 'timestamp' in x}
+        return any(form(STORED)[:19] in table.forms(name) for name in names)
+
 
 def operator(value):
     return value.get('op') if isinstance(value, dict) else None
@@ -122,15 +127,19 @@ def used(part):
     return list(ends(part, [sorted(set(side)) for side in zip(*COMPARED.get(operator(part.value), LIKE))]))
 
 
+OTHER_WRITING = 'take --writing geopackage, by which it lies above every instant and timestamps end in .000Z, or '
+
+
 def open_end(part, table):
+    """In the Rust's writing alone: in GeoPackage's an open end is right."""
     name = operator(part.value) or ''
-    for side, k, value, place in used(part) if name in TEMPORAL else ():
+    for side, k, value, place in used(part) if name in TEMPORAL and table.writing == RUST else ():
         if value != '..' or k != 1:
             continue
         # by = an open end is right, but for an open start on the other side
         start = any((at, other, x) == (1 - side, 0, '..') for at, other, x, _ in used(part))
         if name not in BY_EQUALITY or name in ('t_meets', 't_metBy') and start:
-            yield place, {'op': name}
+            yield place, {'op': name, 'writing': '' if part.whole.as_the_rust_writes(table) else OTHER_WRITING}
 
 
 def false_for_unknown(part, table):

@@ -158,6 +158,18 @@ BY_CALL = [
     ('Unbounded', OPEN, "'-2021-01-01'", "'-2021-01-01'"),
     ('Str `2024-02-29T12:00:00`', text('2024-02-29T12:00:00'), "'2024-02-29T12:00:00'", "'2024-02-29T12:00:00'"),
 ]
+# The first cell of the row; the tree; its text by each call; what SQLite makes of each on STAY.
+STAY = {'a': '2024-02-29T12:00:00.000Z', 'b': '2024-02-29T12:30:45.500Z'}
+OPEN_BY_CALL = [
+    ('TIntersects([a, ..], b): is what came at a, and has not left, there at b?', two('TIntersects', interval(A, OPEN), B),
+     "NOT(('-2021-01-01' < b) OR (a > b))", "NOT(('A' < b) OR (a > b))", 0, 1),
+    ('TAfter(b, [a, ..])', two('TAfter', B, interval(A, OPEN)), '"a" IS NOT NULL AND (b > \'-2021-01-01\')', '"a" IS NOT NULL AND (b > \'A\')', 1, 0),
+    ('TBefore([a, ..], b)', two('TBefore', interval(A, OPEN), B), '"a" IS NOT NULL AND (\'-2021-01-01\' < b)', '"a" IS NOT NULL AND (\'A\' < b)', 1, 0),
+    ('TMeets([a, ..], [.., b])', two('TMeets', interval(A, OPEN), interval(OPEN, B)),
+     '"a" IS NOT NULL AND "b" NOT NULL AND (\'-2021-01-01\' = \'-2021-01-01\')', '"a" IS NOT NULL AND "b" NOT NULL AND (\'A\' = \'-2021-01-01\')', 1, 0),
+    ('TFinishes([a, ..], [.., ..])', two('TFinishes', interval(A, OPEN), interval(OPEN, OPEN)),
+     "(a > '-2021-01-01') AND ('-2021-01-01' = '-2021-01-01')", "(a > '-2021-01-01') AND ('A' = 'A')", 1, 1),
+]
 # A value; the instant that it is compared with; how the value lies to it as each call writes it, by the first word of the row's cells.
 LIES = [
     ('2024-02-29T12:00:00.000Z', NOON, 'above', 'equal'), ('2024-02-29T12:00:00', NOON, 'equal', 'below'), ('2024-02-29T12:00:00Z', NOON, 'above', 'above'),
@@ -246,10 +258,19 @@ class Differences(unittest.TestCase):
                 for cell, words in zip(self.row(first).split(' | ')[1:], due):
                     self.assertTrue(cell.startswith('`%s`' % words), cell)
 
+    def test_open_ends_by_call(self):
+        trees = [case[1] for case in OPEN_BY_CALL]
+        for (first, _, *texts, one, other), *lines in zip(OPEN_BY_CALL, self.lower(trees), self.lower(trees, GEOPACKAGE)):
+            with self.subTest(first):
+                self.assertEqual(lines, texts)
+                self.assertEqual([[asked(words, STAY, kind) for words in texts] for kind in ('DATETIME', 'TEXT')], [[one, other]] * 2)
+                for cell, words, found in zip(self.row(first).split(' | ')[1:], texts, (one, other)):
+                    self.assertTrue(cell.startswith('`%s`: %d' % (words, found)), cell)
+
     @unittest.skipUnless(rust.program(), rust.MISSING)
-    def test_timestamps_of_the_rust(self):
-        told = rust.answers([(SETTINGS, case[1].encode()) for case in BY_CALL])
-        self.assertEqual(told, [('T', case[2]) for case in BY_CALL])
+    def test_timestamps_and_open_ends_of_the_rust(self):
+        told = rust.answers([(SETTINGS, case[1].encode()) for case in BY_CALL + OPEN_BY_CALL])
+        self.assertEqual(told, [('T', case[2]) for case in BY_CALL + OPEN_BY_CALL])
 
     def test_values_beside_timestamps(self):
         signs = {'Lt': 'below', 'Eq': 'equal', 'Gt': 'above'}

@@ -119,7 +119,7 @@ class Rows(unittest.TestCase):
     def test_table(self):
         done = run(json.dumps(op('=', {'property': 'fid'}, 1)), '--geopackage', self.path, '--table', 'stays')
         self.assertEqual(done.stdout.decode(), '''fid = 1
-writing geopackage: timestamps end in .000Z, as GeoPackage defines DATETIME (--writing rust leaves it out)
+writing geopackage: timestamps end in .000Z, as GeoPackage defines DATETIME, and an open end lies above every instant (--writing rust: neither)
 
 fid  label  tray    entry       exit        place              seen
 ---  -----  ------  ----------  ----------  -----------------  ------------------------
@@ -154,12 +154,29 @@ fid  label  tray    entry       exit        place              seen
             self.assertEqual([row[0] for row in self.package.select('stays', sql)], [row[0] for row in rows if right(instant(row))], sql)
             self.assertEqual(sum(checking.check(self.package, 'stays', sql).values()), 200)
 
-    def test_the_demo_names_the_row_that_is_wrong(self):
+    def test_stays_that_have_not_ended(self):
+        """By the second call they are found, those that began when Python's datetime says; by the first there is none, and a warning at each open end."""
+        instant = lambda text: datetime.datetime.strptime(text, '%Y-%m-%dT%H:%M:%S.%fZ')
+        first, last = datetime.datetime(2026, 3, 9, 22), datetime.datetime(2026, 3, 16, 22)
+        rows = self.package.select('stays', 'exit IS NULL AND seen IS NOT NULL').fetchall()
+        right = [row[0] for row in rows if first < instant(row[6]) <= last]
+        self.assertTrue(0 < len(right) < len(rows))
+        path = os.path.join(proved.ROOT, 'filters', 'not_ended.json')
+        for words, count, warnings in (([], len(right), 0), (['--writing', 'geopackage'], len(right), 0), (['--writing', 'rust'], 0, 2)):
+            done = run(path, '-g', self.path, *words)
+            self.assertEqual(done.stdout.decode().splitlines()[-1], '%d of 200 rows' % count)
+            self.assertEqual(done.stderr.decode().count('the open end is written as the text -2021-01-01'), warnings, done.stderr)
+        with open(path, encoding='utf-8') as f:
+            sql = sql_of(json.load(f), writing.GEOPACKAGE)
+        self.assertEqual([row[0] for row in self.package.select('stays', sql)], right)
+
+    def test_the_demo_says_what_the_first_call_does_wrong(self):
         done = subprocess.run([os.path.join(proved.ROOT, 'demo')], capture_output=True, text=True)
         self.assertEqual((done.returncode, done.stderr), (0, ''))
         self.assertIn("\n   Row 173 is wrong: it was seen at 2026-03-16T14:00:00.000Z, which is 14:00 and not after it. As a text that lies above "
                       "'2026-03-16T14:00:00', which it begins with.\n", done.stdout)
-        self.assertIn('\nDone: 1200 answers of the proved reader held against SQLite, all the same.\n', done.stdout)
+        self.assertIn("\n   None is found: there the open end is '-2021-01-01', which lies below every instant", done.stdout)
+        self.assertIn('\nDone: 1600 answers of the proved reader held against SQLite, all the same.\n', done.stdout)
 
     def test_rows_that_are_not_shown_are_counted(self):
         lines = run('true', '--geopackage', self.path, '--rows', '3').stdout.decode().splitlines()

@@ -82,7 +82,7 @@ class Maker:
             lambda: op('s_' + self.r.choice('intersects equals touches within overlaps'.split()), self.space(), self.space()),
             lambda: op('t_' + self.r.choice('after before disjoint equals intersects'.split()), self.time(below), self.time(below)),
             lambda: op('t_' + self.r.choice('during meets startedBy'.split()), *[
-                self.time(below) if self.faulty() else {'interval': [self.name(), self.day()]} for _ in range(2)]),
+                self.time(below) if self.faulty() else {'interval': [self.name(), self.r.choice((self.day(), '..'))]} for _ in range(2)]),
             lambda: op('a_contains', [self.scalar(below), self.time(below) if self.faulty() else 1], self.name()),
             lambda: self.function(below)))()
 
@@ -93,7 +93,7 @@ class Random(unittest.TestCase):
         proved.build(['lower', 'read'])
 
     def trees(self):
-        for seed in range(3000):
+        for seed in range(3600):
             maker = Maker(seed, (10 ** 9, 8, 30)[seed % 3])
             data = json.dumps(maker.condition(seed % 12))
             yield data, Encoder(7, 4326, ['f']).filter(read_filter(data.encode()))

@@ -1,5 +1,6 @@
 """Random filters about time, texts and numbers on random rows: where SQLite picks other rows than CQL2 does, evaluated here without any text, there is a
-warning; and most filters have none."""
+warning; and most filters have none. In GeoPackage's writing open ends are right, so that they have none there."""
+import collections
 import itertools
 import json
 import random
@@ -14,9 +15,10 @@ from .columns import Column, NoTable, form
 from .geopackage import collation, without_accents
 from .reading import read_filter
 from .test_texts import SETTINGS, op, tree_of
-from .writing import ARGUMENTS, GEOPACKAGE
+from .writing import ARGUMENTS, GEOPACKAGE, RUST
 
 DAYS = ['2024-01-0%d' % k for k in range(1, 6)]
+NOONS = [day + 'T12:00:00Z' for day in DAYS]
 BELOW, ABOVE = '', '~'    # open ends, as texts that sort before and after all instants
 RELATIONS = {'t_' + name[1].lower() + name[2:]: formula for name, formula in FORMULAS.items()}
 INSTANTS = ('t_after', 't_before', 't_disjoint', 't_equals', 't_intersects')
@@ -26,18 +28,22 @@ COMPARED = {'=': lambda x, y: x == y, '<>': lambda x, y: x != y, '<': lambda x, 
 
 class Maker:
     """Filters over the dates a <= b and c <= d, the texts s and t, and the whole numbers m and n."""
+    kind, declared, written, held = 'date', 'DATE', DAYS, DAYS    # of an instant: how it is written and declared, and those of filters and of rows
 
     def __init__(self, seed):
         self.r = random.Random(seed)
 
+    def instant(self):
+        return {self.kind: self.r.choice(self.written)}
+
     def interval(self):
-        first, last = sorted(self.r.sample(DAYS, 2))
+        first, last = sorted(self.r.sample(self.written, 2))
         return {'interval': self.r.choice(([{'property': 'a'}, {'property': 'b'}], [{'property': 'c'}, {'property': 'd'}], [first, last], ['..', first],
-                                           [first, '..'], ['..', {'property': 'b'}], [{'property': 'c'}, '..']))}
+                                           [first, '..'], ['..', {'property': 'b'}], [{'property': 'c'}, '..'], ['..', '..']))}
 
     def time(self):
         name = self.r.choice(sorted(RELATIONS))
-        sides = [{'date': self.r.choice(DAYS)} if self.r.random() < .3 else {'property': self.r.choice('abcd')} for _ in range(2)]
+        sides = [self.instant() if self.r.random() < .3 else {'property': self.r.choice('abcd')} for _ in range(2)]
         return op(name, *[x if name in INSTANTS and self.r.random() < .4 else self.interval() for x in sides])
 
     def character(self):
@@ -65,29 +71,40 @@ class Maker:
             return op(name, *[self.condition(depth - 1) for _ in range(1 if name == 'not' else 2)])
         return self.r.choice((self.time, self.time, self.text, lambda: op(self.r.choice(sorted(COMPARED)), self.number(2), self.number(1)),
                               lambda: op('isNull', {'property': self.r.choice('abst')}),
-                              lambda: op('isNull', self.time()) if self.r.random() < .3 else op('<', {'property': 'a'}, {'date': self.r.choice(DAYS)})))()
+                              lambda: op('isNull', self.time()) if self.r.random() < .3 else op('<', {'property': 'a'}, self.instant())))()
 
     def row(self):
-        (a, b), (c, d) = (sorted(self.r.choice(DAYS) for _ in range(2)) for _ in range(2))
+        (a, b), (c, d) = (sorted(self.r.choice(self.held) for _ in range(2)) for _ in range(2))
         row = {'a': a, 'b': b, 'c': c, 'd': d, 's': self.r.choice(('x', 'X', 'xy', 'é', 'e', "x'", "'")), 't': self.r.choice(('x', 'X', 'é', 'É', "''", 'E')), 'm': self.r.randrange(-3, 9),
                'n': self.r.randrange(1, 5)}
         return {name: None if self.r.random() < .15 else value for name, value in row.items()}
 
 
+class StampMaker(Maker):
+    """The same over instants as a GeoPackage's DATETIME columns hold them."""
+    kind, declared, written, held = 'timestamp', 'DATETIME', NOONS, [noon[:-1] + after for noon in NOONS for after in ('.000Z', '.000Z', '.001Z')]
+
+
+def stored(x):
+    """A written instant as a column would hold it: a timestamp with its milliseconds."""
+    return x[:-1] + '.000Z' if x.endswith('Z') else x
+
+
 def ends(value, row):
     """The two ends of a time operand, None for NULL."""
     if 'interval' not in value:
-        x = row[value['property']] if 'property' in value else value['date']
-        return [x, x]
-    return [row[x['property']] if isinstance(x, dict) else ((BELOW, ABOVE)[k] if x == '..' else x) for k, x in enumerate(value['interval'])]
+        return [scalar(value, row)] * 2
+    return [row[x['property']] if isinstance(x, dict) else ((BELOW, ABOVE)[k] if x == '..' else stored(x)) for k, x in enumerate(value['interval'])]
 
 
 def scalar(value, row):
     """A text or a number; None for NULL."""
     if not isinstance(value, dict):
         return value
-    if 'property' in value or 'date' in value:
-        return row[value['property']] if 'property' in value else value['date']
+    if 'property' in value:
+        return row[value['property']]
+    if 'op' not in value:
+        return stored(value.get('date') or value['timestamp'])
     args = [scalar(x, row) for x in value['args']]
     if None in args:
         return None
@@ -134,10 +151,25 @@ def truth(value, row):
 
 def by_time(data, value):
     """The answer by instants of time: texts of one width, which sort as time does."""
-    found = [[timed(y, value) for y in x['interval']] if 'interval' in x else [timed(x, value)] * 2 for x in data['args']]
+    end = lambda k, x: (BELOW, ABOVE)[k] if x == '..' else timed(x, value)
+    found = [[end(k, y) for k, y in enumerate(x['interval'])] if 'interval' in x else [timed(x, value)] * 2 for x in data['args']]
     if data['op'] in COMPARED:
         return COMPARED[data['op']](found[0][0], found[1][0])
     return RELATIONS[data['op']](*found[0], *found[1])
+
+
+def ends_open(data):
+    return ', ".."]' in json.dumps(data)
+
+
+class Log(NoTable):
+    """The table of the makers' rows, in which the columns a to d hold instants as a GeoPackage stores them."""
+
+    def column(self, name):
+        return Column('DATETIME' if name in 'abcd' else 'TEXT' if name in 'st' else 'INTEGER')
+
+    def forms(self, name):
+        return {form(StampMaker.held[0]): StampMaker.held[0]} if name in 'abcd' else {}
 
 
 class Typed(NoTable):
@@ -163,15 +195,16 @@ def timed(x, value):
 
 class Silence(unittest.TestCase):
     def test_columns_of_dates_and_times(self):
-        """Every operator between a column and written instants around its values, in both orders and writings: another answer than by time has a warning,
-        and of timestamps there is none where the column holds them as they are written."""
+        """Every operator between a column and written instants around its values, or open ends, in both orders and writings: another answer than by time
+        has a warning, and of timestamps there is none where the column holds them as they are written; nor of open ends in GeoPackage's writing."""
         literals = [{'date': '2024-01-02'}, {'timestamp': '2024-01-02T00:00:00Z'}, {'timestamp': '2024-01-02T12:00:00Z'}]
         intervals = [{'interval': ['2024-01-02', '2024-01-03']}, {'interval': ['2024-01-02T00:00:00Z', '2024-01-02T12:00:00Z']},
-                     {'interval': ['2024-01-02', '2024-01-02T12:00:00Z']}]
-        column, both = {'property': 'a'}, {'interval': [{'property': 'a'}, {'property': 'a'}]}
+                     {'interval': ['2024-01-02', '2024-01-02T12:00:00Z']}, {'interval': ['2024-01-02T12:00:00Z', '..']},
+                     {'interval': ['2024-01-02', '..']}, {'interval': ['..', '2024-01-02T00:00:00Z']}, {'interval': ['..', '..']}]
+        column, both, since = {'property': 'a'}, {'interval': [{'property': 'a'}, {'property': 'a'}]}, {'interval': [{'property': 'a'}, '..']}
         filters = [op(name, *pair) for name in COMPARED for x in literals for pair in ((column, x), (x, column))]
         filters += [op(name, *pair) for name in INSTANTS for x in literals + intervals for pair in ((column, x), (x, column))]
-        filters += [op(name, *pair) for name in RELATIONS for x in intervals for pair in ((both, x), (x, both))]
+        filters += [op(name, *pair) for name in RELATIONS for x in intervals for y in (both, since) for pair in ((y, x), (x, y))]
         stored = ['2024-01-%sZ' % x for x in ('01T23:59:59.999', '02T00:00:00.000', '02T00:00:00.500', '02T12:00:00.000', '02T12:00:00.001')]
         seconds = ['2024-01-01T23:59:59', '2024-01-02T00:00:00', '2024-01-02T12:00:00', '2024-01-02T12:00:01']
         holding = [('DATE', ['2024-01-01', '2024-01-02', '2024-01-03']), ('DATETIME', stored), ('TEXT', stored), ('DATETIME', seconds), ('TEXT', seconds)]
@@ -183,7 +216,7 @@ class Silence(unittest.TestCase):
                 warned = bool(differences.find(read_filter(json.dumps(data).encode()), Typed(declared, values[0], writing)))
                 self.assertTrue(same or warned, (declared, text))
                 as_written = values is (stored if writing == GEOPACKAGE else seconds) and not re.search(r"'[0-9-]{10}'", text)
-                self.assertFalse(warned and as_written, (declared, text))
+                self.assertFalse(warned and as_written and (writing == GEOPACKAGE or not ends_open(data)), (declared, text))
                 tally[warned] += 1
             self.assertTrue(min(tally.values()) > 30, tally)
 
@@ -218,30 +251,40 @@ class Silence(unittest.TestCase):
             data = op('not', op(name, {'property': 'a'}, {'property': 'b'}, {'date': DAYS[0]}))
             self.assertEqual(differences.find(data, NoTable(4326)), [])
 
-    def picks(self, texts, rows):
+    def picks(self, texts, rows, declared):
         connection = sqlite3.connect(':memory:')
         for name, key in zip(SETTINGS[1:], (str.lower, without_accents, lambda x: without_accents(x.lower()))):
             connection.create_collation(name, collation(key))
-        connection.execute('CREATE TABLE x (a DATE, b DATE, c DATE, d DATE, s TEXT, t TEXT, m INTEGER, n INTEGER)')
+        connection.execute('CREATE TABLE x (%s, s TEXT, t TEXT, m INTEGER, n INTEGER)' % ', '.join('%s %s' % (name, declared) for name in 'abcd'))
         connection.executemany('INSERT INTO x VALUES (?, ?, ?, ?, ?, ?, ?, ?)', [list(row.values()) for row in rows])
         return [[row[0] - 1 for row in connection.execute('SELECT rowid FROM x WHERE ' + text)] for text in texts]
 
-    def test_no_difference_without_a_warning(self):
-        makers = [Maker(seed) for seed in range(4000)]
+    def tally(self, makers, table):
+        """How many filters have no warning, and of how many SQLite picks other rows than CQL2: by whether they have an open end. A filter that is both is
+        an error."""
         filters = [maker.condition(maker.r.randrange(4)) for maker in makers]
         rows = [makers[0].row() for _ in range(60)]
-        texts = proved.run('lower', [(records.settings(*SETTINGS), tree_of(data).encode()) for data in filters])
-        silent = parted = 0
-        for data, picked in zip(filters, self.picks(texts, rows)):
-            warned = differences.find(read_filter(json.dumps(data).encode()), NoTable(4326))
+        cases = [(records.settings(*SETTINGS), tree_of(data).encode()) for data in filters]
+        silent, parted = collections.Counter(), collections.Counter()
+        for data, picked in zip(filters, self.picks(proved.run('lower', cases, ARGUMENTS[table.writing]), rows, makers[0].declared)):
             right = [k for k, row in enumerate(rows) if truth(data, row)]
+            warned = differences.find(read_filter(json.dumps(data).encode()), table)
             if picked != right:
                 first = next(k for k in range(len(rows)) if (k in picked) != (k in right))
-                self.assertTrue(warned, '%s picks or leaves out %s' % (json.dumps(data), rows[first]))
-            silent += not warned
-            parted += picked != right
-        self.assertGreater(silent, 1000)
-        self.assertGreater(parted, 300)
+                self.assertTrue(warned, '%s: %s picks or leaves out %s' % (table.writing, json.dumps(data), rows[first]))
+            silent[ends_open(data)] += not warned
+            parted[ends_open(data)] += picked != right
+        return silent, parted
+
+    def test_no_difference_without_a_warning(self):
+        """Filters about dates in both writings, and about timestamps in that of the columns. Without open ends the two writings of dates are the same."""
+        rust, geopackage = (self.tally([Maker(seed) for seed in range(4000)], NoTable(4326, writing)) for writing in (RUST, GEOPACKAGE))
+        stamped = self.tally([StampMaker(seed) for seed in range(4000)], Log(4326, GEOPACKAGE))
+        for silent, parted in (rust, geopackage, stamped):
+            self.assertTrue(silent[False] > 1000 and parted[False] > 100, (silent, parted))
+        self.assertEqual([counts[False] for counts in rust], [counts[False] for counts in geopackage])
+        for silent, parted in (geopackage, stamped):
+            self.assertTrue(silent[True] > 500 and parted[True] < rust[1][True] // 2, (silent, parted, rust))
 
 
 if __name__ == '__main__':

@@ -109,6 +109,18 @@ TEXTS = [    # a filter, and its text written by hand from src/ds/gpkg.rs
     (True, 'TRUE'), (False, 'FALSE'), (None, 'NULL'), (A, 'a'),
 ]
 
+OPEN_ENDS = [    # each ^ is an interval's open end
+    (op('t_intersects', A, interval(DAY, '..')), "NOT((a < '2024-02-29') OR (a > ^))"),
+    (op('t_intersects', interval(A, '..'), interval(LATER, '..')), "NOT((^ < '2024-03-01T23:59:58') OR (a > ^))"),
+    (op('t_after', LATER, interval(A, '..')), '"a" IS NOT NULL AND (\'2024-03-01T23:59:58\' > ^)'),
+    (op('t_before', interval(A, '..'), B), '"a" IS NOT NULL AND (^ < b)'),
+    (op('t_equals', interval(A, '..'), interval(B, '..')), '(a = b) AND (^ = ^)'),
+    (op('t_equals', A, interval('..', '..')), "(a = '-2021-01-01') AND (a = ^)"),
+    (op('t_during', interval('..', A), interval(B, '..')), "('-2021-01-01' > b) AND (a < ^)"),
+    (op('t_meets', interval(A, '..'), interval('..', B)), '"a" IS NOT NULL AND "b" NOT NULL AND (^ = \'-2021-01-01\')'),
+    (op('t_after', A, interval(B, op('f', '..'))), '"b" IS NOT NULL AND (a > f(\'..\'))'), (op('=', A, '..'), "a = '..'"),
+    (op('f', op('t_after', A, interval(B, '..')), '..', ['..']), 'f("b" IS NOT NULL AND (a > ^), \'..\', (\'..\'))')]
+
 NUMBERS = [('0', '0'), ('-0', '0'), ('-0.0', '0'), ('1.50', '1.5'), ('1e3', '1000'), ('1.5E-3', '0.0015'), ('-12.25e1', '-122.5'), ('1E+2', '100'),
            ('999999999999999', '999999999999999'), ('-999999999999999', '-999999999999999'), ('0.000000001', '0.000000001'), ('0e99999999999', '0'),
            ('100000000000000e-9', '100000'), ('0.1000000000000000000000', '0.1')]
@@ -190,6 +202,14 @@ class Texts(unittest.TestCase):
                 longer += due != text
         self.assertGreater(longer, 5)
 
+    def test_open_ends(self):
+        for data, form in OPEN_ENDS:
+            tree = checker.tree_of(tree_of(data).encode())
+            for writing, due in ((RUST, form.replace('^', "'-2021-01-01'")), (GEOPACKAGE, with_milliseconds(form).replace('^', "'A'"))):
+                with self.subTest((data, writing)):
+                    self.assertEqual(sql_of(data, writing), due)
+                    self.assertEqual(model.text(SETTINGS, tree, writing), due)
+
     def test_texts_that_look_like_timestamps(self):
         for text in ('2024-01-01T00:00:00', '2024-01-01T00:00:00Z', '2024-01-01T00:00:00.000Z'):
             for writing in (RUST, GEOPACKAGE):
@@ -217,7 +237,7 @@ class Texts(unittest.TestCase):
 
     @unittest.skipUnless(rust.program(), rust.MISSING)
     def test_texts_of_the_rust(self):
-        cases = list(self.cases())
+        cases = [*self.cases(), *((data, form.replace('^', "'-2021-01-01'")) for data, form in OPEN_ENDS)]
         told = rust.answers([(records.settings(*SETTINGS), tree_of(data).encode()) for data, _ in cases])
         for (data, text), answer in zip(cases, told):
             with self.subTest(data):

@@ -1,5 +1,5 @@
 """Tests of the warnings: each of the table is given at its place, stands in docs/DIFFERENCES.md, and is run: SQLite picks other rows than CQL2 does, or
-cannot run the text; the way out has no warning and picks the right rows. Filters that are fine have none."""
+cannot run the text; the way out has no warning and picks the right rows. Filters that are fine have none, nor has an open end in GeoPackage's writing."""
 import itertools
 import json
 import os
@@ -48,11 +48,6 @@ def there(*columns):
 # entry of DIFFERENCES; filter; its places; columns a, b, c as declared; rows; the rows by CQL2 (numbered from 1); the rows by SQLite, or its error;
 # a way out that picks the rows by CQL2, or a filter with the rows that it picks
 CASES = [
-    ('an open end, `..`', op('t_intersects', A, interval('2026-03-20', '..')), ['$.args[1].interval[1]'], [TEXT],
-     [['2026-03-19'], ['2026-03-20'], ['2026-03-21']], [2, 3], [], op('t_intersects', A, interval('2026-03-20', '9999-12-31'))),
-    ('an open end, `..`', op('t_before', interval(A, '..'), DAY), ['$.args[0].interval[1]'], [TEXT], [['2024-01-01']], [], [1],
-     op('t_before', interval(A, '9999-12-31'), DAY)),
-    ('an open end, `..`', op('t_meets', interval(A, '..'), interval('..', DAY)), ['$.args[0].interval[1]'], [TEXT], [['2024-01-01']], [], [1], None),
     ('NOT TAfter(a, [b, c]), b NULL', op('not', op('t_after', A, interval(B, C))), ['$.args[0]'], [TEXT] * 3,
      [['2', None, '1'], ['1', '2', '3'], ['4', '2', '3']], [2], [1, 2], op('and', *there(B), op('not', op('t_after', A, interval(B, C))))),
     ('NOT TAfter(a, [b, c]), b NULL', op('not', op('t_intersects', A, interval(B, C))), ['$.args[0]'], [TEXT] * 3,
@@ -106,6 +101,30 @@ CASES = [
     ('AEquals(a, [1, 2])', op('a_equals', A, [1, 2]), ['$'], [TEXT], [['x']], None, 'row value misused', None),
     ('AEquals(a, [1, 2])', op('a_equals', [], []), ['$'], [TEXT], [['x']], None, 'near ")": syntax error', None),
     ('IN(a, [b, 2]) (sheet F)', op('in', A, [B, 2]), ['$.args[1][0]'], [INTEGER] * 2, [[1, 1]], [1], 'row value misused', op('or', op('=', A, B), op('=', A, 2))),
+]
+
+# Open ends, as above but for the entry: the rows by SQLite, and the way out, are those of the Rust's writing; in GeoPackage's the rows are CQL2's.
+OPEN_END = 'an open end, `..`'
+OPEN_ENDS = [
+    (op('t_intersects', A, interval('2026-03-20', '..')), ['$.args[1].interval[1]'], [TEXT], [['2026-03-19'], ['2026-03-20'], ['2026-03-21']], [2, 3], [],
+     op('t_intersects', A, interval('2026-03-20', '9999-12-31'))),
+    (op('t_before', interval(A, '..'), DAY), ['$.args[0].interval[1]'], [TEXT], [['2024-01-01']], [], [1], op('t_before', interval(A, '9999-12-31'), DAY)),
+    (op('t_meets', interval(A, '..'), interval('..', DAY)), ['$.args[0].interval[1]'], [TEXT], [['2024-01-01']], [], [1], None),
+    (op('t_metBy', interval('..', DAY), interval(A, '..')), ['$.args[1].interval[1]'], [DATE], [['2024-01-01']], [], [1], None),
+    (op('t_after', A, interval(B, '..')), ['$.args[1].interval[1]'], [DATE] * 2, [['2026-03-20', '2026-03-19']], [], [1],
+     op('t_after', A, interval(B, '9999-12-31'))),
+    (op('t_disjoint', A, interval('..', '..')), ['$.args[1].interval[1]'], [DATE], [['2026-03-20']], [], [1],
+     op('t_disjoint', A, interval('..', '9999-12-31'))),
+    (op('t_during', interval(A, B), interval('2026-03-01', '..')), ['$.args[1].interval[1]'], [DATE] * 2,
+     [['2026-03-02', '2026-03-03'], ['2026-03-01'] * 2], [1], [], op('t_during', interval(A, B), interval('2026-03-01', '9999-12-31'))),
+    (op('t_contains', interval(A, '..'), interval(B, C)), ['$.args[0].interval[1]'], [DATE] * 3, [['2026-03-01', '2026-03-02', '2026-03-03']], [1], [],
+     op('t_contains', interval(A, '9999-12-31'), interval(B, C))),
+    (op('t_starts', interval(A, B), interval(C, '..')), ['$.args[1].interval[1]'], [DATE] * 3, [['2026-03-01', '2026-03-02', '2026-03-01']], [1], [],
+     op('t_starts', interval(A, B), interval(C, '9999-12-31'))),
+    (op('t_overlaps', interval(A, B), interval(C, '..')), ['$.args[1].interval[1]'], [DATE] * 3, [['2026-03-01', '2026-03-03', '2026-03-02']], [1], [],
+     op('t_overlaps', interval(A, B), interval(C, '9999-12-31'))),
+    (op('t_intersects', interval(A, '..'), interval(B, '..')), ['$.args[0].interval[1]', '$.args[1].interval[1]'], ['DATETIME'] * 2, [[LONG, LONG]],
+     [1], [], None),
 ]
 
 # Columns a that hold noon in one form or several, as declared and with their values: by each writing how a value lies to its own instant as written,
@@ -195,9 +214,9 @@ class Warnings(unittest.TestCase):
         finally:
             package.connection.close()
 
-    def check(self, entry, data, places, kinds, rows, right, found, instead):
+    def check(self, entry, data, places, kinds, rows, right, found, instead, *writing):
         cannot = isinstance(found, str)
-        words = ['-g', self.package(kinds, rows)] if kinds else []
+        words = ['-g', self.package(kinds, rows), *writing] if kinds else []
         text, lines = self.told(data, *words, status=2 if cannot else 0)
         if cannot:
             self.assertTrue(lines[-1].startswith('filter: %s: SQLite cannot run this text: %s; ' % (places[0], found)), lines)
@@ -219,6 +238,30 @@ class Warnings(unittest.TestCase):
         for case in CASES:
             with self.subTest(case[1]):
                 self.check(*case)
+
+    def test_open_ends(self):
+        """In the Rust's writing a warning, and other rows than CQL2's; in GeoPackage's neither."""
+        for data, places, kinds, rows, right, found, instead in OPEN_ENDS:
+            with self.subTest(data):
+                self.check(OPEN_END, data, places, kinds, rows, right, found, instead, '--writing', 'rust')
+                path = self.package(kinds, rows)
+                for words in ((), ('--writing', 'geopackage')):
+                    text, lines = self.told(data, '--strict', '-g', path, *words)
+                    self.assertEqual((lines, self.picked(path, text)), ([], right))
+                self.assertEqual(self.told(data, '--strict', '--writing', 'geopackage')[1], [])
+
+    def test_words_about_open_ends(self):
+        """The other writing is named where it helps: not where timestamps are written beside a column that holds them as the Rust's text has them."""
+        other, last = 'take --writing geopackage, by which it lies above every instant', 'write a last instant in its place, as 9999-12-31'
+        dated, timed = (op('t_intersects', A, interval(start, '..')) for start in ('2026-03-01', '2026-03-01T12:00:00Z'))
+        beside = op('and', dated, op('t_before', B, NOON))
+        for data, kinds, rows, helps in ((dated, None, None, True), (timed, None, None, True), (dated, [TEXT], [[SHORT]], True),
+                                         (timed, [TEXT], [[SHORT]], False), (timed, [TEXT], [[LONG]], True), (timed, ['DATETIME'], [], True),
+                                         (dated, [DATE], [], True), (beside, [DATE, TEXT], [['2026-03-01', SHORT]], False),
+                                         (beside, [DATE, TEXT], [['2026-03-01', LONG]], True)):
+            words = ('-g', self.package(kinds, rows), '--writing', 'rust') if kinds else ()
+            [line] = [line for line in self.told(data, *words)[1] if 'the open end is written' in line]
+            self.assertEqual((other in line, last in line), (helps, True), line)
 
     def test_both_writings(self):
         """A timestamp beside instants of each form: where SQLite's rows are not those of time there is a warning, and it has the right words."""
@@ -309,7 +352,7 @@ class Warnings(unittest.TestCase):
             document = f.read()
         for one in differences.TABLE:
             self.assertIn('\n| %s |' % one.entry, document)
-        run_here = {case[0] for case in CASES} | {case[0] for case in SPATIAL} | {'SWithin, SOverlaps, STouches of a column', UTF_16}
+        run_here = {case[0] for case in CASES} | {case[0] for case in SPATIAL} | {'SWithin, SOverlaps, STouches of a column', UTF_16, OPEN_END}
         self.assertEqual({one.entry for one in differences.TABLE} - run_here, set())
 
     def test_a_text_that_is_too_deep_for_sqlite(self):

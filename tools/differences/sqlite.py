@@ -3,8 +3,8 @@
 
 usage: python3 tools/differences/sqlite.py
 
-Exits with 1 if an answer is not the one that stands beside the text here, or reading has another truth of one about instants, if fewer than 144 texts
-were run, if other numbers of keywords are read bare, or if SQLite counts another day of the years 1 to 9999 wrong."""
+Exits with 1 if an answer is not the one that stands beside the text here, or reading has another truth of one about instants or open ends, if fewer than
+172 texts were run, if other numbers of keywords are read bare, or if SQLite counts another day of the years 1 to 9999 wrong."""
 import collections
 import datetime
 import itertools
@@ -19,7 +19,7 @@ from model.lowering import GEOPACKAGE, RUST, text as text_of
 from model.names import KEYWORDS
 from model.records import SHEET_SETTINGS, row as row_of
 
-TEXTS = 144
+TEXTS = 172
 ANDS_TAKEN = 28
 BARE = {'syntax error': 59, 1: 84, 0: 3, None: 1}    # of SQLite's 147 keywords
 CLOCK = ['CURRENT_DATE', 'CURRENT_TIME', 'CURRENT_TIMESTAMP']
@@ -98,6 +98,8 @@ CASES = [    # a text, a row, the declared type of its columns, and SQLite's ans
     ("typeof(a)", {"a": "2024-02-29"}, "DATETIME", 'text'),
     ("typeof(a)", {"a": "2024"}, "DATETIME", 'integer'),
     ("a < '0001-01-01T00:00:00.000Z'", {"a": "2024"}, "DATETIME", 1),
+    ("a > 'A'", {"a": "Monday"}, "TEXT", 1),
+    ("a > 'A'", {"a": "9999-12-31T23:59:59.999Z"}, "DATETIME", 0),
 ]
 NOON, MIDNIGHT, DAY = ('timestamp', 2024, 2, 29, 12, 0, 0), ('timestamp', 2024, 2, 29, 0, 0, 0), ('date', 2024, 2, 29)
 INSTANTS = [    # a value, a written instant, and by each writing how the value lies to it: -1 below, 0 equal, 1 above
@@ -106,6 +108,15 @@ INSTANTS = [    # a value, a written instant, and by each writing how the value 
     ('2024-02-29T12:00:00Z', NOON, 1, 1), ('2024-02-29T12:00:00.000000Z', NOON, 1, -1), ('2024-02-29 12:00:00', NOON, -1, -1),
     ('2024-02-29 23:59:59', NOON, -1, -1), ('2024-02-29', MIDNIGHT, -1, -1), ('2024-02-29T00:00:00.000Z', MIDNIGHT, 1, 0),
     ('2024-02-29T00:00:00', DAY, 1, 1), ('2024-02-29T00:00:00.000Z', DAY, 1, 1), ('2024-02-29', DAY, 0, 0)]
+A, B, OPEN = ('id', 'a'), ('id', 'b'), ('unbounded',)
+SINCE_A, UNTIL_B, ALWAYS = (('interval', *ends) for ends in ((A, OPEN), (OPEN, B), (OPEN, OPEN)))
+OPEN_ENDS = [    # a filter, and its truth by each writing on STAY
+    (('dyadic', 'TIntersects', SINCE_A, B), 0, 1), (('dyadic', 'TDisjoint', SINCE_A, B), 1, 0), (('dyadic', 'TAfter', B, SINCE_A), 1, 0),
+    (('dyadic', 'TBefore', SINCE_A, B), 1, 0), (('dyadic', 'TMeets', SINCE_A, UNTIL_B), 1, 0), (('dyadic', 'TFinishes', SINCE_A, ALWAYS), 1, 1),
+    (('dyadic', 'TContains', SINCE_A, ('interval', B, B)), 0, 1), (('dyadic', 'TEquals', SINCE_A, SINCE_A), 1, 1), (('dyadic', 'TAfter', A, ALWAYS), 1, 0),
+    (('dyadic', 'TBefore', A, ALWAYS), 0, 0), (('dyadic', 'TAfter', A, OPEN), 1, 1), (('dyadic', 'TEquals', OPEN, OPEN), 1, 1),
+    (('dyadic', 'TEquals', OPEN, ALWAYS), 1, 0)]
+STAY = {'a': '2024-02-29T12:00:00.000Z', 'b': '2024-02-29T12:30:45.500Z'}
 
 
 def ands_over_disjoint(count):
@@ -117,19 +128,25 @@ def ands_over_disjoint(count):
     return text_of(SHEET_SETTINGS, tree)
 
 
+def by_both():
+    """Filters with a row, and their truths by each writing: comparisons of instants, and filters with open ends."""
+    for (value, tree, *lies), (k, operator) in itertools.product(INSTANTS, enumerate(('Lt', 'Eq', 'Gt'), -1)):
+        yield ('dyadic', operator, A, tree), {'a': value}, [due == k for due in lies]
+    yield from ((tree, STAY, list(map(bool, truths))) for tree, *truths in OPEN_ENDS)
+
+
 def instants():
-    """Each value against each writing's text on a DATETIME and a TEXT column, and by the model's reading: how many texts were run, how many differ."""
+    """Each row against each writing's text on DATETIME and TEXT columns, and by the model's reading: how many texts were run, how many differ."""
     run = differ = 0
-    for (value, tree, *lies), operator in itertools.product(INSTANTS, ('Lt', 'Eq', 'Gt')):
-        for writing, due in zip((RUST, GEOPACKAGE), lies):
-            text = text_of(SHEET_SETTINGS, ('dyadic', operator, ('id', 'a'), tree), writing)
-            right = due == ('Lt', 'Eq', 'Gt').index(operator) - 1
-            said = [bool(ask(text, {'a': value}, kind)) for kind in ('DATETIME', 'TEXT')]
-            said.append(calls.read(text.encode(), row_of([(b'a', value.encode())])) == 'true')
+    for tree, row, truths in by_both():
+        for writing, right in zip((RUST, GEOPACKAGE), truths):
+            text = text_of(SHEET_SETTINGS, tree, writing)
+            said = [bool(ask(text, row, kind)) for kind in ('DATETIME', 'TEXT')]
+            said.append(calls.read(text.encode(), row_of([(name.encode(), value.encode()) for name, value in row.items()])) == 'true')
             run, differ = run + 1, differ + (said != [right] * 3)
             if said != [right] * 3:
-                print('differs: %s of %s: %s, and not %s' % (text, value, said, right))
-    print('instants: %d texts on DATETIME and TEXT columns, %d differ' % (run, differ))
+                print('differs: %s of %s: %s, and not %s' % (text, row, said, right))
+    print('instants and open ends: %d texts on DATETIME and TEXT columns, %d differ' % (run, differ))
     return run, differ
 
 

@@ -1,4 +1,4 @@
-"""The calls as a caller hears them (document 01, "What a caller hears"; document 02, slip 4, for the second that writes): a text, a truth, or the
+"""The calls as a caller hears them (document 01, "What a caller hears"; document 02, slips 4 and 5, for the second that writes): a text, a truth, or the
 number of the first refusal in its order."""
 from . import checker, lowering, reader
 from .limits import PLANNER, ROW, SQL
@@ -48,7 +48,7 @@ def to_sql(settings, tree, room, writing=RUST):
 
 
 def to_geopackage_sql(settings, tree, room):
-    """The same of the second call, which writes timestamps as a GeoPackage stores them."""
+    """The same of the second call, which writes timestamps as a GeoPackage stores them, and an Interval's open end above every instant."""
     return to_sql(settings, tree, room, GEOPACKAGE)
 
 

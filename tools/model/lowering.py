@@ -1,5 +1,6 @@
 """The SQL text of an accepted tree: `to_sql_impl`, the fifteen `t_…_sql`, `reduce_precision` and `qstr_to_sql` of src/ds/gpkg.rs as document 01
-has them ("Atoms and the four ends", "The lowering"); one lowering for both writings of a timestamp (document 02, slip 4)."""
+has them ("Atoms and the four ends", "The lowering"); one lowering for both writings, of a timestamp and of an Interval's open end (document 02, slips
+4 and 5)."""
 import sys
 
 from . import operators
@@ -10,7 +11,8 @@ from .strings import quoted
 RUST, GEOPACKAGE = 'rust', 'geopackage'    # the writings: the Rust's text; timestamps as a GeoPackage stores them
 AFTER_SECONDS = {RUST: '', GEOPACKAGE: '.000Z'}
 LITERALS = 'bool', 'num', 'str', 'date', 'timestamp', 'spatial'
-OPEN_END = quoted('-2021-01-01')
+OPEN_START = quoted('-2021-01-01')    # and `..` in any other place, but as the second end of an Interval
+OPEN_END = {RUST: OPEN_START, GEOPACKAGE: quoted('A')}    # `..` as that end
 COMPARED = {    # of two intervals: the ends' comparisons, all of which hold
     'TContains': ((0, '<', 2), (1, '>', 3)), 'TDuring': ((0, '>', 2), (1, '<', 3)),
     'TFinishedBy': ((0, '<', 2), (1, '=', 3)), 'TFinishes': ((0, '>', 2), (1, '=', 3)),
@@ -48,7 +50,7 @@ class Writer:
         return 'NULL'
 
     def unbounded(self):
-        return OPEN_END
+        return OPEN_START
 
     def bool(self, value):
         return 'TRUE' if value else 'FALSE'
@@ -131,8 +133,8 @@ class Ends:
         self.last = 1 if self.spans[0] else 0, 3 if self.spans[1] else 2    # of each operand; its first is e0, e2
 
     def end(self, writer, slot, tree):
-        """How an end is written, by its slot."""
-        return writer.text(tree)
+        """How an end is written, by its slot: 1 and 3 are second ends, where an instant has Null."""
+        return OPEN_END[writer.writing] if tree == ('unbounded',) and slot in (1, 3) else writer.text(tree)
 
     def test(self, i, sign, j):
         return '%s %s %s' % (self.written[i], sign, self.written[j])

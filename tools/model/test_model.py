@@ -42,6 +42,28 @@ STAMPS = [    # timestamps in every place of a tree; each % is one as it is writ
     (('dyadic', 'TDuring', ('interval', ('function', 'f', [STAMP]), DAY), ('interval', NULL, STAMP)), "(f(%) > NULL) AND ('2024-01-01' < %)"),
     (DAY, "'2024-01-01'"), (OPEN, "'-2021-01-01'"), (X, "'x'"), (('spatial', 4326, 'POINT (1 2)'), "ST_GeomFromText('POINT (1 2)', 4326)"),
     *((('str', 0, text), strings.quoted(text)) for text in LIKE_STAMPS)]
+BELOW, ABOVE = "'-2021-01-01'", "'A'"
+SINCE_A, SINCE_B, UNTIL_A, UNTIL_B = ('interval', A, OPEN), ('interval', B, OPEN), ('interval', OPEN, A), ('interval', OPEN, B)
+ALWAYS = ('interval', OPEN, OPEN)
+ENDS = [    # `..` in every place of a tree; each ^ is one as the second end of an Interval, each _ any other
+    (('dyadic', 'TAfter', A, SINCE_B), '"b" IS NOT NULL AND (a > ^)'), (('dyadic', 'TBefore', SINCE_A, B), '"a" IS NOT NULL AND (^ < b)'),
+    (('dyadic', 'TBefore', A, SINCE_B), 'a < b'), (('dyadic', 'TAfter', SINCE_A, B), 'a > b'),
+    (('dyadic', 'TAfter', UNTIL_A, B), '"a" IS NOT NULL AND (_ > b)'),
+    (('dyadic', 'TDisjoint', SINCE_A, UNTIL_B), '("a" IS NOT NULL AND "b" NOT NULL AND (^ < _)) OR (a > b)'),
+    (('dyadic', 'TIntersects', A, SINCE_B), 'NOT((a < b) OR (a > ^))'), (('dyadic', 'TIntersects', ALWAYS, ALWAYS), 'NOT((^ < _) OR (_ > ^))'),
+    (('dyadic', 'TEquals', SINCE_A, SINCE_B), '(a = b) AND (^ = ^)'), (('dyadic', 'TEquals', A, ALWAYS), '(a = _) AND (a = ^)'),
+    (('dyadic', 'TEquals', OPEN, ALWAYS), '(_ = _) AND (_ = ^)'), (('dyadic', 'TDuring', UNTIL_A, SINCE_B), '(_ > b) AND (a < ^)'),
+    (('dyadic', 'TOverlaps', UNTIL_A, ('interval', STAMP, OPEN)), '(_ < %) AND (a > %) AND (a < ^)'),
+    (('dyadic', 'TMeets', SINCE_A, UNTIL_B), '"a" IS NOT NULL AND "b" NOT NULL AND (^ = _)'),
+    (('dyadic', 'TMetBy', UNTIL_A, SINCE_B), '"a" IS NOT NULL AND "b" NOT NULL AND (_ = ^)'),
+    (OPEN, '_'), (('array', [OPEN, OPEN]), '(_, _)'), (('function', 'f', [OPEN, ('array', [OPEN])]), 'f(_, (_))'), (('dyadic', 'Eq', A, OPEN), 'a = (_)'),
+    (('dyadic', 'IsBetween', OPEN, ('array', [OPEN, OPEN])), '_ BETWEEN _ AND _'), (('dyadic', 'TAfter', A, OPEN), 'a > _'),
+    (('dyadic', 'TEquals', OPEN, OPEN), '_ = _'), (('dyadic', 'TAfter', A, ('interval', B, ('function', 'f', [OPEN]))), '"b" IS NOT NULL AND (a > f(_))'),
+    (('dyadic', 'TAfter', A, ('interval', B, ('array', [OPEN]))), '"b" IS NOT NULL AND (a > (_))'),
+    (('dyadic', 'TAfter', A, ('interval', B, ('dyadic', 'TAfter', OPEN, OPEN))), '"b" IS NOT NULL AND (a > _ > _)'),
+    (('dyadic', 'TAfter', A, ('interval', B, ('dyadic', 'TIntersects', C, ALWAYS))), '"b" IS NOT NULL AND (a > NOT((c < _) OR (c > ^)))'),
+    (('function', 'f', [('dyadic', 'TAfter', A, ALWAYS), OPEN]), 'f(a > ^, _)'),
+    *((('dyadic', 'TAfter', A, ('interval', B, ('str', 0, text))), '"b" IS NOT NULL AND (a > \'%s\')' % text) for text in ('A', '-2021-01-01', '..'))]
 TABLE_3_7 = [    # of the Unicode standard: well-formed UTF-8 byte sequences
     rb'[\x00-\x7f]', rb'[\xc2-\xdf][\x80-\xbf]', rb'\xe0[\xa0-\xbf][\x80-\xbf]', rb'[\xe1-\xec][\x80-\xbf]{2}', rb'\xed[\x80-\x9f][\x80-\xbf]',
     rb'[\xee-\xef][\x80-\xbf]{2}', rb'\xf0[\x90-\xbf][\x80-\xbf]{2}', rb'[\xf1-\xf3][\x80-\xbf]{3}', rb'\xf4[\x80-\x8f][\x80-\xbf]{2}']
@@ -76,10 +98,13 @@ class Lowering(unittest.TestCase):
             self.assertEqual(calls.to_sql(SETTINGS, encode(tree), len(written) - 1), 9)
 
     def test_both_writings(self):
-        """They differ in what stands after a timestamp's seconds, and in nothing else."""
-        for tree, form in STAMPS:
-            for call, writing, stamp in ((calls.to_sql, lowering.RUST, WRITTEN), (calls.to_geopackage_sql, lowering.GEOPACKAGE, LONGER)):
+        """They differ in what stands after a timestamp's seconds, in `..` as the second end of an Interval, and in nothing else."""
+        for tree, form in STAMPS + ENDS:
+            for call, writing, stamp, end in ((calls.to_sql, lowering.RUST, WRITTEN, BELOW),
+                                              (calls.to_geopackage_sql, lowering.GEOPACKAGE, LONGER, ABOVE)):
                 written = form.replace('%', stamp)
+                if (tree, form) in ENDS:    # a name of the others has a _
+                    written = written.replace('^', end).replace('_', BELOW)
                 self.assertEqual(lowering.text(SHEET_SETTINGS, tree, writing), written)
                 self.assertEqual(call(SETTINGS, encode(tree), len(written)), written.encode())
                 self.assertEqual(call(SETTINGS, encode(tree), len(written) - 1), 9)
@@ -159,6 +184,19 @@ class Refusals(unittest.TestCase):
             self.assertEqual(len(calls.to_sql(SETTINGS, tree, 65534)), 53822 + len(name))
             self.assertEqual(calls.to_sql(SETTINGS, tree, 53821 + len(name)), 9)
         self.assertEqual(calls.to_geopackage_sql(SETTINGS, encode(STAMP), len(WRITTEN)), 9)
+
+    def test_open_ends_make_the_second_text_shorter(self):
+        """65,535 and 65,536 bytes in the second writing, 86,005 and 86,006 in the first."""
+        for size, number in ((21, 9), (22, 8)):
+            tree = A
+            for _ in range(11):
+                tree = ('dyadic', 'TEquals', tree, ALWAYS)
+            tree = ('dyadic', 'And', tree, ('str', 0, 'y' * size))
+            self.assertEqual(calls.to_geopackage_sql(SETTINGS, encode(tree), 65534), number)
+            self.assertEqual(calls.to_sql(SETTINGS, encode(tree), 65535), 8)
+            self.assertEqual(len(lowering.text(SHEET_SETTINGS, tree)), 85984 + size)
+        since = encode(('dyadic', 'TAfter', A, SINCE_B))
+        self.assertEqual((calls.to_sql(SETTINGS, since, 30), len(calls.to_geopackage_sql(SETTINGS, since, 30))), (9, 29))
 
     def test_a_long_text(self):
         tree = A

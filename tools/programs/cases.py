@@ -3,7 +3,7 @@
 The long parts are there because a program must answer, and go on with the next case, also where a part passes every limit and its own buffer."""
 from answers.stored import framed
 from model.operators import NUMBER
-from model.records import SHEET_SETTINGS, date, dyadic, ident, interval, null, row, settings_record, string, timestamp
+from model.records import SHEET_SETTINGS, date, dyadic, ident, interval, null, row, settings_record, string, timestamp, unbounded
 
 SETTINGS, NULL = settings_record(SHEET_SETTINGS), null()
 A, B, C = map(ident, (b'a', b'b', b'c'))
@@ -30,6 +30,12 @@ STAMPED = [    # with the texts of both writing calls
      "NOT((a < '2024-02-29T12:00:00') OR (a > '2024-03-01'))", "NOT((a < '2024-02-29T12:00:00.000Z') OR (a > '2024-03-01'))"),
     ((SETTINGS, string(b'2024-02-29T12:00:00')), "'2024-02-29T12:00:00'", "'2024-02-29T12:00:00'"),
     ((SETTINGS, timestamp(2023, 2, 29, 12, 0, 0)), 'refused 6', 'refused 6'),
+    ((SETTINGS, dyadic(NUMBER['TIntersects'], interval(A, unbounded()), STAMP)),
+     "NOT(('-2021-01-01' < '2024-02-29T12:00:00') OR (a > '2024-02-29T12:00:00'))",
+     "NOT(('A' < '2024-02-29T12:00:00.000Z') OR (a > '2024-02-29T12:00:00.000Z'))"),
+    ((SETTINGS, dyadic(NUMBER['TEquals'], unbounded(), interval(unbounded(), unbounded()))),
+     "('-2021-01-01' = '-2021-01-01') AND ('-2021-01-01' = '-2021-01-01')", "('-2021-01-01' = '-2021-01-01') AND ('-2021-01-01' = 'A')"),
+    ((SETTINGS, interval(A, unbounded())), 'refused 7', 'refused 7'),
 ]
 READ = [
     ((TEXT_J, ROW_N), 'unknown'),

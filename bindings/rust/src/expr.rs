@@ -17,7 +17,9 @@ pub enum E {
     /// NULL.
     #[default]
     Null,
-    /// `..`, an open end.
+    /// `..`, an open start or end of an interval. As the second end of an [`E::Interval`] it lies above every instant by
+    /// [`to_geopackage_sql`](crate::to_geopackage_sql), and below by [`to_sql`](crate::to_sql); in any other place below, by
+    /// both.
     Unbounded,
     /// TRUE or FALSE.
     Bool(bool),
@@ -211,7 +213,8 @@ impl E {
         E::Function(Call { name: name.into(), params })
     }
 
-    /// An interval.
+    /// An interval. From a start to [`E::Unbounded`] it is a stay that has not ended, for
+    /// [`to_geopackage_sql`](crate::to_geopackage_sql).
     pub fn interval(start: E, end: E) -> E {
         E::Interval(Box::new(start), Box::new(end))
     }

@@ -24,12 +24,12 @@ extern "C" {
 /// A function that writes.
 type Writer = unsafe extern "C" fn(*const u8, usize, *const u8, usize, *mut u8, usize) -> i64;
 
-/// How timestamps are written: which of the two functions is called.
+/// How timestamps and open ends are written: which of the two functions is called.
 #[derive(Clone, Copy)]
 pub(crate) enum Writing {
     /// The text of ogc-cql2.
     Rust,
-    /// As a GeoPackage stores them.
+    /// Timestamps as a GeoPackage stores them, open ends above every instant.
     GeoPackage,
 }
 

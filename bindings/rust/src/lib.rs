@@ -1,14 +1,21 @@
 //! Lowers CQL2 filters to SQL text for a GeoPackage, by one call byte for byte that of ogc-cql2 but for apostrophes in
-//! strings, which are doubled as SQLite reads them, by another with timestamps as a GeoPackage stores them; and reads what a
-//! time filter's text says of a row.
+//! strings, which are doubled as SQLite reads them, by another with timestamps as a GeoPackage stores them and with open ends
+//! above every instant; and reads what a time filter's text says of a row.
 //!
 //! All three are done by functions that are proved to meet the papers' rules on all inputs (crates/capi of this
 //! repository, linked as `libcapi.a`, for x86-64 Linux); this crate builds their bytes from Rust types and refuses nothing
 //! itself, except where an `f64` fits no [`Num`]. The layout of the bytes stands in include/wenduulig.h.
 //!
-//! Two calls write, and their texts differ in timestamps alone: [`to_sql`] has those of ogc-cql2, `'2024-02-29T12:00:00'`;
-//! [`to_geopackage_sql`] those of a GeoPackage's DATETIME columns, `'2024-02-29T12:00:00.000Z'`, the fields being UTC. Texts
-//! compare byte by byte, so take the call that writes instants as the columns hold them.
+//! Two calls write, and their texts differ in two things alone:
+//!
+//! | | [`to_sql`], as ogc-cql2 | [`to_geopackage_sql`] |
+//! |---|---|---|
+//! | a timestamp | `'2024-02-29T12:00:00'` | `'2024-02-29T12:00:00.000Z'`, as a GeoPackage's DATETIME columns hold it, in UTC |
+//! | `..` as the second end of an interval | `'-2021-01-01'`, below every instant | `'A'`, above every instant |
+//!
+//! Texts compare byte by byte, so take the call that writes instants as the columns hold them. For stays that have not ended,
+//! intervals from a start to `..`, take [`to_geopackage_sql`], of DATETIME columns and of DATE columns: by [`to_sql`] such a
+//! stay ends before it begins. An open start, and a `..` that is no end of an interval, is `'-2021-01-01'` by both.
 //!
 //! ```
 //! use wenduulig::{read, to_geopackage_sql, to_sql, Op, Refusal, Row, Settings, E};
@@ -35,6 +42,14 @@
 //! let noon = Row::new().with("seen", "2024-02-29T12:00:00.000Z");
 //! assert_eq!(read(&sql, &noon)?, Some(false));
 //! assert_eq!(read(&to_sql(&Settings::default(), &after)?, &noon)?, Some(true)); // though noon is not after noon
+//!
+//! // A stay that has not ended: is it there a day later?
+//! let (stay, later) = (E::interval(E::id("seen"), E::Unbounded), E::timestamp(2024, 3, 1, 12, 0, 0));
+//! let there = E::dyadic(Op::TIntersects, stay, later);
+//! let sql = to_geopackage_sql(&Settings::default(), &there)?;
+//! assert_eq!(sql, "NOT(('A' < '2024-03-01T12:00:00.000Z') OR (seen > '2024-03-01T12:00:00.000Z'))");
+//! assert_eq!(read(&sql, &noon)?, Some(true));
+//! assert_eq!(read(&to_sql(&Settings::default(), &there)?, &noon)?, Some(false)); // there it has ended before it began
 //!
 //! // What breaks a rule is refused, with its number and words.
 //! let refused = to_sql(&Settings::default(), &E::date(1900, 2, 29)).unwrap_err();
@@ -69,7 +84,8 @@ pub const TEXT_MAX: usize = 65_535;
 /// Most texts are shorter; a longer one is lowered anew into [`TEXT_MAX`] bytes.
 const FIRST_TRY: usize = 1024;
 
-/// The SQL text of a filter, byte for byte that of ogc-cql2 but for doubled apostrophes.
+/// The SQL text of a filter, byte for byte that of ogc-cql2 but for doubled apostrophes. `..` lies below every instant, also as
+/// the end of an interval: for stays that have not ended take [`to_geopackage_sql`].
 ///
 /// # Errors
 /// The first refusal of 1 to 8 that document 01's order gives.
@@ -95,10 +111,11 @@ pub fn to_sql_into(settings: &[u8], tree: &[u8], out: &mut [u8]) -> Result<usize
 }
 
 /// The SQL text of a filter with timestamps as a GeoPackage stores them in DATETIME columns: `.000Z` stands after their
-/// seconds, the fields being UTC. All else is as [`to_sql`] writes it.
+/// seconds, the fields being UTC; and with `..` above every instant where it is the second end of an interval: `'A'`, which
+/// lies above every digit. All else is as [`to_sql`] writes it.
 ///
 /// # Errors
-/// Those of [`to_sql`]; 8 counts the longer text.
+/// Those of [`to_sql`]; 8 counts the text of this call.
 pub fn to_geopackage_sql(settings: &Settings, filter: &E) -> Result<String, Refusal> {
     to_geopackage_sql_bytes(&settings.encode(), &filter.encode())
 }
@@ -106,7 +123,7 @@ pub fn to_geopackage_sql(settings: &Settings, filter: &E) -> Result<String, Refu
 /// The same of records, as [`to_sql_bytes`].
 ///
 /// # Errors
-/// Those of [`to_sql_bytes`]; 8 counts the longer text.
+/// Those of [`to_sql_bytes`]; 8 counts the text of this call.
 pub fn to_geopackage_sql_bytes(settings: &[u8], tree: &[u8]) -> Result<String, Refusal> {
     lower(Writing::GeoPackage, settings, tree)
 }
@@ -114,7 +131,7 @@ pub fn to_geopackage_sql_bytes(settings: &[u8], tree: &[u8]) -> Result<String, R
 /// The same into a buffer of the caller's, as [`to_sql_into`].
 ///
 /// # Errors
-/// Those of [`to_sql_into`]; 8 and 9 count the longer text.
+/// Those of [`to_sql_into`]; 8 and 9 count the text of this call.
 pub fn to_geopackage_sql_into(settings: &[u8], tree: &[u8], out: &mut [u8]) -> Result<usize, Refusal> {
     lower_into(Writing::GeoPackage, settings, tree, out)
 }

@@ -119,10 +119,11 @@ fn random_trees_against_the_rust() {
     expect_all(&seen);
 }
 
-/// The tree with a string in the place of each timestamp, as a GeoPackage stores it: the Rust's text of this tree is the
-/// second call's of the other.
+/// The tree with a string in the place of each timestamp, as a GeoPackage stores it, and of each open end: the Rust's text of
+/// this tree is the second call's of the other.
 fn stored(e: &E) -> E {
     match e {
+        E::Interval(x, y) if **y == E::Unbounded => E::interval(stored(x), E::str("A")),
         E::Timestamp(t) => {
             let (d, clock) = (t.date, format!("{:02}:{:02}:{:02}.000Z", t.hour, t.minute, t.second));
             E::str(format!("{:04}-{:02}-{:02}T{clock}", d.year, d.month, d.day))
@@ -144,14 +145,28 @@ fn geopackage_texts_against_the_rust() {
     let with_strings: Vec<(Settings, E)> = cases.iter().map(|(s, e)| (s.clone(), stored(e))).collect();
     let told = answers(&program, &with_strings);
     assert_eq!(told.len(), cases.len());
-    let mut stamped = 0;
+    let (mut others, mut ended) = (0, 0);
     for (((settings, e), (_, other)), (letter, want)) in cases.iter().zip(&with_strings).zip(told) {
         let text = to_geopackage_sql(settings, e).unwrap_or_else(|r| panic!("{r}: {settings:?} {e:?}"));
         assert_eq!((letter, &text), (b'T', &want), "{settings:?} {e:?}");
-        stamped += usize::from(e != other);
+        others += usize::from(e != other);
+        ended += usize::from(ends_open(e));
     }
-    writeln!(std::io::stderr(), "compared with the Rust: {stamped} trees with timestamps, none differs").ok();
-    assert!(stamped > 1000, "{stamped}");
+    let told = format!("{others} trees with timestamps or open ends, {ended} with open ends");
+    writeln!(std::io::stderr(), "compared with the Rust: {told}, none differs").ok();
+    assert!(others > 1000 && ended > 500, "{told}");
+}
+
+/// Whether `..` is the second end of an interval in the tree.
+fn ends_open(e: &E) -> bool {
+    match e {
+        E::Interval(x, y) => **y == E::Unbounded || ends_open(x) || ends_open(y),
+        E::Monadic(_, x) => ends_open(x),
+        E::Dyadic(_, x, y) => ends_open(x) || ends_open(y),
+        E::Function(x) => x.params.iter().any(ends_open),
+        E::Array(x) => x.iter().any(ends_open),
+        _ => false,
+    }
 }
 
 /// The Rust's own names and order of the operators.

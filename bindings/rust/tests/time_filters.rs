@@ -1,4 +1,7 @@
 //! Reading the lowered text of time filters on rows, held against truths that are worked out here without any text.
+mod relation;
+
+use relation::relation;
 use wenduulig::{read, to_sql, Op, Row, Settings, E};
 
 fn truth(e: &E, row: &Row) -> Option<bool> {
@@ -8,28 +11,6 @@ fn truth(e: &E, row: &Row) -> Option<bool> {
 
 fn id(name: &str) -> E {
     E::id(name)
-}
-
-/// What OGC 21-065r2 says of two intervals, by their starts and ends.
-fn relation(op: Op, (a, b): (u8, u8), (c, d): (u8, u8)) -> bool {
-    match op {
-        Op::TAfter => a > d,
-        Op::TBefore => b < c,
-        Op::TContains => a < c && b > d,
-        Op::TDisjoint => b < c || a > d,
-        Op::TDuring => a > c && b < d,
-        Op::TEquals => a == c && b == d,
-        Op::TFinishedBy => a < c && b == d,
-        Op::TFinishes => a > c && b == d,
-        Op::TIntersects => !(b < c || a > d),
-        Op::TMeets => b == c,
-        Op::TMetBy => a == d,
-        Op::TOverlappedBy => a > c && a < d && b > d,
-        Op::TOverlaps => a < c && b > c && b < d,
-        Op::TStartedBy => a == c && b > d,
-        Op::TStarts => a == c && b < d,
-        _ => unreachable!("{op:?} is not temporal"),
-    }
 }
 
 fn day(n: u8) -> String {

@@ -1,5 +1,5 @@
-//! The two calls that write: their texts differ in timestamps alone, and they refuse alike but for 8 and 9, by which each
-//! counts the text that it writes.
+//! The two calls that write, on trees without open ends: their texts differ in timestamps alone, and they refuse alike but for
+//! 8 and 9, by which each counts the text that it writes.
 use wenduulig::{
     read, to_geopackage_sql, to_geopackage_sql_bytes, to_geopackage_sql_into, to_sql, to_sql_bytes, to_sql_into, Op,
     Refusal, Row, Settings, E, TEXT_MAX,
