@@ -153,6 +153,13 @@ def false_for_unknown(part, table):
         yield part.place, {'op': name, 'columns': ' or '.join(columns), 'each': ' and of '.join(columns)}
 
 
+def null_end(part, table):
+    """null as an end, which CQL2's own schema does not have: the text leaves it out, or another of its comparisons decides."""
+    for side, k, value, place in ends(part, BOTH) if (operator(part.value) or '') in TEMPORAL else ():
+        if value is None and k is not None:
+            yield place, {'op': operator(part.value)}
+
+
 def reversed_interval(part, table):
     if is_interval(part.value):
         start, end = (instant(end_of(x)) for x in part.value['interval'])

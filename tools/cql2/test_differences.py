@@ -143,6 +143,7 @@ OTHER = [
      'NOT (a > c AND b < c)', None),
     ('NOT TIntersects(a, [b, c]), a 1, b 2, c NULL', one('Neg', two('TIntersects', A, interval(B, C))), 'NOT (NOT((a < b) OR (a > c)))',
      {'a': '1', 'b': '2', 'c': None}, 1, None, None),
+    ('TAfter(a, [NULL, b]), a 2, b 1', two('TAfter', A, interval(NULL, B)), 'a > b', {'a': '2', 'b': '1'}, 1, None, None),
     ('an Id that the table lacks, guarded', two('TAfter', A, interval(name('zz'), C)), '"zz" IS NOT NULL AND (a > c)', {'a': '2', 'c': '1'}, 1, None, None),
     ('an open end, `..`', two('TIntersects', A, interval(date(2026, 3, 20), OPEN)), "NOT((a < '2026-03-20') OR (a > '-2021-01-01'))", {'a': '2026-03-21'}, 0,
      "NOT((a < '2026-03-20') OR (a > '9999-12-31'))", 1),
@@ -167,8 +168,9 @@ OPEN_BY_CALL = [
     ('TBefore([a, ..], b)', two('TBefore', interval(A, OPEN), B), '"a" IS NOT NULL AND (\'-2021-01-01\' < b)', '"a" IS NOT NULL AND (\'A\' < b)', 1, 0),
     ('TMeets([a, ..], [.., b])', two('TMeets', interval(A, OPEN), interval(OPEN, B)),
      '"a" IS NOT NULL AND "b" NOT NULL AND (\'-2021-01-01\' = \'-2021-01-01\')', '"a" IS NOT NULL AND "b" NOT NULL AND (\'A\' = \'-2021-01-01\')', 1, 0),
-    ('TFinishes([a, ..], [.., ..])', two('TFinishes', interval(A, OPEN), interval(OPEN, OPEN)),
-     "(a > '-2021-01-01') AND ('-2021-01-01' = '-2021-01-01')", "(a > '-2021-01-01') AND ('A' = 'A')", 1, 1),
+    ('TBefore([.., ..], b)', two('TBefore', interval(OPEN, OPEN), B), "'-2021-01-01' < b", "'A' < b", 1, 0),
+    ('TDuring([a, b], [.., ..])', two('TDuring', interval(A, B), interval(OPEN, OPEN)),
+     "(a > '-2021-01-01') AND (b < '-2021-01-01')", "(a > '-2021-01-01') AND (b < 'A')", 0, 1),
 ]
 # A value; the instant that it is compared with; how the value lies to it as each call writes it, by the first word of the row's cells.
 LIES = [

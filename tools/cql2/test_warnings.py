@@ -53,6 +53,8 @@ CASES = [
     ('NOT TAfter(a, [b, c]), b NULL', op('not', op('t_intersects', A, interval(B, C))), ['$.args[0]'], [TEXT] * 3,
      [['1', '2', None], ['1', '2', '3'], ['2', '2', '3']], [2], [1, 2], op('and', *there(B, C), op('not', op('t_intersects', A, interval(B, C))))),
     ('NOT TAfter(a, [b, c]), b NULL', op('isNull', op('t_disjoint', A, interval(B, C))), ['$.args[0]'], [TEXT] * 3, [['2', None, None]], [1], [], None),
+    ('TAfter(a, [NULL, b]), a 2, b 1', op('t_after', A, interval(None, B)), ['$.args[1].interval[0]'], [TEXT] * 2, [['2', '1']], [], [1], None),
+    ('TAfter(a, [NULL, b]), a 2, b 1', op('t_disjoint', A, interval(B, None)), ['$.args[1].interval[1]'], [TEXT] * 2, [['1', '2']], [], [1], None),
     ('an interval whose end lies before its start', op('t_disjoint', A, interval('2024-12-01', '2024-01-01')), ['$.args[1].interval'], [TEXT],
      [['2024-06-01']], [], [1], op('t_disjoint', A, interval('2024-01-01', '2024-12-01'))),
     (FORM, op('t_after', A, {'date': '2026-03-01'}), ['$.args[1]'], ['DATETIME'], [['2026-03-01T00:00:00.000Z']], [], [1],
