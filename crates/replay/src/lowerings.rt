@@ -1,6 +1,6 @@
 // Trees with texts that the Rust wrote, against gpkg::to_sql; or with the same texts, `.000Z` after the seconds of each timestamp and `'A'` for each
-// Interval's open second end, against gpkg::to_geopackage_sql. A case: the settings, the tree, the buffer's length in four bytes, the answer, which is a byte 0 and the text, or the
-// refusal's number.
+// Interval's open second end, against gpkg::to_geopackage_sql. A case: the settings, the tree, the buffer's length in four bytes, the answer, which
+// is a byte 0 and the text, or the refusal's number.
 ghost use mathlib.Core.Path.{_≡_};
 ghost use Prim.Native.Nat.{_<_};
 ghost use lib.ListN.{length};

@@ -1,8 +1,6 @@
 -- `instant::put_unbounded` meets its contract: in the Rust's writing each slot has the text that is put, in GeoPackage's the second end has its own.
 use mathlib.Core.Bool.{Bool, true, false}
-use mathlib.Core.Path.{_≡_, refl, sym, ap}
-use mathlib.Core.List.{List}
-use Prim.Native.Nat.{ℕ}
+use mathlib.Core.Path.{_≡_, refl}
 use borrow.Author.Needs.{needs}
 use Rattle.prelude.specs.Choice.{pick}
 use Rattle.prelude.specs.Bytes.{bytes}
