@@ -168,6 +168,8 @@ OPEN_BY_CALL = [
     ('TBefore([a, ..], b)', two('TBefore', interval(A, OPEN), B), '"a" IS NOT NULL AND (\'-2021-01-01\' < b)', '"a" IS NOT NULL AND (\'A\' < b)', 1, 0),
     ('TMeets([a, ..], [.., b])', two('TMeets', interval(A, OPEN), interval(OPEN, B)),
      '"a" IS NOT NULL AND "b" NOT NULL AND (\'-2021-01-01\' = \'-2021-01-01\')', '"a" IS NOT NULL AND "b" NOT NULL AND (\'A\' = \'-2021-01-01\')', 1, 0),
+    ('TEquals([.., ..], ..)', two('TEquals', interval(OPEN, OPEN), OPEN), "('-2021-01-01' = '-2021-01-01') AND ('-2021-01-01' = '-2021-01-01')",
+     "('-2021-01-01' = '-2021-01-01') AND ('A' = '-2021-01-01')", 1, 0),
     ('TBefore([.., ..], b)', two('TBefore', interval(OPEN, OPEN), B), "'-2021-01-01' < b", "'A' < b", 1, 0),
     ('TDuring([a, b], [.., ..])', two('TDuring', interval(A, B), interval(OPEN, OPEN)),
      "(a > '-2021-01-01') AND (b < '-2021-01-01')", "(a > '-2021-01-01') AND (b < 'A')", 0, 1),
