@@ -281,7 +281,7 @@ class Silence(unittest.TestCase):
         rust, geopackage = (self.tally([Maker(seed) for seed in range(4000)], NoTable(4326, writing)) for writing in (RUST, GEOPACKAGE))
         stamped = self.tally([StampMaker(seed) for seed in range(4000)], Log(4326, GEOPACKAGE))
         for silent, parted in (rust, geopackage, stamped):
-            self.assertTrue(silent[False] > 1000 and parted[False] > 100, (silent, parted))
+            self.assertTrue(silent[False] > 2000 and parted[False] > 300, (silent, parted))
         self.assertEqual([counts[False] for counts in rust], [counts[False] for counts in geopackage])
         for silent, parted in (geopackage, stamped):
             self.assertTrue(silent[True] > 500 and parted[True] < rust[1][True] // 2, (silent, parted, rust))

@@ -78,29 +78,28 @@ eq-equal Less = refl
 eq-equal Equal = refl
 eq-equal Greater = refl
 
+told : {a b : Truth} {p q : Bool} → a ≡ truthOf p → b ≡ truthOf q → Known a p × Known b q
+told d e = (record { is = d }, record { is = e })
+
+by-order : {w : Width} {x y : Found} {m n : Moment} → Stands w x m → Stands w y n → Known (compared LT x y) (earlier m n) × Known (compared EQ x y) (sameMoment m n)
+unfolding grammar.holds order below literal.openEnd earlier sameMoment some
+by-order opens opens = told refl refl
+by-order opens ends = told refl refl
+by-order ends opens = told refl refl
+by-order ends ends = told refl refl
+by-order {w = w} opens (at {x = y} k) = let e = open-below w y k in told (rw e) (rw e)
+by-order {w = w} (at {x = x} h) opens = let e = order-above (literal.openEnd (writingOf w) firstEnd) x (open-below w x h) in told (rw e) (rw e)
+by-order {w = w} ends (at {x = y} k) = let e = order-above y (literal.openEnd GeoPackage secondEnd) (open-above w y k) in told (rw e) (rw e)
+by-order {w = w} (at {x = x} h) ends = let e = open-above w x h in told (rw e) (rw e)
+by-order {w = w} (at {x = x} h) (at {x = y} k) =
+    let e = fields-order w x y h k in
+    told (ap truthOf (lt-less (order x y) ∙ ap isLess e)) (ap truthOf (eq-equal (order x y) ∙ ap isEqual e))
+
 lt-known : {w : Width} {x y : Found} {m n : Moment} → Stands w x m → Stands w y n → Known (compared LT x y) (earlier m n)
-unfolding grammar.holds order below literal.openEnd earlier some
-lt-known opens opens = record { is = refl }
-lt-known opens ends = record { is = refl }
-lt-known ends opens = record { is = refl }
-lt-known ends ends = record { is = refl }
-lt-known {w = w} opens (at {x = y} k) = record { is = rw (open-below w y k) }
-lt-known {w = w} (at {x = x} h) opens = record { is = rw (order-above (literal.openEnd (writingOf w) firstEnd) x (open-below w x h)) }
-lt-known {w = w} ends (at {x = y} k) = record { is = rw (order-above y (literal.openEnd GeoPackage secondEnd) (open-above w y k)) }
-lt-known {w = w} (at {x = x} h) ends = record { is = rw (open-above w x h) }
-lt-known {w = w} (at {x = x} h) (at {x = y} k) = record { is = ap truthOf (lt-less (order x y) ∙ ap isLess (fields-order w x y h k)) }
+lt-known h k = by-order h k .0
 
 eq-known : {w : Width} {x y : Found} {m n : Moment} → Stands w x m → Stands w y n → Known (compared EQ x y) (sameMoment m n)
-unfolding grammar.holds order literal.openEnd sameMoment some
-eq-known opens opens = record { is = refl }
-eq-known opens ends = record { is = refl }
-eq-known ends opens = record { is = refl }
-eq-known ends ends = record { is = refl }
-eq-known {w = w} opens (at {x = y} k) = record { is = rw (open-below w y k) }
-eq-known {w = w} (at {x = x} h) opens = record { is = rw (order-above (literal.openEnd (writingOf w) firstEnd) x (open-below w x h)) }
-eq-known {w = w} ends (at {x = y} k) = record { is = rw (order-above y (literal.openEnd GeoPackage secondEnd) (open-above w y k)) }
-eq-known {w = w} (at {x = x} h) ends = record { is = rw (open-above w x h) }
-eq-known {w = w} (at {x = x} h) (at {x = y} k) = record { is = ap truthOf (eq-equal (order x y) ∙ ap isEqual (fields-order w x y h k)) }
+eq-known h k = by-order h k .1
 
 gt-known : {w : Width} {x y : Found} {m n : Moment} → Stands w x m → Stands w y n → Known (compared GT x y) (earlier n m)
 gt-known {x = x} {y = y} h k = known-is (gt-lt x y) (lt-known k h)

@@ -1,18 +1,18 @@
 -- `instant::put_unbounded` meets its contract: in the Rust's writing each slot has the text that is put, in GeoPackage's the second end has its own.
 use mathlib.Core.Bool.{Bool, true, false}
-use mathlib.Core.Path.{_≡_, refl}
+use mathlib.Core.Path.{_≡_, refl, ap, sym}
 use borrow.Author.Needs.{needs}
 use Rattle.prelude.specs.Choice.{pick}
 use Rattle.prelude.specs.Bytes.{bytes}
 use Rattle.literal.specs.declared.Writing.the-variants.{Rust, GeoPackage}
 use Rattle.literal.specs.Literal.{quoted, openEnd, stopSlot, unboundedText}
+use Rattle.literal.specs.LiteralLaws.{rust-alike}
 use Rattle.instant.proofs.put_unbounded.Statement.{statement}
 use Rattle.instant.proofs.put_unbounded.Tie as tie
 
 rust-text : (b : Bool) → bytes "'-2021-01-01'" ≡ unboundedText Rust (stopSlot b)
 unfolding quoted openEnd
-rust-text true = refl
-rust-text false = refl
+rust-text b = ap quoted (sym (rust-alike (stopSlot b)))
 
 geopackage-text : (b : Bool) → pick b (bytes "'A'") (bytes "'-2021-01-01'") ≡ unboundedText GeoPackage (stopSlot b)
 unfolding quoted openEnd
