@@ -1,28 +1,22 @@
 -- Numbers that fit: a refusal's below zero, as an i32 and as an i64, and a text's length.
 use Prim.Native.Nat.{ℕ, zero, suc, _<_, _≤_}
-use mathlib.Core.Bool.{Bool, true, false}
 use mathlib.Core.List.{List}
-use lib.ListN.{length}
-use lib.Dec.{ltb}
 use mathlib.Core.Path.{_≡_, refl, sym, ap, _∙_, subst}
 use native.Mathlib.Omega.{arith}
 use lib.IntN.{ℤ, pos, negsuc, natAbs, _-ℤ_}
 use mir.Syntax.{w32, w64}
 use mir.Val.{SFits, toZ, ofZ}
 use mir.Facts.{toZ-pos, toZ-ofZ}
-use borrow.Author.Tests.{lt-ltb, ltb-false}
-use Rattle.prelude.specs.Choice.{pick}
+use borrow.Author.Tests.{lt-ltb}
 use Rattle.refusal.specs.declared.Refusal.{Refusal}
 use Rattle.refusal.specs.declared.Refusal.the-variants.{BadSettings, TreeTooLong, BadFrame, TooDeep, BadKindOrOperator, BadField, BadOperand, TextTooLong, BufferTooShort, InputTooLong, BadRow, BadText, MissingColumn}
 use Rattle.refusal.specs.Number.{numberOf}
 use Rattle.literal.specs.declared.Writing.{Writing}
-use Rattle.tree.specs.Tree.{Tree, Settings}
-use Rattle.tree.specs.Parse.{Read, refused, got, also}
-use Rattle.tree.specs.Accepted.{accepted}
-use Rattle.text.specs.Text.{text}
+use Rattle.tree.specs.Parse.{Read, refused, got}
 use Rattle.text.specs.declared.Lowered.{Lowered}
 use Rattle.text.specs.declared.Lowered.the-variants.{Text, Refused}
-use Rattle.text.specs.Lowered.{Heard, refusal, answer, fitted, heard, lowering}
+use Rattle.text.specs.Lowered.{Heard, refusal, answer, heard, lowering}
+use Rattle.text.specs.LoweredLaws.{given}
 use Rattle.capi.specs.LengthWords.{lengthOf}
 use Rattle.capi.specs.Numbers.{minus, loweringNumber}
 
@@ -57,23 +51,14 @@ module _ {z : ℤ} {n : ℕ} (e : z ≡ minus n) (h : n < 256) where
   pub back64 : toZ w64 (ofZ w64 (toZ w32 (ofZ w32 z))) ≡ minus n
   back64 = toZ-ofZ wide-fits ∙ back32
 
-fitted-short : (room : ℕ) (x : List ℕ) → lengthOf (answer (fitted room x)) ≤ 65535
-unfolding fitted answer
-fitted-short room x = go (ltb 65535 (length x)) refl (ltb room (length x))
-  where
-    go : (a : Bool) → ltb 65535 (length x) ≡ a → (b : Bool) → lengthOf (answer (pick a (refused TextTooLong) (pick b (refused BufferTooShort) (got x)))) ≤ 65535
-    go true e b = omega arith
-    go false e true = omega arith
-    go false e false = ltb-false 65535 (length x) e
-
 -- no text that lowering answers is longer than 65,535 bytes
 short : (w : Writing) (settings tree : List ℕ) (room : ℕ) → lengthOf (answer (lowering w settings tree room)) ≤ 65535
-unfolding lowering answer also
-short w settings tree room = go (accepted settings tree)
+unfolding answer
+short w settings tree room = go (lowering w settings tree room) refl
   where
-    go : (p : Read (Settings × Tree)) → lengthOf (answer (also p (λ (p : Settings × Tree). fitted room (text w (p .0) (p .1))))) ≤ 65535
-    go (refused r) = omega arith
-    go (got p) = fitted-short room (text w (p .0) (p .1))
+    go : (x : Read (List ℕ)) → lowering w settings tree room ≡ x → lengthOf (answer x) ≤ 65535
+    go (refused r) e = omega arith
+    go (got x) e = given w settings tree room x e .short
 
 pub length-fits : (n : ℕ) → n ≤ 65535 → SFits w64 (pos n)
 length-fits n h = record { sfits = omega arith }
@@ -81,7 +66,7 @@ length-fits n h = record { sfits = omega arith }
 pub length-back : (n : ℕ) → n ≤ 65535 → toZ w64 n ≡ pos n
 length-back n h = toZ-pos w64 {n = n} (omega arith)
 
--- so the answer of each writing call is short
+-- so the answer of each writing call and of each preview is short
 pub short-answer : (w : Writing) (settings tree : List ℕ) (room : ℕ) {found : Lowered} → found ≡ answer (lowering w settings tree room) → lengthOf found ≤ 65535
 short-answer w settings tree room e = subst (λ (l : Lowered). lengthOf l ≤ 65535) (sym e) (short w settings tree room)
 

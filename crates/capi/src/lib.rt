@@ -4,11 +4,13 @@ ghost use Prim.Native.Nat.{_<_, _≤_};
 ghost use lib.ListN.{length};
 ghost use Rattle.refusal.specs.Number.{numberOf};
 ghost use Rattle.literal.specs.declared.Writing.the-variants.{Rust, GeoPackage};
-ghost use Rattle.text.specs.Lowered.{heard, leaves, lengthLimit, lowering, said};
+ghost use Rattle.text.specs.Lowered.{heard, leaves, lowering, said};
+ghost use Rattle.room.specs.Room.{lengthLimit};
 ghost use Rattle.truth.specs.Reading as reading;
 ghost use Rattle.capi.specs.LengthWords.{lengthOf};
 ghost use Rattle.capi.specs.Numbers.{minus, loweringNumber, readingNumber};
 use gpkg::Lowered;
+use literal::Writing;
 use refusal::Refusal;
 use truth::Reading;
 
@@ -46,6 +48,22 @@ pub extern "C" fn wenduulig_to_geopackage_sql(settings: &[u8], tree: &[u8], out:
     ensures bytes { λ r. ⌜ now (out .exit) ≡ leaves (now (out .entry)) (lowering GeoPackage (now (settings .entry)) (now (tree .entry)) (length (now (out .entry)))) ⌝ }
 {
     number(gpkg::to_geopackage_sql(settings, tree, out))
+}
+
+// What `wenduulig_to_sql` answers of a buffer of this size, with nothing written.
+#[no_mangle]
+pub extern "C" fn wenduulig_preview_sql(settings: &[u8], tree: &[u8], size: usize) -> i64
+    ensures { λ r. ⌜ r ≡ loweringNumber (said (lowering Rust (now (settings .entry)) (now (tree .entry)) size)) ⌝ }
+{
+    number(gpkg::preview(Writing::Rust, settings, tree, size))
+}
+
+// What `wenduulig_to_geopackage_sql` answers of a buffer of this size, with nothing written.
+#[no_mangle]
+pub extern "C" fn wenduulig_preview_geopackage_sql(settings: &[u8], tree: &[u8], size: usize) -> i64
+    ensures { λ r. ⌜ r ≡ loweringNumber (said (lowering GeoPackage (now (settings .entry)) (now (tree .entry)) size)) ⌝ }
+{
+    number(gpkg::preview(Writing::GeoPackage, settings, tree, size))
 }
 
 // 1 true, 0 false, 2 unknown, or minus the number of a refusal, 10 to 13.

@@ -1,8 +1,8 @@
 // Trees with texts that the Rust wrote, against gpkg::to_sql; or with the same texts, `.000Z` after the seconds of each timestamp and `'A'` for each
 // Interval's open second end, against gpkg::to_geopackage_sql. A case: the settings, the tree, the buffer's length in four bytes, the answer, which
-// is a byte 0 and the text, or the refusal's number.
+// is a byte 0 and the text, or the refusal's number. A preview must tell what writing answers, at the case's own size and around the text's length.
 ghost use mathlib.Core.Path.{_≡_};
-ghost use Prim.Native.Nat.{_<_};
+ghost use Prim.Native.Nat.{_<_, _≤_};
 ghost use lib.ListN.{length};
 use crate::cases::Turn;
 use crate::cases::all_are;
@@ -13,12 +13,19 @@ use literal::Writing;
 // A byte that no text has: the buffer is full of it before the call.
 const BLANK: u8 = 7;
 // What is found instead of an answer: a text that is not the stored one; a byte changed that is not the text's; a case that asks for more
-// room than there is.
+// room than there is; a preview that does not tell what writing answers.
 const OTHER_TEXT: u8 = 100;
 
 const BYTE_CHANGED: u8 = 101;
 
 const NO_ROOM: u8 = 102;
+
+const OTHER_PREVIEW: u8 = 103;
+
+// The longest text, and a number between the lengths and the refusals.
+const LENGTH_LIMIT: usize = 65535;
+
+const NO_ANSWER: usize = 65536;
 
 fn blank_buffer() -> [u8; 65536]
     ensures { λ r. ⌜ 65536 ≡ length r ⌝ }
@@ -76,9 +83,66 @@ fn lowered(
     found_of(r, text, out)
 }
 
+// An answer as a number: a length, or past all lengths the refusal's.
+fn number_of(r: Lowered) -> usize {
+    match r {
+        Lowered::Text(n) => n,
+        Lowered::Refused(e) => NO_ANSWER + refusal::number(e) as usize,
+    }
+}
+
+// What writing into a part of the buffer answers; where there is less, the number that is no answer's.
+fn written(writing: Writing, settings: &[u8], tree: &[u8], out: &mut [u8], size: usize) -> usize {
+    if out.len() < size {
+        return NO_ANSWER;
+    }
+    number_of(lower(writing, settings, tree, &mut out[..size]))
+}
+
+// Whether a preview tells what writing into a buffer of this size answers.
+fn told(writing: Writing, settings: &[u8], tree: &[u8], size: usize) -> bool {
+    let mut out = blank_buffer();
+    let told = number_of(gpkg::preview(writing, settings, tree, size));
+    told == written(writing, settings, tree, &mut out, size)
+}
+
+// The length of the text, or 0 where there is none.
+fn length_of(writing: Writing, settings: &[u8], tree: &[u8]) -> usize
+    ensures { λ r. ⌜ r ≤ 65535 ⌝ }
+{
+    match gpkg::preview(writing, settings, tree, LENGTH_LIMIT) {
+        Lowered::Text(n) => { if LENGTH_LIMIT < n { 0 } else { n } }
+        Lowered::Refused(_) => 0,
+    }
+}
+
+// At no size, one byte short, exactly enough, one byte more, and the case's own size.
+fn all_told(writing: Writing, settings: &[u8], tree: &[u8], room: usize) -> bool {
+    let n = length_of(writing, settings, tree);
+    if !told(writing, settings, tree, 0) {
+        return false;
+    }
+    if 0 < n {
+        if !told(writing, settings, tree, n - 1) {
+            return false;
+        }
+    }
+    if !told(writing, settings, tree, n) {
+        return false;
+    }
+    if !told(writing, settings, tree, n + 1) {
+        return false;
+    }
+    told(writing, settings, tree, room)
+}
+
 fn answer(writing: Writing, settings: &[u8], tree: &[u8], text: &[u8], room: usize) -> u8 {
     let mut out = blank_buffer();
-    lowered(writing, settings, tree, text, &mut out, room)
+    let found = lowered(writing, settings, tree, text, &mut out, room);
+    if !all_told(writing, settings, tree, room) {
+        return OTHER_PREVIEW;
+    }
+    found
 }
 
 pub(crate) fn judged(

@@ -7,10 +7,10 @@ use mathlib.Core.Bool.{Bool, true, false, false≢true}
 use native.Mathlib.Omega.{arith}
 use lib.Dec.{eqb, ltb}
 use lib.ListN.{length, getD}
-use borrow.Author.Tests.{le-ltb, ltb-false}
+use borrow.Author.Tests.{le-ltb}
 use Rattle.prelude.specs.Choice.{pick}
 use Rattle.prelude.specs.ChoiceLaws.{both-true}
-use Rattle.refusal.specs.declared.Refusal.the-variants.{TreeTooLong, BadOperand, TextTooLong, BufferTooShort}
+use Rattle.refusal.specs.declared.Refusal.the-variants.{TreeTooLong, BadOperand}
 use Rattle.op.specs.Op.{opNumber, oneOf}
 use Rattle.op.specs.declared.Op.the-variants.{IsNull}
 use Rattle.tree.specs.Kinds.{BOOL}
@@ -29,7 +29,9 @@ use Rattle.literal.specs.Literal.{startSlot, stopSlot}
 use Rattle.sql.specs.Condition as sql
 use Rattle.sql.specs.Translators.{translate}
 use Rattle.text.specs.Text as gpkg
-use Rattle.text.specs.Lowered.{lengthLimit, fitted, lowering}
+use Rattle.room.specs.Room.{lengthLimit}
+use Rattle.room.specs.RoomLaws.{sized-got}
+use Rattle.text.specs.Lowered.{fitted, lowering}
 use Rattle.row.specs.Row.{Column, Found, absent, has, val}
 use Rattle.row.specs.Row as row
 use Rattle.truth.specs.declared.Truth.{Truth}
@@ -55,15 +57,6 @@ pub record Parts (writing : Writing) (t : Tree) (x : List ℕ) : Type 0 where
   pub good : Good t depthLimit
   pub in-place : placed t ≡ true
 
-fitted-is : (room : ℕ) (x y : List ℕ) → fitted room x ≡ got y → (x ≡ y) × (length x ≤ lengthLimit)
-unfolding fitted
-fitted-is room x y e = go (ltb lengthLimit (length x)) (ltb room (length x)) refl e
-  where
-    go : (b c : Bool) → ltb lengthLimit (length x) ≡ b → pick b (refused TextTooLong) (pick c (refused BufferTooShort) (got x)) ≡ got y → (x ≡ y) × (length x ≤ lengthLimit)
-    go true c p q = not-got TextTooLong y q
-    go false true p q = not-got BufferTooShort y q
-    go false false p q = (cc, ltb-false lengthLimit (length x) p)
-
 placed-is : (g : Settings) (s : List ℕ) (p : Settings × Tree)
     → also (parse s) (λ t. pick (placed t) (got (g, t)) (refused BadOperand)) ≡ got p → (parse s ≡ got (p .1)) × (placed (p .1) ≡ true)
 placed-is g s p e =
@@ -86,15 +79,15 @@ accepted-is c s p e =
     go g false q = placed-is g s p q
 
 pub parts : {writing : Writing} {t : Tree} {x : List ℕ} → Lowers writing t x → Parts writing t x
-unfolding lowering also
+unfolding lowering also fitted
 parts {writing} {t} {x} L =
     let a = accepted-is (L .settings) (L .tree) (L .holds, t) (L .read) in
     let e : fitted (L .room) (gpkg.text writing (L .holds) t) ≡ got x = rw (L .read) at (L .lowered) in
-    let f = fitted-is (L .room) (gpkg.text writing (L .holds) t) x e in
+    let f = sized-got (L .room) (length (gpkg.text writing (L .holds) t)) (gpkg.text writing (L .holds) t) x e in
     record {
       with = L .holds;
-      text-is = sym (f .0);
-      short = omega (arith, ap length (f .0), f .1);
+      text-is = sym (f .is);
+      short = omega (arith, ap length (f .is), f .short);
       good = parse-good (L .tree) t (L .bytes) (a .0);
       in-place = a .1;
     }

@@ -1,0 +1,67 @@
+-- What a preview tells of writing: document 02, slip 6. Both contracts cite `lowering`, so one proof over the writing serves both calls.
+use Prim.Native.Nat.{ℕ, _≤_, _<_}
+use mathlib.Core.Path.{_≡_, refl, sym, ap, _∙_}
+use mathlib.Core.List.{List, _++_}
+use native.Mathlib.Omega.{arith}
+use lib.ListN.{length, drop}
+use Rattle.refusal.specs.declared.Refusal.{Refusal}
+use Rattle.refusal.specs.declared.Refusal.the-variants.{BufferTooShort}
+use Rattle.literal.specs.declared.Writing.{Writing}
+use Rattle.tree.specs.Tree.{Tree, Settings}
+use Rattle.tree.specs.Parse.{Read, refused, got, also}
+use Rattle.tree.specs.Accepted.{accepted}
+use Rattle.room.specs.Room.{lengthLimit}
+use Rattle.room.specs.RoomLaws.{no-room, has-room, ample}
+use Rattle.text.specs.Text.{text}
+use Rattle.text.specs.declared.Lowered.{Lowered}
+use Rattle.text.specs.declared.Lowered.the-variants.{Text, Refused}
+use Rattle.text.specs.Lowered.{answer, fitted, leaves, lowering}
+use Rattle.text.specs.LoweredLaws.{given, at-room}
+
+-- "the length or the refusal that writing into such a buffer would give": p is what a preview answers, r what writing answers, into `lent`, which it
+-- leaves as `left`. A length is that of the text which then stands before the other bytes as lent; with a refusal all are as lent.
+pub record Tells (p r : Lowered) (lent left : List ℕ) : Type 0 where
+  pub alike : p ≡ r
+  pub length-told : (n : ℕ) → p ≡ Text n → (x : List ℕ) × ((length x ≡ n) × (left ≡ x ++ drop n lent))
+  pub refusal-told : (e : Refusal) → p ≡ Refused e → left ≡ lent
+
+-- Slip 6, for every input: the preview at the size of whatever is lent, by its contract, and the writing call, by its own.
+pub preview-tells : (w : Writing) (settings tree lent left : List ℕ) (size : ℕ) (p r : Lowered)
+    → size ≡ length lent
+    → p ≡ answer (lowering w settings tree size)
+    → r ≡ answer (lowering w settings tree (length lent))
+    → left ≡ leaves lent (lowering w settings tree (length lent))
+    → Tells p r lent left
+unfolding answer leaves
+preview-tells w settings tree lent left size p r s a b c =
+    let d : p ≡ answer (lowering w settings tree (length lent)) = a ∙ ap (λ (k : ℕ). answer (lowering w settings tree k)) s in
+    record {
+      alike = d ∙ sym b;
+      length-told = λ n e. of-length (lowering w settings tree (length lent)) n (sym e ∙ d) c;
+      refusal-told = λ n e. of-refusal (lowering w settings tree (length lent)) n (sym e ∙ d) c;
+    }
+  where
+    of-length : (l : Read (List ℕ)) (n : ℕ) → Text n ≡ answer l → left ≡ leaves lent l → (x : List ℕ) × ((length x ≡ n) × (left ≡ x ++ drop n lent))
+    of-length (refused e) n q z = absurd (let v : _≡_ {A = ℕ} 0 1 = cc in let u : ⊥ = omega arith in u)
+    of-length (got x) n q z = let v : length x ≡ n = cc in (x, (v, z ∙ ap (λ (k : ℕ). x ++ drop k lent) v))
+
+    of-refusal : (l : Read (List ℕ)) (n : Refusal) → Refused n ≡ answer l → left ≡ leaves lent l → left ≡ lent
+    of-refusal (refused e) n q z = z
+    of-refusal (got x) n q z = absurd (let v : _≡_ {A = ℕ} 0 1 = cc in let u : ⊥ = omega arith in u)
+
+-- To reserve space. A text that some size has room for is the text at every size that has room for it, and 9 at every other; from the limit of a text
+-- on no size asks for more.
+module _ (w : Writing) (settings tree : List ℕ) where
+  pub reserved : (size room : ℕ) (x : List ℕ) → lowering w settings tree size ≡ got x → length x ≤ room → lowering w settings tree room ≡ got x
+  reserved size room x e h = let g = given w settings tree size x e in at-room w settings tree x room g ∙ has-room room (length x) x (g .short) h
+
+  pub too-little : (size room : ℕ) (x : List ℕ) → lowering w settings tree size ≡ got x → room < length x → lowering w settings tree room ≡ refused BufferTooShort
+  too-little size room x e h = let g = given w settings tree size x e in at-room w settings tree x room g ∙ no-room room (length x) x (g .short) h
+
+  pub room-enough : (a b : ℕ) → lengthLimit ≤ a → lengthLimit ≤ b → lowering w settings tree a ≡ lowering w settings tree b
+  unfolding lowering also fitted
+  room-enough a b h k = go (accepted settings tree)
+    where
+      go : (r : Read (Settings × Tree)) → also r (λ p. fitted a (text w (p .0) (p .1))) ≡ also r (λ p. fitted b (text w (p .0) (p .1)))
+      go (refused n) = refl
+      go (got p) = ample a b (length (text w (p .0) (p .1))) (text w (p .0) (p .1)) h k
