@@ -1,5 +1,5 @@
 -- What lowering answers and what it leaves in the buffer, refusals 1 to 9 in order: document 01, "What a caller hears"; by the
--- writing: document 02, slip 4.
+-- writing, and by the size of a buffer alone: document 02, slips 4 and 6.
 use Prim.Native.Nat.{ℕ}
 use mathlib.Core.List.{List, _++_}
 use lib.ListN.{length, drop}
