@@ -10,12 +10,11 @@ use Rattle.literal.specs.declared.Writing.{Writing}
 use Rattle.tree.specs.Tree.{Tree, Settings}
 use Rattle.tree.specs.Parse.{Read, refused, got, also}
 use Rattle.tree.specs.Accepted.{accepted}
-use Rattle.room.specs.Room.{lengthLimit}
 use Rattle.room.specs.RoomLaws.{no-room, has-room, ample}
 use Rattle.text.specs.Text.{text}
 use Rattle.text.specs.declared.Lowered.{Lowered}
 use Rattle.text.specs.declared.Lowered.the-variants.{Text, Refused}
-use Rattle.text.specs.Lowered.{answer, fitted, leaves, lowering}
+use Rattle.text.specs.Lowered.{lengthLimit, answer, fitted, leaves, lowering}
 use Rattle.text.specs.LoweredLaws.{given, at-room}
 
 -- "the length or the refusal that writing into such a buffer would give": p is what a preview answers, r what writing answers, into `lent`, which it
@@ -53,10 +52,12 @@ preview-tells w settings tree lent left size p r s a b c =
 -- on no size asks for more.
 module _ (w : Writing) (settings tree : List ℕ) where
   pub reserved : (size room : ℕ) (x : List ℕ) → lowering w settings tree size ≡ got x → length x ≤ room → lowering w settings tree room ≡ got x
-  reserved size room x e h = let g = given w settings tree size x e in at-room w settings tree x room g ∙ has-room room (length x) x (g .short) h
+  unfolding fitted
+  reserved size room x e h = let g = given w settings tree size x e in at-room w settings tree x room g ∙ has-room refused (got x) lengthLimit room (length x) (g .short) h
 
   pub too-little : (size room : ℕ) (x : List ℕ) → lowering w settings tree size ≡ got x → room < length x → lowering w settings tree room ≡ refused BufferTooShort
-  too-little size room x e h = let g = given w settings tree size x e in at-room w settings tree x room g ∙ no-room room (length x) x (g .short) h
+  unfolding fitted
+  too-little size room x e h = let g = given w settings tree size x e in at-room w settings tree x room g ∙ no-room refused (got x) lengthLimit room (length x) (g .short) h
 
   pub room-enough : (a b : ℕ) → lengthLimit ≤ a → lengthLimit ≤ b → lowering w settings tree a ≡ lowering w settings tree b
   unfolding lowering also fitted
@@ -64,4 +65,4 @@ module _ (w : Writing) (settings tree : List ℕ) where
     where
       go : (r : Read (Settings × Tree)) → also r (λ p. fitted a (text w (p .0) (p .1))) ≡ also r (λ p. fitted b (text w (p .0) (p .1)))
       go (refused n) = refl
-      go (got p) = ample a b (length (text w (p .0) (p .1))) (text w (p .0) (p .1)) h k
+      go (got p) = ample refused (got (text w (p .0) (p .1))) lengthLimit a b (length (text w (p .0) (p .1))) h k

@@ -7,14 +7,19 @@ use Rattle.refusal.specs.Number.{numberOf}
 use Rattle.literal.specs.declared.Writing.{Writing}
 use Rattle.tree.specs.Parse.{Read, refused, got, also}
 use Rattle.tree.specs.Accepted.{accepted}
+use Rattle.tree.specs.Limits.{limits}
 use Rattle.room.specs.Room.{sized}
 use Rattle.text.specs.Text.{text}
 use Rattle.text.specs.declared.Lowered as lowered
 use Rattle.text.specs.declared.Lowered.the-variants.{Text, Refused}
 
--- 8 or 9 by the bytes of the text and the room of the buffer, else the text
+-- the bytes of a text
+abbrev pub lengthLimit : ℕ
+lengthLimit = limits .text
+
+-- 8 if the text is longer than 65,535 bytes, 9 if it is longer than the buffer, whose bytes are `room`, else the text
 unfoldable pub fitted : ℕ → List ℕ → Read (List ℕ)
-fitted room x = sized room (length x) x
+fitted room x = sized refused (got x) lengthLimit room (length x)
 
 -- the text of accepted settings and tree, by the writing of the call
 unfoldable pub lowering : Writing → List ℕ → List ℕ → ℕ → Read (List ℕ)

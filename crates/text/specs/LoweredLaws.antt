@@ -1,24 +1,43 @@
--- Laws of specs/Lowered.antt: what is heard of the answer is what was decided; a text that is given is that of an accepted tree, and short; of such a
+-- Laws of specs/Lowered.antt: what is heard of the answer is what was decided; a text that is given fits, and is that of an accepted tree; of such a
 -- text the room alone decides.
 use mathlib.Core.Path.{_≡_, refl, ap, _∙_}
 use mathlib.Core.List.{List}
 use Prim.Native.Nat.{ℕ, _≤_}
 use native.Mathlib.Omega.{arith}
+use mathlib.Core.Bool.{Bool, true, false}
 use lib.ListN.{length}
+use lib.Dec.{ltb}
+use borrow.Author.Tests.{ltb-false}
+use Rattle.prelude.specs.Choice.{pick}
+use Rattle.refusal.specs.declared.Refusal.the-variants.{TextTooLong, BufferTooShort}
 use Rattle.literal.specs.declared.Writing.{Writing}
 use Rattle.tree.specs.Tree.{Tree, Settings}
 use Rattle.tree.specs.Parse.{Read, refused, got, also}
-use Rattle.tree.specs.ParseLaws.{also-got}
+use Rattle.tree.specs.ParseLaws.{also-got, not-got}
 use Rattle.tree.specs.Accepted.{accepted}
-use Rattle.room.specs.Room.{lengthLimit, sized}
-use Rattle.room.specs.RoomLaws.{sized-got}
+use Rattle.room.specs.Room.{sized}
 use Rattle.text.specs.Text.{text}
-use Rattle.text.specs.Lowered.{answer, fitted, said, heard, lowering}
+use Rattle.text.specs.Lowered.{lengthLimit, answer, fitted, said, heard, lowering}
 
 pub heard-answer : (x : Read (List ℕ)) → heard (answer x) ≡ said x
 unfolding answer
 heard-answer (refused n) = refl
 heard-answer (got x) = refl
+
+-- a text that fits, and y is what is given
+pub record Fits (room : ℕ) (x y : List ℕ) : Type 0 where
+  pub is : x ≡ y
+  pub short : length x ≤ lengthLimit
+  pub enough : length x ≤ room
+
+pub fitted-got : (room : ℕ) (x y : List ℕ) → fitted room x ≡ got y → Fits room x y
+unfolding fitted sized
+fitted-got room x y e = go (ltb lengthLimit (length x)) (ltb room (length x)) refl refl e
+  where
+    go : (a b : Bool) → ltb lengthLimit (length x) ≡ a → ltb room (length x) ≡ b → pick a (refused TextTooLong) (pick b (refused BufferTooShort) (got x)) ≡ got y → Fits room x y
+    go true b p q z = not-got TextTooLong y z
+    go false true p q z = not-got BufferTooShort y z
+    go false false p q z = record { is = cc; short = ltb-false lengthLimit (length x) p; enough = ltb-false room (length x) q }
 
 module _ (w : Writing) (settings tree : List ℕ) where
   pub record Given (x : List ℕ) : Type 0 where
@@ -28,15 +47,15 @@ module _ (w : Writing) (settings tree : List ℕ) where
     pub short : length x ≤ lengthLimit
 
   pub given : (room : ℕ) (x : List ℕ) → lowering w settings tree room ≡ got x → Given x
-  unfolding lowering fitted
+  unfolding lowering
   given room x e =
       let h = also-got (accepted settings tree) (λ p. fitted room (text w (p .0) (p .1))) x e in
       let p = h .0 in
-      let f = sized-got room (length (text w (p .0) (p .1))) (text w (p .0) (p .1)) x (h .2) in
+      let f = fitted-got room (text w (p .0) (p .1)) x (h .2) in
       record { holds = p; read = h .1; is = f .is; short = omega (arith, ap length (f .is), f .short) }
 
-  pub at-room : (x : List ℕ) (room : ℕ) → Given x → lowering w settings tree room ≡ sized room (length x) x
-  unfolding lowering also fitted
+  pub at-room : (x : List ℕ) (room : ℕ) → Given x → lowering w settings tree room ≡ fitted room x
+  unfolding lowering also
   at-room x room g =
       ap (λ (r : Read (Settings × Tree)). also r (λ p. fitted room (text w (p .0) (p .1)))) (g .read)
-      ∙ ap (λ (y : List ℕ). sized room (length y) y) (g .is)
+      ∙ ap (fitted room) (g .is)

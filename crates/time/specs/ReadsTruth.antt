@@ -29,9 +29,8 @@ use Rattle.literal.specs.Literal.{startSlot, stopSlot}
 use Rattle.sql.specs.Condition as sql
 use Rattle.sql.specs.Translators.{translate}
 use Rattle.text.specs.Text as gpkg
-use Rattle.room.specs.Room.{lengthLimit}
-use Rattle.room.specs.RoomLaws.{sized-got}
-use Rattle.text.specs.Lowered.{fitted, lowering}
+use Rattle.text.specs.Lowered.{lengthLimit, fitted, lowering}
+use Rattle.text.specs.LoweredLaws.{fitted-got}
 use Rattle.row.specs.Row.{Column, Found, absent, has, val}
 use Rattle.row.specs.Row as row
 use Rattle.truth.specs.declared.Truth.{Truth}
@@ -79,11 +78,11 @@ accepted-is c s p e =
     go g false q = placed-is g s p q
 
 pub parts : {writing : Writing} {t : Tree} {x : List ℕ} → Lowers writing t x → Parts writing t x
-unfolding lowering also fitted
+unfolding lowering also
 parts {writing} {t} {x} L =
     let a = accepted-is (L .settings) (L .tree) (L .holds, t) (L .read) in
     let e : fitted (L .room) (gpkg.text writing (L .holds) t) ≡ got x = rw (L .read) at (L .lowered) in
-    let f = sized-got (L .room) (length (gpkg.text writing (L .holds) t)) (gpkg.text writing (L .holds) t) x e in
+    let f = fitted-got (L .room) (gpkg.text writing (L .holds) t) x e in
     record {
       with = L .holds;
       text-is = sym (f .is);
