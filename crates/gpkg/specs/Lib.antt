@@ -1,2 +1,3 @@
 -- Laws.
+pub mod RefusalLaws
 pub mod PreviewLaws
