@@ -16,13 +16,17 @@ use Rattle.tree.specs.Parse.{Read, refused, got, also}
 use Rattle.tree.specs.ParseLaws.{also-got, not-got}
 use Rattle.tree.specs.Accepted.{accepted}
 use Rattle.room.specs.Room.{sized}
+use Rattle.text.specs.declared.Lowered as lowered
 use Rattle.text.specs.Text.{text}
 use Rattle.text.specs.Lowered.{lengthLimit, answer, fitted, said, heard, lowering}
 
-pub heard-answer : (x : Read (List ℕ)) → heard (answer x) ≡ said x
+heard-answer : (x : Read (List ℕ)) → heard (answer x) ≡ said x
 unfolding answer
 heard-answer (refused n) = refl
 heard-answer (got x) = refl
+
+pub heard-said : {r : lowered.Lowered} (x : Read (List ℕ)) → r ≡ answer x → heard r ≡ said x
+heard-said x e = ap heard e ∙ heard-answer x
 
 -- a text that fits, and y is what is given
 pub record Fits (room : ℕ) (x y : List ℕ) : Type 0 where
