@@ -5,7 +5,7 @@
  * The library is for x86-64 Linux.
  *
  * Settings, trees and rows are handed in as the records below. Any bytes may be handed in: what breaks a rule is refused
- * by a number and never read out of bounds. The three functions are proved to give the numbers and bytes below on all
+ * by a number and never read out of bounds. The five functions are proved to give the numbers and bytes below on all
  * inputs (crates/capi, crates/gpkg, crates/truth).
  *
  * Two of them write. They take the same arguments and refuse by the same rules: 1 to 7 the same inputs, 8 and 9 by the
@@ -21,6 +21,11 @@
  * start to .., take wenduulig_to_geopackage_sql, over DATETIME and DATE columns; by the other call such a stay ends before it
  * begins. A Date is '2024-02-29' in both texts, for DATE columns; an open start, and an Unbounded that is no end of an
  * Interval, is '-2021-01-01' in both, below every instant.
+ *
+ * Each of the two has a preview, wenduulig_preview_sql and wenduulig_preview_geopackage_sql. It takes the size of a buffer in
+ * the place of one, any size_t, writes nothing, and answers what the call that writes would with a buffer of that size: the
+ * length of the text, or the refusal. With SIZE_MAX, or any size from WENDUULIG_TEXT_MAX on, 9 does not occur: the answer is
+ * the length to reserve, or a refusal of 1 to 8. It costs what the call that writes does before it writes.
  *
  * Records. Length, 4 bytes; kind, 2 bytes; body. Numbers are little-endian; the length counts kind and body.
  *    0 Null, 1 Unbounded (..)   empty
@@ -59,7 +64,7 @@
  *                        TBefore, TDisjoint, TEquals and TIntersects lacks an Interval on a side, or the right side of
  *                        BETWEEN or NOT BETWEEN is no Array of exactly two
  *    8      text         longer than 65,535 bytes
- *    9      buffer       shorter than the text
+ *    9      buffer       shorter than the text; in a preview the size is less than the text's length
  *   10      text, row    the text is longer than 65,535 bytes or the row than 32,768
  *   11      row          no run of records of kind 200 as above, or two of its names are equal in any letter case
  *   12      text         outside the grammar, or more than 64 brackets one inside another. The grammar: comparisons by
@@ -72,7 +77,7 @@
  *
  * Memory. The caller lends every byte and keeps it: nothing is allocated, freed or kept after the return. A pointer is
  * followed by the number of bytes that it lends. It is not NULL, also where that number is 0. `out` overlaps neither
- * `settings` nor `tree`. Other parts may overlap; they are only read.
+ * `settings` nor `tree`. Other parts may overlap; they are only read. The `size` of a preview lends nothing.
  *
  * Threads. There is no state: any number of calls may run at once, as long as no call's `out` overlaps bytes of another
  * call. Each needs less than 128 KiB of stack, and every call ends. Of the C library only memcpy and memset are called.
@@ -94,6 +99,13 @@
  *        printf("%.*s\n%d\n", (int)n, (const char *)out, (int)wenduulig_read(out, (size_t)n, row, sizeof row));
  *        return 0;
  *    }
+ *
+ * The same with no more space than the text needs; n is then the answer of both calls:
+ *
+ *        int64_t n = wenduulig_preview_sql(settings, sizeof settings, tree, sizeof tree, SIZE_MAX);
+ *        if (n < 0) { printf("refused: %d\n", (int)-n); return 1; }
+ *        uint8_t *out = malloc((size_t)n);
+ *        if (out) wenduulig_to_sql(settings, sizeof settings, tree, sizeof tree, out, (size_t)n);
  */
 #ifndef WENDUULIG_H
 #define WENDUULIG_H
@@ -105,7 +117,7 @@
 extern "C" {
 #endif
 
-/* The limits, in bytes. A buffer of WENDUULIG_TEXT_MAX bytes is never refused by 9. */
+/* The limits, in bytes. A buffer of WENDUULIG_TEXT_MAX bytes, and a preview of that size, is never refused by 9. */
 #define WENDUULIG_TREE_MAX 32768
 #define WENDUULIG_TEXT_MAX 65535
 #define WENDUULIG_ROW_MAX 32768
@@ -223,6 +235,14 @@ int64_t wenduulig_to_sql(const uint8_t *settings, size_t settings_len, const uin
  * end of an Interval above every instant: 'A'. For stays that have not ended, and for DATETIME columns. */
 int64_t wenduulig_to_geopackage_sql(const uint8_t *settings, size_t settings_len, const uint8_t *tree, size_t tree_len,
                                     uint8_t *out, size_t out_len);
+
+/* What wenduulig_to_sql answers with an `out` of `size` bytes, and nothing is written: 0 or more, the length of the text, or
+ * -1 to -9, the refusal. */
+int64_t wenduulig_preview_sql(const uint8_t *settings, size_t settings_len, const uint8_t *tree, size_t tree_len, size_t size);
+
+/* The same of wenduulig_to_geopackage_sql. */
+int64_t wenduulig_preview_geopackage_sql(const uint8_t *settings, size_t settings_len, const uint8_t *tree, size_t tree_len,
+                                         size_t size);
 
 /* Reads what `text` says of `row`: an enum wenduulig_truth, or -10 to -13 for a refusal.
  * The text need not come from a call that writes; it has no closing zero byte. An empty row (row_len 0) has no columns.

@@ -1,5 +1,6 @@
 /* Tests of include/wenduulig.h: texts, truths, every refusal, and that lent bytes stay as they were; all of lowering by both
- * calls that write. Each part is handed over in memory of exactly its size, so that valgrind sees any access past its end. */
+ * calls that write, and by their previews. Each part is handed over in memory of exactly its size, so that valgrind sees any
+ * access past its end. */
 #include <pthread.h>
 #include <stdio.h>
 #include <stdlib.h>
@@ -16,14 +17,15 @@ struct bytes {
     size_t n;
 };
 
-/* The calls that write, what stands after a timestamp's seconds, and an Interval's open end. */
+/* The calls that write, with their previews, what stands after a timestamp's seconds, and an Interval's open end. */
 static const struct writing {
     int64_t (*to_sql)(const uint8_t *, size_t, const uint8_t *, size_t, uint8_t *, size_t);
+    int64_t (*preview)(const uint8_t *, size_t, const uint8_t *, size_t, size_t);
     const char *name, *after, *end;
-} first_call = {wenduulig_to_sql, "to_sql", "", "'-2021-01-01'"},
-  second_call = {wenduulig_to_geopackage_sql, "to_geopackage_sql", ".000Z", "'A'"},
+} first_call = {wenduulig_to_sql, wenduulig_preview_sql, "to_sql", "", "'-2021-01-01'"},
+  second_call = {wenduulig_to_geopackage_sql, wenduulig_preview_geopackage_sql, "to_geopackage_sql", ".000Z", "'A'"},
   /* what is tested is reading, on texts of the first */
-  before_reading = {wenduulig_to_sql, "read", "", "'-2021-01-01'"};
+  before_reading = {wenduulig_to_sql, wenduulig_preview_sql, "read", "", "'-2021-01-01'"};
 
 static const struct writing *writing = &first_call;
 static int passed, failed;
@@ -239,12 +241,40 @@ static int32_t read_row(const void *text, size_t text_len, const struct bytes *r
 
 static struct bytes settings, tree, text, row;
 
-static void expect_text(size_t out_len, const char *want, const char *what)
+/* What the preview answers of a buffer of this size; INT64_MIN, which is no answer, if a byte of its inputs changed. */
+static int64_t preview(size_t size)
+{
+    uint8_t *s = exact_copy(settings.at, settings.n);
+    uint8_t *t = exact_copy(tree.at, tree.n);
+    int64_t n = writing->preview(s, settings.n, t, tree.n, size);
+    int kept = memcmp(s, settings.at, settings.n) == 0 && memcmp(t, tree.at, tree.n) == 0;
+    free(s);
+    free(t);
+    return kept ? n : INT64_MIN;
+}
+
+/* The text's length from that size on, 9 below it. */
+static void expect_previews(size_t n, const char *what)
+{
+    check(preview(0) == -WENDUULIG_BUFFER_TOO_SHORT, what);
+    check(preview(n - 1) == -WENDUULIG_BUFFER_TOO_SHORT, what);
+    check(preview(n) == (int64_t)n, what);
+    check(preview(n + 1) == (int64_t)n, what);
+    check(preview(SIZE_MAX) == (int64_t)n, what);
+}
+
+static void expect_length(size_t out_len, size_t want, const char *what)
 {
     int clean;
-    int64_t n = lower(&settings, &tree, out_len, &text, &clean);
-    check(n == (int64_t)strlen(want) && memcmp(text.at, want, strlen(want)) == 0, what);
+    check(lower(&settings, &tree, out_len, &text, &clean) == (int64_t)want, what);
     check(clean, "bytes past the text and the inputs are as lent");
+    expect_previews(want, what);
+}
+
+static void expect_text(size_t out_len, const char *want, const char *what)
+{
+    expect_length(out_len, strlen(want), what);
+    check(text.n == strlen(want) && memcmp(text.at, want, text.n) == 0, what);
 }
 
 static void expect_refusal(size_t out_len, int number, const char *what)
@@ -253,6 +283,11 @@ static void expect_refusal(size_t out_len, int number, const char *what)
     int64_t n = lower(&settings, &tree, out_len, &text, &clean);
     check(n == -number, what);
     check(clean && text.n == 0, "after a refusal every lent byte is as it was");
+    check(preview(out_len) == -number, what);
+    if (number == WENDUULIG_BUFFER_TOO_SHORT)
+        return;
+    check(preview(0) == -number, what);
+    check(preview(SIZE_MAX) == -number, what);
 }
 
 static void expect_read(const char *sql, int32_t want, const char *what)
@@ -381,17 +416,17 @@ static void make_many_stamps(struct bytes *b, int n, const char *name)
 /* 8 and 9 count the text that the call writes. */
 static void test_timestamp_limits(void)
 {
-    int clean, second = *writing->after != 0;
+    int second = *writing->after != 0;
     make_settings(&settings);
     make_many_stamps(&tree, 2340, "thirteen_long");
-    int64_t whole = second ? 65535 : 53835;
-    check(lower(&settings, &tree, 65535, &text, &clean) == whole && clean, "2,340 timestamps, 65,535 bytes by the second call");
-    expect_refusal((size_t)whole - 1, WENDUULIG_BUFFER_TOO_SHORT, "9: a buffer one byte short of it");
+    size_t whole = second ? 65535 : 53835;
+    expect_length(65535, whole, "2,340 timestamps, 65,535 bytes by the second call");
+    expect_refusal(whole - 1, WENDUULIG_BUFFER_TOO_SHORT, "9: a buffer one byte short of it");
     make_many_stamps(&tree, 2340, "fourteen_bytes");
     if (second)
         expect_refusal(65535, WENDUULIG_TEXT_TOO_LONG, "8: a byte more, which the first call takes");
     else
-        check(lower(&settings, &tree, 65535, &text, &clean) == 53836 && clean, "a byte more, which the second call refuses with 8");
+        expect_length(65535, 53836, "a byte more, which the second call refuses with 8");
 }
 
 /* What each call's text says of an instant as a GeoPackage stores it, and without .000Z. */
@@ -528,9 +563,8 @@ static void test_open_end_limits(void)
         }
         put_str(&tree, 0, filler + 1 - more);
         end(&tree, both);
-        int clean, second = *writing->after != 0;
-        if (second && !more)
-            check(lower(&settings, &tree, 65535, &text, &clean) == 65535 && clean, "65,535 bytes, an 8 by the first call");
+        if (*writing->after && !more)
+            expect_length(65535, 65535, "65,535 bytes, an 8 by the first call");
         else
             expect_refusal(65535, WENDUULIG_TEXT_TOO_LONG, "8: open ends written twice at each level");
     }
@@ -612,10 +646,9 @@ static void test_inner_refusals(void)
 /* 8 and 9, at their limits. */
 static void test_length_refusals(void)
 {
-    int clean;
     make_settings(&settings);
     make_long(&tree, 4368, "thirteen_long");
-    check(lower(&settings, &tree, 65535, &text, &clean) == 65535 && clean, "a text of 65,535 bytes");
+    expect_length(65535, 65535, "a text of 65,535 bytes");
     expect_refusal(65534, WENDUULIG_BUFFER_TOO_SHORT, "9: a buffer one byte short of it");
     make_long(&tree, 4368, "fourteen_bytes");
     expect_refusal(65600, WENDUULIG_TEXT_TOO_LONG, "8: a text of 65,536 bytes, though the buffer is larger");
@@ -623,6 +656,65 @@ static void test_length_refusals(void)
     make_sheet_j(&tree);
     expect_refusal(strlen(sheet_j) - 1, WENDUULIG_BUFFER_TOO_SHORT, "9: a buffer one byte short of sheet J");
     expect_refusal(0, WENDUULIG_BUFFER_TOO_SHORT, "9: an empty buffer");
+}
+
+/* Every size around the two calls' lengths, 21 and 26 bytes, and sizes that 32 or 63 bits do not hold. */
+static void test_preview_sizes(void)
+{
+    const size_t n = *writing->after ? 26 : 21;
+    const size_t large[] = {65534, 65535, 65536, UINT32_MAX, (size_t)UINT32_MAX + 1, (size_t)UINT32_MAX + 21, SIZE_MAX / 2,
+                            SIZE_MAX / 2 + 1, SIZE_MAX - 1, SIZE_MAX};
+    make_settings(&settings);
+    tree.n = 0;
+    put_stamp(&tree);
+    for (size_t size = 0; size <= 30; size++)
+        check(preview(size) == (size < n ? -WENDUULIG_BUFFER_TOO_SHORT : (int64_t)n), "each size up to 30");
+    for (size_t i = 0; i < sizeof large / sizeof *large; i++)
+        check(preview(large[i]) == (int64_t)n, "a size that no buffer needs");
+}
+
+/* The longest text at each size about the limit; of a text that is too long 8, whatever the size. */
+static void test_preview_limits(void)
+{
+    make_settings(&settings);
+    make_long(&tree, 4368, "thirteen_long");
+    for (size_t size = 65530; size < 65540; size++)
+        check(preview(size) == (size < 65535 ? -WENDUULIG_BUFFER_TOO_SHORT : 65535), "a text of 65,535 bytes");
+    make_long(&tree, 4368, "fourteen_bytes");
+    for (size_t size = 65530; size < 65540; size++)
+        check(preview(size) == -WENDUULIG_TEXT_TOO_LONG, "a text of 65,536 bytes");
+    check(preview((size_t)UINT32_MAX + 1) == -WENDUULIG_TEXT_TOO_LONG, "a text of 65,536 bytes");
+}
+
+/* And of a text that is too long and an Interval out of place: 7 comes before 8. */
+static void test_preview_order(void)
+{
+    static struct bytes longer;
+    make_settings(&settings);
+    make_long(&longer, 4368, "fourteen_bytes");
+    tree.n = 0;
+    size_t both = begin_op(&tree, WENDUULIG_DYADIC, WENDUULIG_AND);
+    put(&tree, longer.at, longer.n);
+    put_interval(&tree, "a", "b");
+    end(&tree, both);
+    expect_refusal(100, WENDUULIG_BAD_OPERAND, "7 comes before 8 and 9");
+    tree.at[tree.n - 1] = '-';
+    expect_refusal(100, WENDUULIG_BAD_FIELD, "6 comes before 7, 8 and 9");
+    tree.n--;
+    expect_refusal(100, WENDUULIG_BAD_FRAME, "3 comes before 7, 8 and 9");
+    settings.at[6] = 16;
+    expect_refusal(100, WENDUULIG_BAD_SETTINGS, "1 comes before 3");
+}
+
+/* The header's second example: a buffer of just the bytes that the preview names. */
+static void test_reserving(void)
+{
+    make_settings(&settings);
+    make_stamps(&tree);
+    int64_t n = preview(SIZE_MAX);
+    int clean;
+    check(n > 0 && lower(&settings, &tree, (size_t)n, &text, &clean) == n && clean, "a buffer as the preview has it");
+    check(preview((size_t)n) == n, "the same preview after writing");
 }
 
 static void test_truths(void)
@@ -778,10 +870,9 @@ static void make_run(struct bytes *b, unsigned byte, size_t n)
 static void test_string_limits(void)
 {
     char value[70];
-    int clean;
     make_settings(&settings);
     make_run(&tree, '\'', 4096);
-    check(lower(&settings, &tree, 8194, &text, &clean) == 8194 && clean, "4,096 apostrophes in 8,194 bytes");
+    expect_length(8194, 8194, "4,096 apostrophes in 8,194 bytes");
     expect_refusal(8193, WENDUULIG_BUFFER_TOO_SHORT, "9: 4,096 apostrophes in 8,193 bytes");
     make_run(&tree, '\'', 4097);
     expect_refusal(9000, WENDUULIG_BAD_FIELD, "6: 4,097 apostrophes");
@@ -807,7 +898,7 @@ static void test_string_limits(void)
 /* Each prefix of sheet J's tree, each byte of it changed to each other: an answer in range, and lent bytes as they were. */
 static void test_damage(void)
 {
-    int clean, all = 1, short_ones = 1;
+    int clean, all = 1, short_ones = 1, alike = 1;
     make_settings(&settings);
     make_sheet_j(&tree);
     size_t whole = tree.n;
@@ -818,10 +909,12 @@ static void test_damage(void)
         for (unsigned x = 0; x < 256; x++) {
             make_sheet_j(&tree);
             tree.at[i] = (uint8_t)x;
-            lower(&settings, &tree, 80, &text, &clean);
+            int64_t n = lower(&settings, &tree, 80, &text, &clean);
             all = all && clean;
+            alike = alike && preview(80) == n && preview(0) == (n < 0 ? n : -WENDUULIG_BUFFER_TOO_SHORT);
         }
     check(all, "each tree with a changed byte leaves what is lent as it was");
+    check(alike, "each tree with a changed byte has a preview that answers as writing does");
 }
 
 /* The row of sheet J's text on which damage is tried. */
@@ -869,6 +962,7 @@ static void *deepest(void *nothing)
     make_settings(&settings);
     make_deep(&tree, 32);
     check(lower(&settings, &tree, 400, &text, &clean) == 31 * 6 + 4 && clean, "32 levels on a stack of 128 KiB");
+    check(preview(400) == 31 * 6 + 4, "a preview of 32 levels on a stack of 128 KiB");
     row.n = 0;
     make_brackets(&text, 64);
     check(read_row(text.at, text.n, &row) == WENDUULIG_TRUE, "64 brackets on a stack of 128 KiB");
@@ -900,6 +994,10 @@ static void test_lowering(const struct writing *call)
     test_outer_refusals();
     test_inner_refusals();
     test_length_refusals();
+    test_preview_sizes();
+    test_preview_limits();
+    test_preview_order();
+    test_reserving();
     test_strings();
     test_string_limits();
     test_damage();
