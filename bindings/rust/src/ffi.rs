@@ -1,4 +1,4 @@
-//! The three C functions of include/wenduulig.h, and nothing else: the only unsafe code of this crate.
+//! The five C functions of include/wenduulig.h, and nothing else: the only unsafe code of this crate.
 #![allow(unsafe_code)]
 
 extern "C" {
@@ -18,13 +18,30 @@ extern "C" {
         out: *mut u8,
         out_len: usize,
     ) -> i64;
+    fn wenduulig_preview_sql(
+        settings: *const u8,
+        settings_len: usize,
+        tree: *const u8,
+        tree_len: usize,
+        size: usize,
+    ) -> i64;
+    fn wenduulig_preview_geopackage_sql(
+        settings: *const u8,
+        settings_len: usize,
+        tree: *const u8,
+        tree_len: usize,
+        size: usize,
+    ) -> i64;
     fn wenduulig_read(text: *const u8, text_len: usize, row: *const u8, row_len: usize) -> i32;
 }
 
 /// A function that writes.
 type Writer = unsafe extern "C" fn(*const u8, usize, *const u8, usize, *mut u8, usize) -> i64;
 
-/// How timestamps and open ends are written: which of the two functions is called.
+/// A function that answers what one that writes would.
+type Preview = unsafe extern "C" fn(*const u8, usize, *const u8, usize, usize) -> i64;
+
+/// How timestamps and open ends are written: which of the functions that write, and of their previews, is called.
 #[derive(Clone, Copy)]
 pub(crate) enum Writing {
     /// The text of ogc-cql2.
@@ -42,6 +59,16 @@ pub(crate) fn lower(writing: Writing, settings: &[u8], tree: &[u8], out: &mut [u
     // SAFETY: each pointer is a slice's, not null and valid for its length; `out` is lent exclusively, so it overlaps
     // neither of the others; neither function keeps a pointer.
     unsafe { writer(settings.as_ptr(), settings.len(), tree.as_ptr(), tree.len(), out.as_mut_ptr(), out.len()) }
+}
+
+/// What [`lower`] answers with an `out` of this size.
+pub(crate) fn preview(writing: Writing, settings: &[u8], tree: &[u8], size: usize) -> i64 {
+    let preview: Preview = match writing {
+        Writing::Rust => wenduulig_preview_sql,
+        Writing::GeoPackage => wenduulig_preview_geopackage_sql,
+    };
+    // SAFETY: both pointers are slices', not null and valid for their lengths; the function only reads and keeps nothing.
+    unsafe { preview(settings.as_ptr(), settings.len(), tree.as_ptr(), tree.len(), size) }
 }
 
 /// 1 true, 0 false, 2 unknown, or minus the refusal's number.

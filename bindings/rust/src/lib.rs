@@ -1,8 +1,8 @@
 //! Lowers CQL2 filters to SQL text for a GeoPackage, by one call byte for byte that of ogc-cql2 but for apostrophes in
 //! strings, which are doubled as SQLite reads them, by another with timestamps as a GeoPackage stores them and with open ends
-//! above every instant; and reads what a time filter's text says of a row.
+//! above every instant; says before how long either text is; and reads what a time filter's text says of a row.
 //!
-//! All three are done by functions that are proved to meet the papers' rules on all inputs (crates/capi of this
+//! All of it is done by functions that are proved to meet the papers' rules on all inputs (crates/capi of this
 //! repository, linked as `libcapi.a`, for x86-64 Linux); this crate builds their bytes from Rust types and refuses nothing
 //! itself, except where an `f64` fits no [`Num`]. The layout of the bytes stands in include/wenduulig.h.
 //!
@@ -17,13 +17,20 @@
 //! intervals from a start to `..`, take [`to_geopackage_sql`], of DATETIME columns and of DATE columns: by [`to_sql`] such a
 //! stay ends before it begins. An open start, and a `..` that is no end of an interval, is `'-2021-01-01'` by both.
 //!
+//! [`preview_sql`] and [`preview_geopackage_sql`] answer what a call would that writes into a buffer of some size: the length
+//! of the text, or the refusal. With [`TEXT_MAX`] or more, as `usize::MAX`, the length is what has to be reserved.
+//!
 //! ```
-//! use wenduulig::{read, to_geopackage_sql, to_sql, Op, Refusal, Row, Settings, E};
+//! use wenduulig::{preview_sql, read, to_geopackage_sql, to_sql, Op, Refusal, Row, Settings, E};
 //!
 //! // Stays that do not touch the day `a`: TDisjoint(a, [b, c]).
 //! let filter = E::dyadic(Op::TDisjoint, E::id("a"), E::interval(E::id("b"), E::id("c")));
 //! let sql = to_sql(&Settings::default(), &filter)?;
 //! assert_eq!(sql, r#"("c" IS NOT NULL AND (a < b)) OR ("b" IS NOT NULL AND (a > c))"#);
+//!
+//! // Its length was to be had before, and a buffer that is a byte too short is refused.
+//! assert_eq!(preview_sql(&Settings::default(), &filter, usize::MAX), Ok(62));
+//! assert_eq!(preview_sql(&Settings::default(), &filter, 61), Err(Refusal::BufferTooShort));
 //!
 //! let row = Row::new().with("a", "2024-01-02").with("b", "2024-01-03").with("c", "2024-01-04");
 //! assert_eq!(read(&sql, &row)?, Some(true));
@@ -81,8 +88,11 @@ pub use settings::Settings;
 /// The length of the longest text, in bytes.
 pub const TEXT_MAX: usize = 65_535;
 
-/// Most texts are shorter; a longer one is lowered anew into [`TEXT_MAX`] bytes.
+/// The bytes that are tried first for a tree of no more; for a longer tree [`TIMES_TREE`] times its own. Most texts are shorter,
+/// and one that is not is lowered anew into [`TEXT_MAX`] bytes. To ask for the length by a preview costs more than half a call,
+/// and took longer wherever it was tried.
 const FIRST_TRY: usize = 1024;
+const TIMES_TREE: usize = 3;
 
 /// The SQL text of a filter, byte for byte that of ogc-cql2 but for doubled apostrophes. `..` lies below every instant, also as
 /// the end of an interval: for stays that have not ended take [`to_geopackage_sql`].
@@ -136,9 +146,77 @@ pub fn to_geopackage_sql_into(settings: &[u8], tree: &[u8], out: &mut [u8]) -> R
     lower_into(Writing::GeoPackage, settings, tree, out)
 }
 
+/// The length that [`to_sql`]'s text has, in bytes, if it is no longer than `size`: what [`to_sql_into`] answers with a buffer
+/// of that size. With [`TEXT_MAX`] or more no text is too long for it.
+///
+/// # Errors
+/// The first refusal of 1 to 9 that document 01's order gives.
+///
+/// ```
+/// use wenduulig::{preview_sql, Refusal, Settings, E};
+///
+/// let (settings, filter) = (Settings::default(), E::str("O'Ring"));
+/// assert_eq!(preview_sql(&settings, &filter, usize::MAX), Ok(9)); // 'O''Ring'
+/// assert_eq!(preview_sql(&settings, &filter, 8), Err(Refusal::BufferTooShort));
+/// assert_eq!(preview_sql(&settings, &E::str("O\tRing"), 0), Err(Refusal::BadField));
+/// ```
+pub fn preview_sql(settings: &Settings, filter: &E, size: usize) -> Result<usize, Refusal> {
+    preview_sql_bytes(&settings.encode(), &filter.encode(), size)
+}
+
+/// The same of records, as [`to_sql_bytes`]; for a caller that reserves its own buffers.
+///
+/// # Errors
+/// The first refusal of 1 to 9 that document 01's order gives. Any bytes may be handed in.
+///
+/// ```
+/// use wenduulig::{preview_sql_bytes, to_sql_into, Op, Refusal, Settings, E};
+///
+/// let settings = Settings::default().encode();
+/// let tree = E::dyadic(Op::TAfter, E::id("entered"), E::date(2024, 2, 29)).encode();
+/// let mut out = vec![0; preview_sql_bytes(&settings, &tree, usize::MAX)?];
+/// assert_eq!(to_sql_into(&settings, &tree, &mut out), Ok(out.len()));
+/// assert_eq!(out, b"entered > '2024-02-29'");
+/// # Ok::<(), Refusal>(())
+/// ```
+pub fn preview_sql_bytes(settings: &[u8], tree: &[u8], size: usize) -> Result<usize, Refusal> {
+    answered(ffi::preview(Writing::Rust, settings, tree, size))
+}
+
+/// The same of [`to_geopackage_sql`]: what [`to_geopackage_sql_into`] answers with a buffer of that size.
+///
+/// # Errors
+/// Those of [`preview_sql`]; 8 and 9 count the text of this call.
+///
+/// ```
+/// use wenduulig::{preview_geopackage_sql, preview_sql, Settings, E};
+///
+/// let (settings, noon) = (Settings::default(), E::timestamp(2024, 2, 29, 12, 0, 0));
+/// assert_eq!(preview_sql(&settings, &noon, usize::MAX), Ok(21));
+/// assert_eq!(preview_geopackage_sql(&settings, &noon, usize::MAX), Ok(26)); // .000Z
+/// ```
+pub fn preview_geopackage_sql(settings: &Settings, filter: &E, size: usize) -> Result<usize, Refusal> {
+    preview_geopackage_sql_bytes(&settings.encode(), &filter.encode(), size)
+}
+
+/// The same of records, as [`preview_sql_bytes`].
+///
+/// # Errors
+/// Those of [`preview_sql_bytes`]; 8 and 9 count the text of this call.
+pub fn preview_geopackage_sql_bytes(settings: &[u8], tree: &[u8], size: usize) -> Result<usize, Refusal> {
+    answered(ffi::preview(Writing::GeoPackage, settings, tree, size))
+}
+
 fn lower(writing: Writing, settings: &[u8], tree: &[u8]) -> Result<String, Refusal> {
-    let mut first = [0; FIRST_TRY];
-    match lower_into(writing, settings, tree, &mut first) {
+    let (mut short, mut long);
+    let first: &mut [u8] = if tree.len() <= FIRST_TRY {
+        short = [0; FIRST_TRY];
+        &mut short
+    } else {
+        long = vec![0; TEXT_MAX.min(tree.len().saturating_mul(TIMES_TREE))];
+        &mut long
+    };
+    match lower_into(writing, settings, tree, first) {
         Err(Refusal::BufferTooShort) => {
             let mut out = vec![0; TEXT_MAX];
             let n = lower_into(writing, settings, tree, &mut out)?;
@@ -149,7 +227,11 @@ fn lower(writing: Writing, settings: &[u8], tree: &[u8]) -> Result<String, Refus
 }
 
 fn lower_into(writing: Writing, settings: &[u8], tree: &[u8], out: &mut [u8]) -> Result<usize, Refusal> {
-    let answer = ffi::lower(writing, settings, tree, out);
+    answered(ffi::lower(writing, settings, tree, out))
+}
+
+/// A length, or the refusal of an answer below zero.
+fn answered(answer: i64) -> Result<usize, Refusal> {
     usize::try_from(answer).map_err(|_| refusal(answer))
 }
 
