@@ -11,5 +11,5 @@ The makers of stored answers (tools/answers), fuzz, bench and the tests expect w
     checker     which settings and trees are accepted: refusals 1 to 7
     lowering    the SQL text of an accepted tree, in either writing
     reader      a text's truth on a row: refusals 11 to 13
-    calls       the three calls as a caller hears them: the order of the refusals, 2 and 8 to 10 among them
+    calls       the calls as a caller hears them: the order of the refusals, 2 and 8 to 10 among them; previews
     c           the same in the numbers of the C functions, and the lent buffer"""

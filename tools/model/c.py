@@ -12,6 +12,11 @@ def to_sql(answer, room):
     return -answer if isinstance(answer, int) else len(answer)
 
 
+def preview(answer, size):
+    """Of either preview: what its call that writes says with a buffer of `size` bytes; none is lent."""
+    return to_sql(answer, size)
+
+
 def left(answer, out):
     """The same with the buffer `out`, and its bytes afterwards."""
     said = to_sql(answer, len(out))

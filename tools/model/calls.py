@@ -1,5 +1,5 @@
-"""The calls as a caller hears them (document 01, "What a caller hears"; document 02, slips 4 and 5, for the second that writes): a text, a truth, or the
-number of the first refusal in its order."""
+"""The calls as a caller hears them (document 01, "What a caller hears"; document 02, slips 4 and 5, for the second that writes, slip 6 for
+previews): a text, a length, a truth, or the number of the first refusal in its order."""
 from . import checker, lowering, reader
 from .limits import PLANNER, ROW, SQL
 from .lowering import GEOPACKAGE, RUST
@@ -50,6 +50,12 @@ def to_sql(settings, tree, room, writing=RUST):
 def to_geopackage_sql(settings, tree, room):
     """The same of the second call, which writes timestamps as a GeoPackage stores them, and an Interval's open end above every instant."""
     return to_sql(settings, tree, room, GEOPACKAGE)
+
+
+def preview(settings, tree, size, writing=RUST):
+    """What the call of the writing would answer with a buffer of `size` bytes: the text's length and no refusal, or no length and the refusal's number."""
+    answer = to_sql(settings, tree, size, writing)
+    return (None, answer) if isinstance(answer, int) else (len(answer), None)
 
 
 def reading(text, row):

@@ -7,7 +7,7 @@ import os
 import re
 import unittest
 
-from model import calls, lowering, names, records, strings
+from model import c as c_numbers, calls, lowering, names, records, strings
 from model.records import SHEET_SETTINGS, array, dyadic, encode, ident, interval, monadic, null, row, settings_record
 
 SETTINGS = settings_record(SHEET_SETTINGS)
@@ -203,6 +203,46 @@ class Refusals(unittest.TestCase):
         for _ in range(30):
             tree = ('dyadic', 'TEquals', tree, ('interval', B, C))
         self.refused(8, encode(tree), room=0)
+
+
+class Previews(unittest.TestCase):
+    SIZES = 65535, 65536, 2 ** 32, 2 ** 63, 2 ** 64 - 1    # which no text passes
+
+    def test_lengths(self):
+        """Of texts written by hand: 9 below the length, and from it on the length."""
+        for tree, form in TEXTS + STAMPS:
+            for writing, stamp in ((lowering.RUST, WRITTEN), (lowering.GEOPACKAGE, LONGER)):
+                if tree[0] == 'timestamp' and tree != STAMP:
+                    continue    # its form is the first writing's text
+                n = len(form.replace('%', stamp).encode()) if (tree, form) in STAMPS else len(form.encode())
+                for size in (0, n - 1):
+                    self.assertEqual(calls.preview(SETTINGS, encode(tree), size, writing), (None, 9))
+                for size in (n, n + 1, *self.SIZES):
+                    self.assertEqual(calls.preview(SETTINGS, encode(tree), size, writing), (n, None))
+
+    def test_open_ends(self):
+        since = encode(('dyadic', 'TAfter', A, SINCE_B))    # "b" IS NOT NULL AND (a > ..)
+        for writing, n in ((lowering.RUST, 39), (lowering.GEOPACKAGE, 29)):
+            self.assertEqual([calls.preview(SETTINGS, since, size, writing) for size in (n - 1, n)], [(None, 9), (n, None)])
+
+    def test_refusals_at_every_size(self):
+        longer, apart = array(*[records.unbounded()] * 4368, ident(b'fourteen_bytes')), interval(null(), null())
+        for number, settings, tree in ((1, b'', bytes(32769)), (2, SETTINGS, bytes(32769)), (3, SETTINGS, b''), (4, SETTINGS, nested(33)),
+                                       (5, SETTINGS, records.record(14)), (6, SETTINGS, ident(b'and')), (7, SETTINGS, apart),
+                                       (7, SETTINGS, dyadic(14, longer, apart)), (8, SETTINGS, longer)):
+            for size in (0, 1, 100, *self.SIZES):
+                for writing in (lowering.RUST, lowering.GEOPACKAGE):
+                    self.assertEqual(calls.preview(settings, tree, size, writing), (None, number))
+
+    def test_the_longest(self):
+        longest = array(*[records.unbounded()] * 4368, ident(b'thirteen_long'))
+        self.assertEqual(calls.preview(SETTINGS, longest, 65534), (None, 9))
+        for size in self.SIZES:
+            self.assertEqual(calls.preview(SETTINGS, longest, size), (65535, None))
+
+    def test_numbers(self):
+        for answer, size, said in ((b'NULL', 3, -9), (b'NULL', 4, 4), (b'NULL', 2 ** 64 - 1, 4), (7, 0, -7), (8, 0, -8), (8, 2 ** 64 - 1, -8)):
+            self.assertEqual(c_numbers.preview(answer, size), said)
 
 
 class Names(unittest.TestCase):
