@@ -6,7 +6,7 @@ from lowering_cases import Lowerings
 from model.lowering import GEOPACKAGE, RUST
 from reading_cases import Readings
 
-WRITINGS = {'L': RUST, 'G': GEOPACKAGE}    # of the cases of the two calls that write; R is for reading
+WRITINGS = {'L': RUST, 'G': GEOPACKAGE, 'l': RUST, 'g': GEOPACKAGE}    # of the two calls that write, in small letters of their previews; R is for reading
 
 DATETIME = 'timestamps against DATETIME values'    # of which SQLite is asked on columns that are declared so
 
@@ -20,6 +20,7 @@ LOWERING = [
     ('settings at their limits', 'settings_edges', 250),
     ('random bytes as a tree', 'random_bytes', 250), ('random records', 'random_records', 700), ('30 to 34 levels', 'deep', 200),
     ('tree of 32,768 bytes', 'tree_limit', 40), ('text of 65,535 bytes', 'text_limit', 40), ('doubled and unwritten ends', 'doubled_ends', 60),
+    ('text too long, and wrong besides', 'long_and_wrong', 80),
     ('empty settings or tree', 'empty', 50), ('tree too long', 'too_long', 60), ('stored large trees', 'large', 10)]
 READING = [
     ('texts in the grammar', 'grammar', 1000), ('texts of time filters', 'lowered', 600), (DATETIME, 'stamped', 400),

@@ -6,6 +6,8 @@
 
 int64_t true_to_sql(const uint8_t *, size_t, const uint8_t *, size_t, uint8_t *, size_t);
 int64_t true_to_geopackage_sql(const uint8_t *, size_t, const uint8_t *, size_t, uint8_t *, size_t);
+int64_t true_preview_sql(const uint8_t *, size_t, const uint8_t *, size_t, size_t);
+int64_t true_preview_geopackage_sql(const uint8_t *, size_t, const uint8_t *, size_t, size_t);
 int32_t true_read(const uint8_t *, size_t, const uint8_t *, size_t);
 
 static uint8_t copy[140000];
@@ -361,6 +363,101 @@ int64_t wenduulig_to_geopackage_sql(const uint8_t *s, size_t sn, const uint8_t *
     if (FAULT == 63) /* 63 the second call writes '-2021-01-01' for an open end */
         return ends_written(true_to_geopackage_sql, END, "-2021-01-01", s, sn, t, tn, out, room);
     return faulty_to_geopackage_sql(s, sn, t, tn, out, room, true_to_geopackage_sql(s, sn, t, tn, out, room));
+}
+
+typedef int64_t previewer(const uint8_t *, size_t, const uint8_t *, size_t, size_t);
+
+/* Whether the tree is an operator of two operands, one of which has by itself a text of more than 65,535 bytes. The tree is one that was refused with 7. */
+static int has_long_side(const uint8_t *s, size_t sn, const uint8_t *t, size_t tn)
+{
+    uint32_t length;
+    if (t[4] != WENDUULIG_DYADIC)
+        return 0;
+    memcpy(&length, t + 8, 4);
+    size_t second = 12 + (size_t)length;
+    return true_preview_sql(s, sn, t + 8, second - 8, 0) == -8 || true_preview_sql(s, sn, t + second, tn - second, 0) == -8;
+}
+
+/* The length of the text that the call writes, with its apostrophes once. */
+static int64_t undoubled(writer *call, const uint8_t *s, size_t sn, const uint8_t *t, size_t tn)
+{
+    static uint8_t whole[65536];
+    int64_t n = call(s, sn, t, tn, whole, sizeof whole);
+    size_t m = 0;
+    rewritten(whole, n < 0 ? 0 : (size_t)n, 1, &m);
+    return (int64_t)m;
+}
+
+/* A refusal that comes too early or too late, or not at all; n is the true answer, of the size. */
+static int64_t faulty_order(const uint8_t *s, size_t sn, const uint8_t *t, size_t tn, size_t size, int64_t n)
+{
+    switch (FAULT) {
+    case 67: /* 67 a preview skips 7 */
+        return n == -7 ? (size < tn ? -9 : (int64_t)tn) : n;
+    case 68: /* 68 a preview answers 8 before 7 */
+        return n == -7 && has_long_side(s, sn, t, tn) ? -8 : n;
+    case 69: /* 69 a preview answers 9 before 7 */
+        return n == -7 && size == 0 ? -9 : n;
+    case 70: /* 70 a preview answers 9 before 8 */
+        return n == -8 && size <= 65535 ? -9 : n;
+    case 71: /* 71 a preview of no bytes is refused with 9, whatever the tree */
+        return size == 0 ? -9 : n;
+    case 72: /* 72 a preview knows no limit of 65,535 bytes */
+        return n == -8 ? (size < 65536 ? -9 : 65536) : n;
+    case 73: /* 73 a preview refuses a text of 65,535 bytes with 8 */
+        return n == 65535 ? -8 : n;
+    default:
+        return n;
+    }
+}
+
+/* A length or a size that is another, or bytes that were not lent or should have been left. */
+static int64_t faulty_preview(previewer *call, const uint8_t *s, size_t sn, const uint8_t *t, size_t tn, size_t size)
+{
+    int64_t n = call(s, sn, t, tn, size);
+    switch (FAULT) {
+    case 74: /* 74 a preview refuses a size of the text's exact length */
+        return n == (int64_t)size ? -9 : n;
+    case 75: /* 75 a preview takes a size that is one byte too small */
+        return n == -9 ? call(s, sn, t, tn, size + 1) : n;
+    case 76: /* 76 a preview ignores the size */
+        return n == -9 ? call(s, sn, t, tn, SIZE_MAX) : n;
+    case 77: /* 77 a preview takes 32 bits of the size */
+        return call(s, sn, t, tn, (uint32_t)size);
+    case 78: /* 78 a preview takes the size for a number with a sign */
+        return n >= 0 && (int64_t)size < 0 ? -9 : n;
+    case 79: /* 79 a preview counts an apostrophe once */
+        return n < 0 ? n : undoubled(call == true_preview_sql ? true_to_sql : true_to_geopackage_sql, s, sn, t, tn);
+    case 80: /* 80 a preview changes the tree's last byte */
+        if (n >= 0)
+            ((uint8_t *)t)[tn - 1] ^= 1;
+        return n;
+    case 81: /* 81 a preview reads the byte after the settings */
+        sink = s[sn];
+        return n;
+    case 82: /* 82 a preview answers the size in the place of the length */
+        return n >= 0 && size <= WENDUULIG_TEXT_MAX ? (int64_t)size : n;
+    default:
+        return faulty_order(s, sn, t, tn, size, n);
+    }
+}
+
+int64_t wenduulig_preview_sql(const uint8_t *s, size_t sn, const uint8_t *t, size_t tn, size_t size)
+{
+    if (FAULT == 83) /* 83 the first call's preview is that of the second */
+        return true_preview_geopackage_sql(s, sn, t, tn, size);
+    return faulty_preview(true_preview_sql, s, sn, t, tn, size);
+}
+
+int64_t wenduulig_preview_geopackage_sql(const uint8_t *s, size_t sn, const uint8_t *t, size_t tn, size_t size)
+{
+    if (FAULT == 84) /* 84 the second call's preview is that of the first */
+        return true_preview_sql(s, sn, t, tn, size);
+    if (FAULT == 85 && true_preview_sql(s, sn, t, tn, size) == -8) /* 85 the second call's preview decides 8 by the first call's length */
+        return -8;
+    if (FAULT == 86 && true_preview_sql(s, sn, t, tn, size) == -9) /* 86 the second call's preview decides 9 by the first call's length */
+        return -9;
+    return faulty_preview(true_preview_geopackage_sql, s, sn, t, tn, size);
 }
 
 /* A string of a text or row that is read as it should not be. */

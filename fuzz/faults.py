@@ -6,7 +6,7 @@ HERE = os.path.dirname(os.path.abspath(__file__))
 
 def build(archive, folder, number):
     real, path = os.path.join(folder, 'libtrue.a'), os.path.join(folder, 'fault%d.so' % number)
-    names = ['wenduulig_%s=true_%s' % (name, name) for name in ('to_sql', 'to_geopackage_sql', 'read')]
+    names = ['wenduulig_%s=true_%s' % (name, name) for name in ('to_sql', 'to_geopackage_sql', 'preview_sql', 'preview_geopackage_sql', 'read')]
     subprocess.run(['objcopy', *(word for name in names for word in ('--redefine-sym', name)), archive, real], check=True)
     subprocess.run(['gcc', '-D_GNU_SOURCE', '-DFAULT=%d' % number, '-O1', '-fPIC', '-shared', '-I', os.path.join(HERE, '..', 'include'), '-o', path,
                     os.path.join(HERE, 'faults.c'), real], check=True)

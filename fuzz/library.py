@@ -1,4 +1,4 @@
-"""The library's three calls on lent bytes that lie between pages which no program may touch, with marks beside them."""
+"""The library's calls on lent bytes that lie between pages which no program may touch, with marks beside them."""
 import ctypes, mmap, random
 
 from model import c as c_numbers
@@ -48,8 +48,11 @@ class Library:
         c = ctypes.CDLL(path)
         slice_ = [ctypes.c_void_p, ctypes.c_size_t]
         self.writers, self.reader = {RUST: c.wenduulig_to_sql, GEOPACKAGE: c.wenduulig_to_geopackage_sql}, c.wenduulig_read
+        self.previews = {RUST: c.wenduulig_preview_sql, GEOPACKAGE: c.wenduulig_preview_geopackage_sql}
         for writer in self.writers.values():
             writer.argtypes, writer.restype = slice_ * 3, ctypes.c_int64
+        for preview in self.previews.values():
+            preview.argtypes, preview.restype = slice_ * 2 + [ctypes.c_size_t], ctypes.c_int64
         self.reader.argtypes, self.reader.restype = slice_ * 2, ctypes.c_int32
         self.one, self.two, self.out = Lent(18), Lent(18), Lent(18)
 
@@ -60,6 +63,11 @@ class Library:
         after, marked = self.out.now()
         touched = [what for what, kept in (('settings', self.one.kept()), ('tree', self.two.kept()), ('beside out', marked)) if not kept]
         return answer, after, touched
+
+    def preview(self, writing, settings, tree, size, at_end):
+        a, b = self.one.place(settings, at_end), self.two.place(tree, at_end)
+        answer = self.previews[writing](a, len(settings), b, len(tree), size)
+        return answer, [what for what, kept in (('settings', self.one.kept()), ('tree', self.two.kept())) if not kept]
 
     def read(self, text, row, at_end):
         a, b = self.one.place(text, at_end), self.two.place(row, at_end)
@@ -75,6 +83,13 @@ def check_lowering(library, writing, settings, tree, want, room, noise, at_end):
     if (answer, after) == right and not touched:
         return None
     return right, (answer, after), touched
+
+
+def check_preview(library, writing, settings, tree, want, size, noise, at_end):
+    """The same of a preview, which is lent no buffer and so no noise."""
+    right = c_numbers.preview(want, size)
+    answer, touched = library.preview(writing, settings, tree, size, at_end)
+    return None if answer == right and not touched else ((right, b''), (answer, b''), touched)
 
 
 def check_reading(library, text, row, want, at_end):

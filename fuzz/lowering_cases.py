@@ -14,7 +14,7 @@ def numbers(names):
     return [NUMBER[name] for name in names]
 
 
-AND, EQ = numbers(('And', 'Eq'))
+AND, EQ, BETWEEN = numbers(('And', 'Eq', 'IsBetween'))
 SPANNING = numbers(INSTANT_OR_INTERVAL)
 OPEN = ('unbounded',)
 SOUP = numbers('Eq And TAfter TDisjoint TEquals TIntersects IsBetween'.split())
@@ -203,6 +203,15 @@ class Lowerings:
             if r.random() < .1:
                 t = ('dyadic', r.choice(('TAfter', 'TBefore')), ('id', 'a'), ('interval', t, ('id', 'e')))
         return self.settings(), encode(t)
+
+    def long_and_wrong(self):
+        """A text past 65,535 bytes, and beside it what is refused before a text is counted; or the settings are wrong."""
+        r, t = self.r, ('id', 'a')
+        for _ in range(r.randint(13, 28)):
+            t = ('dyadic', 'TEquals', t, ('interval', ('id', 'b'), ('id', 'c')))
+        wrong = r.choice((INTERVAL, INTERVAL, records.dyadic(BETWEEN, trees.A, records.array(trees.A)), records.record(14), records.ident(b'1'), b'\0'))
+        sides = r.choice(((encode(t), wrong), (wrong, encode(t))))
+        return (self.settings() if r.random() < .9 else b''), records.dyadic(AND, *sides)
 
     def empty(self):
         r = self.r

@@ -5,8 +5,9 @@ from cases import WRITINGS
 from damage import NULL
 from generators.edits import records_of, replaced, resized
 from generators.trees import SETTINGS
-from library import Library, check_lowering, check_reading
+from library import Library, check_lowering, check_preview, check_reading
 from model import c as c_numbers, calls
+from model.limits import PLANNER
 
 SECONDS = 20
 
@@ -33,12 +34,13 @@ def smaller(data, which, part):
 
 
 def again(library, which, a, b, lent):
-    """What disagrees on these inputs; the buffer keeps its distance from the text's length."""
+    """What disagrees on these inputs; the buffer keeps its distance from the text's length, unless no text is as long."""
     if which == 'R':
         return lent, check_reading(library, a, b, c_numbers.read(a, b), *lent)
-    want = calls.heard(calls.lowered, a, b, WRITINGS[which])
-    room = lent[0] if isinstance(want, int) else max(0, len(want) + lent[3]) if len(lent) > 3 else lent[0]
-    return (room, *lent[1:]), check_lowering(library, WRITINGS[which], a, b, want, room, lent[1], lent[2])
+    want, check = calls.heard(calls.lowered, a, b, WRITINGS[which]), check_lowering if which.isupper() else check_preview
+    near = len(lent) > 3 and not isinstance(want, int) and lent[0] <= PLANNER.text
+    room = max(0, len(want) + lent[3]) if near else lent[0]
+    return (room, *lent[1:]), check(library, WRITINGS[which], a, b, want, room, lent[1], lent[2])
 
 
 def signature(which, found):
