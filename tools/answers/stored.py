@@ -40,6 +40,17 @@ def framed(*parts):
     return b''.join(struct.pack('<I', len(part)) + part for part in parts)
 
 
+def cases(word, count):
+    """The cases of the file of that name, each of so many parts."""
+    with open(os.path.join(CRATES, 'replay', 'data', word), 'rb') as f:
+        data, parts, at = f.read(), [], 0
+    while at < len(data):
+        size = struct.unpack_from('<I', data, at)[0]
+        parts.append(data[at + 4:at + 4 + size])
+        at += 4 + size
+    return list(zip(*[iter(parts)] * count))
+
+
 def lowering_case(settings, tree, room, answer):
     """The buffer's length in four bytes; the answer a byte 0 and the text, or the refusal's number."""
     return settings, tree, struct.pack('<I', room), bytes([answer]) if isinstance(answer, int) else b'\0' + answer
