@@ -18,6 +18,7 @@ MORE = '''examples:
   ./filter filters/during.json --geopackage target/demo/stays.gpkg
   ./filter filters/late_shift.json --geopackage target/demo/stays.gpkg --writing rust
   ./filter filters/not_ended.json --writing geopackage
+  ./filter filters/not_ended.json --writing geopackage --length
   cat filters/during.json | ./filter - --geopackage target/demo/stays.gpkg --table stays
 
 timestamps:
@@ -88,6 +89,7 @@ def parser():
     p.add_argument('--writing', metavar='{%s,%s}' % (RUST, GEOPACKAGE), type=writing_name,
                    help='how timestamps and open ends are written: as ogc-cql2 does, or as GeoPackage and CQL2 have them (default: geopackage with '
                         '--geopackage, else rust)')
+    p.add_argument('--length', action='store_true', help="show the text's length in bytes in the place of the text, and no rows")
     p.add_argument('--rows', metavar='N', type=whole(0, 10 ** 9), default=40, help='show at most N rows (default 40; 0: all)')
     p.add_argument('--spatialite', action='store_true', help='load SpatiaLite, for the s_ operators')
     p.add_argument('--strict', action='store_true', help='refuse a filter that has a warning')
@@ -174,13 +176,14 @@ def run(arguments):
     scratch = prepare.Scratch(tree, collations)
     where = Table(package, name, options.spatialite, options.srid, writing) if package else NoTable(options.srid, writing)
     found = warnings_of(value, tree, sql, settings, scratch, where)
+    runs = package is not None and not options.length
     # on a GeoPackage what SQLite cannot run ends the command, and is said once
-    ending = [one for one in found if one.cannot] if package and scratch.error(sql) and not options.strict else []
+    ending = [one for one in found if one.cannot] if runs and scratch.error(sql) and not options.strict else []
     tell([one for one in found if one not in ending], options.strict)
-    print(sql)
+    print(len(sql.encode()) if options.length else sql)
     if ending:
         raise BadInput('SQLite cannot run this text: %s; %s' % (scratch.error(sql), ending[0].instead), ending[0].place)
-    if package:
+    if runs:
         print(LINES[writing], end='\n\n')
         show_rows(package, name, sql, options.rows)
 

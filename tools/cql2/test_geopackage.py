@@ -9,11 +9,12 @@ import tempfile
 import unittest
 
 from demo import log
+from model import calls
 
-from . import checking, geopackage, proved, spatialite, table, writing
+from . import checking, geopackage, proved, records, spatialite, table, writing
 from .errors import Disagreement
 from .test_errors import run
-from .test_texts import interval, op, sql_of
+from .test_texts import interval, op, sql_of, tree_of
 
 STAY = interval({'property': 'entry'}, {'property': 'exit'})
 LABEL, TRAY, ENTRY, EXIT = ({'property': name} for name in ('label', 'tray', 'entry', 'exit'))
@@ -140,6 +141,19 @@ fid  label  tray    entry       exit        place              seen
             self.assertEqual(lines[1], writing.LINES[writing.GEOPACKAGE if after else writing.RUST])
             self.assertEqual((lines[2], lines[-1]), ('', '%d of 200 rows' % count))
             self.assertEqual(done.stderr.decode().count('filter: warning at $.args[0].args[1]: '), 0 if after else 1)
+
+    def test_length_alone(self):
+        """In bytes, of the writing that is taken, as the model's preview has it; without rows, and refused as ever."""
+        for data in (True, op('=', LABEL, "O'Ring für 5 mm"), op('t_after', {'property': 'seen'}, {'timestamp': '2026-03-16T14:00:00Z'})):
+            for words, call in (([], writing.RUST), (['--writing', 'geopackage'], writing.GEOPACKAGE), (['-g', self.path], writing.GEOPACKAGE)):
+                length, _ = calls.preview(records.settings(7, *COLLATIONS), tree_of(data).encode(), 65535, call)
+                done = run(json.dumps(data), '--length', *words)
+                self.assertEqual((done.stdout, done.stderr, done.returncode), (b'%d\n' % length, b'', 0))
+        for words in (['--length'], []):
+            self.assertTrue(self.line(json.dumps(op('isNull', {'property': 'order'})), *words, status=1).startswith('filter: refused (6) at $.args[0].property'))
+        done = run(json.dumps(op('=', {'property': 'fid'}, op('^', 2, 3))), '--length', '-g', self.path)
+        self.assertEqual((done.stdout, done.returncode), (b'13\n', 0))    # fid = (2 ^ 3), which is not run
+        self.assertTrue(done.stderr.startswith(b'filter: warning at $.args[1]: '))
 
     def test_values_to_the_millisecond(self):
         """The log has 24-byte values, and the second call's texts pick them by their instants."""
