@@ -12,9 +12,13 @@
 enum { MOST = 128 };
 struct input { char kind; size_t count; struct bytes (*ones)[4]; };
 typedef int64_t writer(const uint8_t *, size_t, const uint8_t *, size_t, uint8_t *, size_t);
+typedef int64_t previewer(const uint8_t *, size_t, const uint8_t *, size_t, size_t);
+typedef int32_t reader(const uint8_t *, size_t, const uint8_t *, size_t);
+/* An earlier build may lack a function: it is NULL. */
 struct build {
     writer *to_sql, *to_geopackage_sql;
-    int32_t (*read)(const uint8_t *, size_t, const uint8_t *, size_t);
+    previewer *preview_sql, *preview_geopackage_sql;
+    reader *read;
 };
 
 static struct input inputs[MOST];
@@ -42,9 +46,15 @@ static void load_inputs(const char *path)
     fclose(f);
 }
 
-static writer *writer_of(const struct input *i, const struct build *b)
+static int has_function(const struct input *i, const struct build *b)
 {
-    return i->kind == 'L' ? b->to_sql : b->to_geopackage_sql;
+    switch (i->kind) {
+    case 'L': return b->to_sql != NULL;
+    case 'G': return b->to_geopackage_sql != NULL;
+    case 'P': return b->preview_sql != NULL;
+    case 'Q': return b->preview_geopackage_sql != NULL;
+    default: return b->read != NULL;
+    }
 }
 
 static void load_build(const char *path)
@@ -55,19 +65,28 @@ static void load_build(const char *path)
     struct build *b = &builds[build_count++];
     *(void **)&b->to_sql = dlsym(so, "wenduulig_to_sql");
     *(void **)&b->to_geopackage_sql = dlsym(so, "wenduulig_to_geopackage_sql");
+    *(void **)&b->preview_sql = dlsym(so, "wenduulig_preview_sql");
+    *(void **)&b->preview_geopackage_sql = dlsym(so, "wenduulig_preview_geopackage_sql");
     *(void **)&b->read = dlsym(so, "wenduulig_read");
     for (size_t k = 0; k < input_count; k++)
-        if (inputs[k].kind == 'R' ? !b->read : !writer_of(&inputs[k], b))
+        if (!has_function(&inputs[k], b))
             fail("a library lacks a function that an input is for");
+}
+
+static int64_t call(char kind, const struct build *b, const struct bytes *p)
+{
+    if (kind == 'L' || kind == 'G')
+        return (kind == 'L' ? b->to_sql : b->to_geopackage_sql)(p[0].at, p[0].n, p[1].at, p[1].n, out, sizeof out);
+    if (kind == 'P' || kind == 'Q')
+        return (kind == 'P' ? b->preview_sql : b->preview_geopackage_sql)(p[0].at, p[0].n, p[1].at, p[1].n, sizeof out);
+    return b->read(p[0].at, p[0].n, p[1].at, p[1].n);
 }
 
 static int64_t pass(const struct input *i, const struct build *b)
 {
     int64_t sum = 0;
-    for (size_t k = 0; k < i->count; k++) {
-        const struct bytes *p = i->ones[k];
-        sum += i->kind == 'R' ? b->read(p[0].at, p[0].n, p[1].at, p[1].n) : writer_of(i, b)(p[0].at, p[0].n, p[1].at, p[1].n, out, sizeof out);
-    }
+    for (size_t k = 0; k < i->count; k++)
+        sum += call(i->kind, b, i->ones[k]);
     return sum;
 }
 

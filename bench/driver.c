@@ -1,4 +1,4 @@
-/* Runs the library's three calls, the Rust's lowering and SQLite on the inputs that bench/run wrote: one process, one round of each after the other.
+/* Runs the library's calls, the Rust's lowering and SQLite on the inputs that bench/run wrote: one process, one round of each after the other.
 
    driver time INPUTS ROUNDS             a line for each input and side: input, side, answer, then nanoseconds a call, round by round
    driver count INPUTS INPUT SIDE TIMES  only makes the calls, for callgrind to count
@@ -15,6 +15,7 @@ void rust_copy(const void *, size_t);
 uint64_t rust_decode_lower(const uint8_t *, size_t, const uint8_t *, size_t, size_t);
 size_t rust_text(const void *, uint8_t *, size_t);
 
+enum { MOST = 96 };
 enum { OURS, RUST, RUST_DECODE, RUST_COPY, PREPARE_STEP, STEP };
 static const char *side_names[] = {"ours", "rust", "rust_decode", "rust_copy", "prepare_step", "step"};
 struct one { struct bytes part[4]; void *tree; sqlite3 *base; sqlite3_stmt *ready; };
@@ -64,8 +65,10 @@ static void load(const char *path)
 static int64_t ours(char kind, const struct one *o)
 {
     const struct bytes *p = o->part;
-    if (kind != 'R')
+    if (kind == 'L' || kind == 'G')
         return (kind == 'L' ? wenduulig_to_sql : wenduulig_to_geopackage_sql)(p[0].at, p[0].n, p[1].at, p[1].n, out, sizeof out);
+    if (kind == 'P' || kind == 'Q')
+        return (kind == 'P' ? wenduulig_preview_sql : wenduulig_preview_geopackage_sql)(p[0].at, p[0].n, p[1].at, p[1].n, sizeof out);
     return wenduulig_read(p[0].at, p[0].n, p[1].at, p[1].n);
 }
 
@@ -161,9 +164,9 @@ static long long same(const struct input *i)
 
 static void measure(size_t rounds)
 {
-    static double got[64][6][256];
-    static size_t times[64][6];
-    if (input_count > 64 || rounds > 256)
+    static double got[MOST][6][256];
+    static size_t times[MOST][6];
+    if (input_count > MOST || rounds > 256)
         fail("too many inputs or rounds");
     for (size_t r = 0; r <= rounds; r++)    /* the round 0 only finds how many passes take two milliseconds */
         for (size_t k = 0; k < input_count; k++)

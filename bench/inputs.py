@@ -124,6 +124,9 @@ def table(cells):
     return 'CREATE TABLE t (%s); INSERT INTO t VALUES (%s);' % (', '.join('"%s" TEXT' % n for n, _ in cells), ', '.join(values))
 
 
+PREVIEW = {'L': 'P', 'G': 'Q'}    # of a call that writes
+
+
 def lowering(trees, call='L'):
     return call, [(SETTINGS, encode(t), b'', b'') for t in trees]
 
@@ -236,6 +239,15 @@ def stamped():
     return [(label, lowering(trees), lowering(trees, 'G')) for label, trees in (
         ('time filters with timestamps', STAMP_FILTERS), ('time filters, mostly dates', TIME_FILTERS), ('mixed filters, no timestamp', MIXED_FILTERS),
         ('1,800 timestamps', [listed]), ('stays that have not ended', NOT_ENDED_FILTERS), ('700 open ends', [ended]))]
+
+
+def previewed():
+    """Label, the trees by a call that writes, and by its preview: filters, large trees, those that are refused after the check and after counting."""
+    refused, long = checked()[1][1], worst()[0][1]
+    return [(label, case, (PREVIEW[case[0]], case[1])) for label, case in (
+        ('time filters', lowering(TIME_FILTERS)), ('mixed filters', lowering(MIXED_FILTERS)), ('32 KB trees', lowering(large(PLANNER.tree))),
+        ('stays that have not ended, 2nd call', lowering(NOT_ENDED_FILTERS, 'G')), ('a 32 KB tree that is refused, 7', refused),
+        ('29 TDisjoint, refused with 8', long))]
 
 
 def compared():
