@@ -243,7 +243,7 @@ def stamped():
 
 def previewed():
     """Label, the trees by a call that writes, and by its preview: filters, large trees, those that are refused after the check and after counting."""
-    refused, long = checked()[1][1], worst()[0][1]
+    refused, long = dict(checked())['a 32 KB tree'], dict(worst())['29 TDisjoint inside one another']
     return [(label, case, (PREVIEW[case[0]], case[1])) for label, case in (
         ('time filters', lowering(TIME_FILTERS)), ('mixed filters', lowering(MIXED_FILTERS)), ('32 KB trees', lowering(large(PLANNER.tree))),
         ('stays that have not ended, 2nd call', lowering(NOT_ENDED_FILTERS, 'G')), ('a 32 KB tree that is refused, 7', refused),
