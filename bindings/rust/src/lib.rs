@@ -89,8 +89,8 @@ pub use settings::Settings;
 pub const TEXT_MAX: usize = 65_535;
 
 /// The bytes that are tried first for a tree of no more; for a longer tree [`TIMES_TREE`] times its own. Most texts are shorter,
-/// and one that is not is lowered anew into [`TEXT_MAX`] bytes. To ask for the length by a preview costs more than half a call,
-/// and took longer wherever it was tried.
+/// and one that is not is lowered anew into [`TEXT_MAX`] bytes. Asking for the length by a preview first would cost more than
+/// half a call each time (examples/reserving.rs).
 const FIRST_TRY: usize = 1024;
 const TIMES_TREE: usize = 3;
 

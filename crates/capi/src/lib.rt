@@ -49,7 +49,7 @@ pub extern "C" fn wenduulig_to_geopackage_sql(settings: &[u8], tree: &[u8], out:
     number(gpkg::to_geopackage_sql(settings, tree, out))
 }
 
-// What `wenduulig_to_sql` answers of a buffer of this size, with nothing written.
+// What `wenduulig_to_sql` answers with a buffer of this size; nothing is written.
 #[no_mangle]
 pub extern "C" fn wenduulig_preview_sql(settings: &[u8], tree: &[u8], size: usize) -> i64
     ensures { λ r. ⌜ r ≡ loweringNumber (said (lowering Rust (now (settings .entry)) (now (tree .entry)) size)) ⌝ }
@@ -57,7 +57,7 @@ pub extern "C" fn wenduulig_preview_sql(settings: &[u8], tree: &[u8], size: usiz
     number(gpkg::preview(Writing::Rust, settings, tree, size))
 }
 
-// What `wenduulig_to_geopackage_sql` answers of a buffer of this size, with nothing written.
+// What `wenduulig_to_geopackage_sql` answers with a buffer of this size; nothing is written.
 #[no_mangle]
 pub extern "C" fn wenduulig_preview_geopackage_sql(settings: &[u8], tree: &[u8], size: usize) -> i64
     ensures { λ r. ⌜ r ≡ loweringNumber (said (lowering GeoPackage (now (settings .entry)) (now (tree .entry)) size)) ⌝ }

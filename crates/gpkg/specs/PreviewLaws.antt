@@ -15,13 +15,14 @@ use Rattle.text.specs.Text.{text}
 use Rattle.text.specs.declared.Lowered.{Lowered}
 use Rattle.text.specs.declared.Lowered.the-variants.{Text, Refused}
 use Rattle.text.specs.Lowered.{lengthLimit, answer, fitted, leaves, lowering}
-use Rattle.text.specs.LoweredLaws.{given, at-room}
+use Rattle.text.specs.LoweredLaws.{Given, given, at-room, fitted-got}
 
 -- "the length or the refusal that writing into such a buffer would give": p is what a preview answers, r what writing answers, into `lent`, which it
--- leaves as `left`. A length is that of the text which then stands before the other bytes as lent; with a refusal all are as lent.
-pub record Tells (p r : Lowered) (lent left : List ℕ) : Type 0 where
+-- leaves as `left`. A length is that of the text of accepted settings and tree, which then stands before the other bytes as lent; with a refusal all
+-- are as lent.
+pub record Tells (w : Writing) (settings tree : List ℕ) (p r : Lowered) (lent left : List ℕ) : Type 0 where
   pub alike : p ≡ r
-  pub length-told : (n : ℕ) → p ≡ Text n → (x : List ℕ) × ((length x ≡ n) × (left ≡ x ++ drop n lent))
+  pub length-told : (n : ℕ) → p ≡ Text n → (x : List ℕ) × (Given w settings tree x × ((length x ≡ n) × ((n ≤ length lent) × (left ≡ x ++ drop n lent))))
   pub refusal-told : (e : Refusal) → p ≡ Refused e → left ≡ lent
 
 -- Slip 6, for every input: the preview at the size of whatever is lent, by its contract, and the writing call, by its own.
@@ -30,26 +31,31 @@ pub preview-tells : (w : Writing) (settings tree lent left : List ℕ) (size : �
     → p ≡ answer (lowering w settings tree size)
     → r ≡ answer (lowering w settings tree (length lent))
     → left ≡ leaves lent (lowering w settings tree (length lent))
-    → Tells p r lent left
+    → Tells w settings tree p r lent left
 unfolding answer leaves
 preview-tells w settings tree lent left size p r s a b c =
     let d : p ≡ answer (lowering w settings tree (length lent)) = a ∙ ap (λ (k : ℕ). answer (lowering w settings tree k)) s in
     record {
       alike = d ∙ sym b;
-      length-told = λ n e. of-length (lowering w settings tree (length lent)) n (sym e ∙ d) c;
+      length-told = λ n e. of-length (lowering w settings tree (length lent)) n refl (sym e ∙ d) c;
       refusal-told = λ n e. of-refusal (lowering w settings tree (length lent)) n (sym e ∙ d) c;
     }
   where
-    of-length : (l : Read (List ℕ)) (n : ℕ) → Text n ≡ answer l → left ≡ leaves lent l → (x : List ℕ) × ((length x ≡ n) × (left ≡ x ++ drop n lent))
-    of-length (refused e) n q z = absurd (let v : _≡_ {A = ℕ} 0 1 = cc in let u : ⊥ = omega arith in u)
-    of-length (got x) n q z = let v : length x ≡ n = cc in (x, (v, z ∙ ap (λ (k : ℕ). x ++ drop k lent) v))
+    of-length : (l : Read (List ℕ)) (n : ℕ) → lowering w settings tree (length lent) ≡ l → Text n ≡ answer l → left ≡ leaves lent l
+        → (x : List ℕ) × (Given w settings tree x × ((length x ≡ n) × ((n ≤ length lent) × (left ≡ x ++ drop n lent))))
+    of-length (refused e) n y q z = absurd (let v : _≡_ {A = ℕ} 0 1 = cc in let u : ⊥ = omega arith in u)
+    of-length (got x) n y q z =
+        let v : length x ≡ n = cc in
+        let g = given w settings tree (length lent) x y in
+        let f = fitted-got (length lent) x x (sym (at-room w settings tree x (length lent) g) ∙ y) in
+        (x, (g, (v, (omega (arith, f .enough), z ∙ ap (λ (k : ℕ). x ++ drop k lent) v))))
 
     of-refusal : (l : Read (List ℕ)) (n : Refusal) → Refused n ≡ answer l → left ≡ leaves lent l → left ≡ lent
     of-refusal (refused e) n q z = z
     of-refusal (got x) n q z = absurd (let v : _≡_ {A = ℕ} 0 1 = cc in let u : ⊥ = omega arith in u)
 
 -- To reserve space. A text that some size has room for is the text at every size that has room for it, and 9 at every other; from the limit of a text
--- on no size asks for more.
+-- on all sizes answer alike.
 module _ (w : Writing) (settings tree : List ℕ) where
   pub reserved : (size room : ℕ) (x : List ℕ) → lowering w settings tree size ≡ got x → length x ≤ room → lowering w settings tree room ≡ got x
   unfolding fitted

@@ -1,16 +1,16 @@
--- Which refusals a call can give: of settings and tree 1 to 7, of lowering 1 to 9, and 1 to 8 at every size from the limit of a text on. By the
--- definitions' own recursion: no step of reading has another one.
+-- Which refusals a call can give: of settings and tree 1 to 7, of lowering 1 to 9, and 1 to 8 at every size from the limit of a text on. Along the
+-- recursion of the definitions: each step gives a value or one of these.
 use Prim.Native.Nat.{ℕ, zero, suc, _≤_}
 use mathlib.Core.Path.{_≡_, refl, sym, ap, _∙_}
-use mathlib.Core.Bool.{Bool, true, false}
-use mathlib.Core.List.{List, [], _∷_}
+use mathlib.Core.Bool.{Bool, true, false, false≢true}
+use mathlib.Core.List.{List, [], _∷_, _++_}
 use native.Mathlib.Omega.{arith}
 use lib.ListN.{length, getD, drop}
-use lib.Dec.{ltb, leb, eqb}
-use borrow.Author.Tests.{le-leb, leb-true, ltb-true, ltb-false}
-use Rattle.prelude.specs.Choice.{pick}
+use lib.Dec.{ltb, eqb}
+use borrow.Author.Tests.{ltb-true, ltb-false}
+use Rattle.prelude.specs.Choice.{pick, either}
 use Rattle.refusal.specs.declared.Refusal.{Refusal}
-use Rattle.refusal.specs.declared.Refusal.the-variants.{BadField, BufferTooShort}
+use Rattle.refusal.specs.declared.Refusal.the-variants.{BadSettings, TreeTooLong, BadFrame, TooDeep, BadKindOrOperator, BadField, BadOperand, TextTooLong, BufferTooShort}
 use Rattle.refusal.specs.Number.{numberOf}
 use Rattle.literal.specs.declared.Writing.{Writing}
 use Rattle.record.specs.declared.Frame.{Frame}
@@ -34,103 +34,112 @@ use Rattle.text.specs.Lowered.{lengthLimit, fitted, lowering}
 use Rattle.room.specs.Room.{sized}
 use Rattle.room.specs.RoomLaws.{too-long, has-room}
 
--- a value, or a refusal whose number is at most k
-abbrev upTo : {A : Type 0} → ℕ → Read A → Bool
-upTo k (refused n) = leb (numberOf n) k
-upTo k (got a) = true
+-- refusals 1 to 7, of settings and tree
+abbrev pub early : List Refusal
+early = BadSettings ∷ TreeTooLong ∷ BadFrame ∷ TooDeep ∷ BadKindOrOperator ∷ BadField ∷ BadOperand ∷ []
 
-also-upTo : {A B : Type 0} (k : ℕ) (r : Read A) (f : A → Read B) → upTo k r ≡ true → ((a : A) → upTo k (f a) ≡ true) → upTo k (also r f) ≡ true
+-- a refusal stands in a list of them
+abbrev pub isOf : List Refusal → Refusal → Bool
+isOf [] n = false
+isOf (r ∷ rs) n = either (eqb (numberOf r) (numberOf n)) (isOf rs n)
+
+-- a value, or a refusal of the list
+abbrev gives : {A : Type 0} → List Refusal → Read A → Bool
+gives rs (refused n) = isOf rs n
+gives rs (got a) = true
+
+also-gives : {A B : Type 0} (rs : List Refusal) (r : Read A) (f : A → Read B) → gives rs r ≡ true → ((a : A) → gives rs (f a) ≡ true) → gives rs (also r f) ≡ true
 unfolding also
-also-upTo k (refused n) f e g = e
-also-upTo k (got a) f e g = g a
+also-gives rs (refused n) f e g = e
+also-gives rs (got a) f e g = g a
 
-pick-upTo : {A : Type 0} (k : ℕ) (b : Bool) (x y : Read A) → upTo k x ≡ true → upTo k y ≡ true → upTo k (pick b x y) ≡ true
-pick-upTo k true x y e f = e
-pick-upTo k false x y e f = f
+pick-gives : {A : Type 0} (rs : List Refusal) (b : Bool) (x y : Read A) → gives rs x ≡ true → gives rs y ≡ true → gives rs (pick b x y) ≡ true
+pick-gives rs true x y e f = e
+pick-gives rs false x y e f = f
 
 -- all lines of a table of kinds
 abbrev Each : List ℕ → List Row → Type 0
 Each s [] = _≡_ {A = ℕ} 0 0
-Each s (r ∷ rs) = (upTo 7 (r .read s) ≡ true) × Each s rs
+Each s (r ∷ rs) = (gives early (r .read s) ≡ true) × Each s rs
 
-choose-upTo : (k : ℕ) (s : List ℕ) (rs : List Row) → Each s rs → upTo 7 (choose k s rs) ≡ true
+choose-gives : (k : ℕ) (s : List ℕ) (rs : List Row) → Each s rs → gives early (choose k s rs) ≡ true
 unfolding choose
-choose-upTo k s [] e = refl
-choose-upTo k s (r ∷ rs) e = pick-upTo 7 (eqb k (r .kind)) (r .read s) (choose k s rs) (e .0) (choose-upTo k s rs (e .1))
+choose-gives k s [] e = refl
+choose-gives k s (r ∷ rs) e = pick-gives early (eqb k (r .kind)) (r .read s) (choose k s rs) (e .0) (choose-gives k s rs (e .1))
 
 -- Records below which each body gives one of 1 to 7.
-module _ (body : Body) (below : (j : ℕ) (s : List ℕ) → upTo 7 (body j s) ≡ true) where
-  cons-upTo : (s : List ℕ) (f : Frame) (more : List ℕ → Read Trees) → ((t : List ℕ) → upTo 7 (more t) ≡ true) → upTo 7 (cons body s f more) ≡ true
+module _ (body : Body) (below : (j : ℕ) (s : List ℕ) → gives early (body j s) ≡ true) where
+  cons-gives : (s : List ℕ) (f : Frame) (more : List ℕ → Read Trees) → ((t : List ℕ) → gives early (more t) ≡ true) → gives early (cons body s f more) ≡ true
   unfolding cons
-  cons-upTo s Broken more h = refl
-  cons-upTo s (Whole k e) more h = also-upTo 7 _ _ (below k _) (λ t. also-upTo 7 _ _ (h (drop e s)) (λ ts. refl))
+  cons-gives s Broken more h = refl
+  cons-gives s (Whole k e) more h = also-gives early _ _ (below k _) (λ t. also-gives early _ _ (h (drop e s)) (λ ts. refl))
 
-  end-upTo : (s : List ℕ) → upTo 7 (end s) ≡ true
+  end-gives : (s : List ℕ) → gives early (end s) ≡ true
   unfolding end
-  end-upTo [] = refl
-  end-upTo (x ∷ s) = refl
+  end-gives [] = refl
+  end-gives (x ∷ s) = refl
 
-  exactly-upTo : (n : ℕ) (s : List ℕ) → upTo 7 (exactly body n s) ≡ true
+  exactly-gives : (n : ℕ) (s : List ℕ) → gives early (exactly body n s) ≡ true
   unfolding exactly
-  exactly-upTo zero s = end-upTo s
-  exactly-upTo (suc n) s = cons-upTo s (frame s) _ (λ t. exactly-upTo n t)
+  exactly-gives zero s = end-gives s
+  exactly-gives (suc n) s = cons-gives s (frame s) _ (λ t. exactly-gives n t)
 
-  many-upTo : (n : ℕ) (s : List ℕ) → upTo 7 (many body n s) ≡ true
+  many-gives : (n : ℕ) (s : List ℕ) → gives early (many body n s) ≡ true
   unfolding many
-  many-upTo zero s = end-upTo s
-  many-upTo (suc n) [] = refl
-  many-upTo (suc n) (x ∷ s) = cons-upTo (x ∷ s) (frame (x ∷ s)) _ (λ t. many-upTo n t)
+  many-gives zero s = end-gives s
+  many-gives (suc n) [] = refl
+  many-gives (suc n) (x ∷ s) = cons-gives (x ∷ s) (frame (x ∷ s)) _ (λ t. many-gives n t)
 
-  operated-upTo : (test : Op → Bool) (make : Op → Trees → Tree) (n : ℕ) (s : List ℕ) → upTo 7 (operated test make n body s) ≡ true
+  operated-gives : (test : Op → Bool) (make : Op → Trees → Tree) (n : ℕ) (s : List ℕ) → gives early (operated test make n body s) ≡ true
   unfolding operated allowed
-  operated-upTo test make n s = pick-upTo 7 (ltb (length s) 2) _ _ refl (go (opOf (le16 s 0)))
+  operated-gives test make n s = pick-gives early (ltb (length s) 2) _ _ refl (go (opOf (le16 s 0)))
     where
-      go : (o : Named) → upTo 7 (allowed test (λ o. also (exactly body n (drop 2 s)) (λ ts. got (make o ts))) o) ≡ true
+      go : (o : Named) → gives early (allowed test (λ o. also (exactly body n (drop 2 s)) (λ ts. got (make o ts))) o) ≡ true
       go NoOp = refl
-      go (Is o) = pick-upTo 7 (test o) _ _ (also-upTo 7 _ _ (exactly-upTo n (drop 2 s)) (λ ts. refl)) refl
+      go (Is o) = pick-gives early (test o) _ _ (also-gives early _ _ (exactly-gives n (drop 2 s)) (λ ts. refl)) refl
 
-  function-upTo : (s : List ℕ) → upTo 7 (readFunction body s) ≡ true
+  function-gives : (s : List ℕ) → gives early (readFunction body s) ≡ true
   unfolding readFunction
-  function-upTo s =
-      pick-upTo 7 (namedAt s 0) (also (items body (drop (past s 0) s)) (λ ts. got (function (nameAt s 0) ts))) (refused BadField)
-      (also-upTo 7 (items body (drop (past s 0) s)) _ (many-upTo _ _) (λ ts. refl))
+  function-gives s =
+      pick-gives early (namedAt s 0) (also (items body (drop (past s 0) s)) (λ ts. got (function (nameAt s 0) ts))) (refused BadField)
+      (also-gives early (items body (drop (past s 0) s)) _ (many-gives _ _) (λ ts. refl))
       refl
 
-  leaf-upTo : (right : List ℕ → Bool) (make : List ℕ → Tree) (s : List ℕ) → upTo 7 (leaf right make s) ≡ true
-  leaf-upTo right make s = pick-upTo 7 (right s) _ _ refl refl
+  leaf-gives : (right : List ℕ → Bool) (make : List ℕ → Tree) (s : List ℕ) → gives early (leaf right make s) ≡ true
+  leaf-gives right make s = pick-gives early (right s) _ _ refl refl
 
   -- one line for each line of the table
-  kinds-upTo : (k : ℕ) (s : List ℕ) → upTo 7 (choose k s (kinds body)) ≡ true
+  kinds-gives : (k : ℕ) (s : List ℕ) → gives early (choose k s (kinds body)) ≡ true
   unfolding kinds
-  kinds-upTo k s =
-      choose-upTo k s (kinds body) (
-        leaf-upTo emptyBody (λ s. null) s,
+  kinds-gives k s =
+      choose-gives k s (kinds body) (
+        leaf-gives emptyBody (λ s. null) s,
         (
-          leaf-upTo emptyBody (λ s. unbounded) s,
+          leaf-gives emptyBody (λ s. unbounded) s,
           (
-            leaf-upTo boolBody (λ s. bool (eqb (getD s 0 0) 1)) s,
+            leaf-gives boolBody (λ s. bool (eqb (getD s 0 0) 1)) s,
             (
-              leaf-upTo numBody (λ s. num (mantissa s 0) (getD s 8 0)) s,
+              leaf-gives numBody (λ s. num (mantissa s 0) (getD s 8 0)) s,
               (
-                leaf-upTo strBody (λ s. str (getD s 0 0) (drop 1 s)) s,
+                leaf-gives strBody (λ s. str (getD s 0 0) (drop 1 s)) s,
                 (
-                  leaf-upTo dateBody (λ s. date (le16 s 0) (getD s 2 0) (getD s 3 0)) s,
+                  leaf-gives dateBody (λ s. date (le16 s 0) (getD s 2 0) (getD s 3 0)) s,
                   (
-                    leaf-upTo timestampBody (λ s. timestamp (le16 s 0) (getD s 2 0) (getD s 3 0) (getD s 4 0) (getD s 5 0) (getD s 6 0)) s,
+                    leaf-gives timestampBody (λ s. timestamp (le16 s 0) (getD s 2 0) (getD s 3 0) (getD s 4 0) (getD s 5 0) (getD s 6 0)) s,
                     (
-                      leaf-upTo spatialBody (λ s. spatial (le32 s 0) (drop 4 s)) s,
+                      leaf-gives spatialBody (λ s. spatial (le32 s 0) (drop 4 s)) s,
                       (
-                        leaf-upTo name (λ s. id s) s,
+                        leaf-gives name (λ s. id s) s,
                         (
-                          operated-upTo takesOne (λ o ts. monadic o (first ts)) 1 s,
+                          operated-gives takesOne (λ o ts. monadic o (first ts)) 1 s,
                           (
-                            operated-upTo takesTwo (λ o ts. dyadic o (first ts) (second ts)) 2 s,
+                            operated-gives takesTwo (λ o ts. dyadic o (first ts) (second ts)) 2 s,
                             (
-                              function-upTo s,
+                              function-gives s,
                               (
-                                also-upTo 7 (items body s) (λ ts. got (array ts)) (many-upTo (length s) s) (λ ts. refl),
+                                also-gives early (items body s) (λ ts. got (array ts)) (many-gives (length s) s) (λ ts. refl),
                                 (
-                                  also-upTo 7 (exactly body 2 s) (λ ts. got (interval (first ts) (second ts))) (exactly-upTo 2 s) (λ ts. refl),
+                                  also-gives early (exactly body 2 s) (λ ts. got (interval (first ts) (second ts))) (exactly-gives 2 s) (λ ts. refl),
                                   refl,
                                 ),
                               ),
@@ -147,51 +156,68 @@ module _ (body : Body) (below : (j : ℕ) (s : List ℕ) → upTo 7 (body j s) �
         ),
       )
 
-node-upTo : (levels k : ℕ) (s : List ℕ) → upTo 7 (node levels k s) ≡ true
+node-gives : (levels k : ℕ) (s : List ℕ) → gives early (node levels k s) ≡ true
 unfolding node
-node-upTo zero k s = refl
-node-upTo (suc n) k s = kinds-upTo (λ j b. node n j b) (λ j b. node-upTo n j b) k s
+node-gives zero k s = refl
+node-gives (suc n) k s = kinds-gives (λ j b. node n j b) (λ j b. node-gives n j b) k s
 
-accepted-upTo : (c s : List ℕ) → upTo 7 (accepted c s) ≡ true
+accepted-gives : (c s : List ℕ) → gives early (accepted c s) ≡ true
 unfolding accepted settings parse
-accepted-upTo c s =
-    also-upTo 7 _ _ (pick-upTo 7 (isSettings c) _ _ refl refl) (λ g.
-    pick-upTo 7 (ltb treeLimit (length s)) _ _ refl
-    (also-upTo 7 _ _ (also-upTo 7 _ _ (exactly-upTo (node depthLimit) (λ j b. node-upTo depthLimit j b) 1 s) (λ ts. refl)) (λ t.
-    pick-upTo 7 (placed t) _ _ refl refl)))
+accepted-gives c s =
+    also-gives early _ _ (pick-gives early (isSettings c) _ _ refl refl) (λ g.
+    pick-gives early (ltb treeLimit (length s)) _ _ refl
+    (also-gives early _ _ (also-gives early _ _ (exactly-gives (node depthLimit) (λ j b. node-gives depthLimit j b) 1 s) (λ ts. refl)) (λ t.
+    pick-gives early (placed t) _ _ refl refl)))
 
-more-upTo : {A : Type 0} (k : ℕ) (r : Read A) → 7 ≤ k → upTo 7 r ≡ true → upTo k r ≡ true
-more-upTo k (refused n) h e = let l : numberOf n ≤ 7 = leb-true (numberOf n) 7 e in le-leb (numberOf n) k (omega arith)
-more-upTo k (got a) h e = refl
+longer : (rs more : List Refusal) (n : Refusal) → isOf rs n ≡ true → isOf (rs ++ more) n ≡ true
+longer [] more n e = absurd (false≢true e)
+longer (r ∷ rs) more n e = go (eqb (numberOf r) (numberOf n)) (λ z. longer rs more n z) e
+  where
+    go : (b : Bool) → (isOf rs n ≡ true → isOf (rs ++ more) n ≡ true) → either b (isOf rs n) ≡ true → either b (isOf (rs ++ more) n) ≡ true
+    go true f z = refl
+    go false f z = f z
 
-bound : {A : Type 0} {r : Read A} {n : Refusal} (k : ℕ) → upTo k r ≡ true → r ≡ refused n → numberOf n ≤ k
-bound {A} {r} {n} k e z = leb-true (numberOf n) k (sym (ap (upTo k) z) ∙ e)
+more-gives : {A : Type 0} (more : List Refusal) (r : Read A) → gives early r ≡ true → gives (early ++ more) r ≡ true
+more-gives more (refused n) e = longer early more n e
+more-gives more (got a) e = refl
+
+refuses : {A : Type 0} {r : Read A} {n : Refusal} (rs : List Refusal) → gives rs r ≡ true → r ≡ refused n → isOf rs n ≡ true
+refuses {A} {r} {n} rs e z = sym (ap (gives rs) z) ∙ e
 
 -- What is refused of settings and a tree is one of 1 to 7.
-pub accepted-refuses : (settings tree : List ℕ) (n : Refusal) → accepted settings tree ≡ refused n → numberOf n ≤ 7
-accepted-refuses settings tree n z = bound 7 (accepted-upTo settings tree) z
+pub accepted-refuses : (settings tree : List ℕ) (n : Refusal) → accepted settings tree ≡ refused n → isOf early n ≡ true
+accepted-refuses settings tree n z = refuses early (accepted-gives settings tree) z
 
 module _ (w : Writing) (settings tree : List ℕ) (room : ℕ) (n : Refusal) where
-  lowering-upTo : (k : ℕ) → 7 ≤ k → ((x : List ℕ) → upTo k (fitted room x) ≡ true) → upTo k (lowering w settings tree room) ≡ true
+  lowering-gives : (more : List Refusal) → ((x : List ℕ) → gives (early ++ more) (fitted room x) ≡ true) → gives (early ++ more) (lowering w settings tree room) ≡ true
   unfolding lowering
-  lowering-upTo k h f =
-      also-upTo k (accepted settings tree) (λ p. fitted room (text w (p .0) (p .1))) (more-upTo k (accepted settings tree) h (accepted-upTo settings tree)) (λ p. f (text w (p .0) (p .1)))
+  lowering-gives more f =
+      also-gives
+      (early ++ more)
+      (accepted settings tree)
+      (λ p. fitted room (text w (p .0) (p .1)))
+      (more-gives more (accepted settings tree) (accepted-gives settings tree))
+      (λ p. f (text w (p .0) (p .1)))
 
   -- What a writing call or a preview refuses is one of 1 to 9.
-  pub lowering-refuses : lowering w settings tree room ≡ refused n → numberOf n ≤ 9
+  pub lowering-refuses : lowering w settings tree room ≡ refused n → isOf (early ++ (TextTooLong ∷ BufferTooShort ∷ [])) n ≡ true
   unfolding fitted sized
   lowering-refuses z =
-      bound 9
-      (lowering-upTo 9 (omega arith) (λ x. pick-upTo 9 (ltb lengthLimit (length x)) _ _ refl (pick-upTo 9 (ltb room (length x)) (refused BufferTooShort) (got x) refl refl)))
+      refuses
+      _
+      (lowering-gives
+      (TextTooLong ∷ BufferTooShort ∷ [])
+      (λ x. pick-gives _ (ltb lengthLimit (length x)) (refused TextTooLong) _ refl (pick-gives _ (ltb room (length x)) (refused BufferTooShort) (got x) refl refl)))
       z
 
-  -- From 65,535 bytes on there is no 9.
-  pub ample-refuses : lengthLimit ≤ room → lowering w settings tree room ≡ refused n → numberOf n ≤ 8
+  -- From 65,535 bytes on it is one of 1 to 8.
+  pub ample-refuses : lengthLimit ≤ room → lowering w settings tree room ≡ refused n → isOf (early ++ (TextTooLong ∷ [])) n ≡ true
   unfolding fitted
-  ample-refuses h z = bound 8 (lowering-upTo 8 (omega arith) (λ x. go x (ltb lengthLimit (length x)) refl)) z
+  ample-refuses h z = refuses _ (lowering-gives (TextTooLong ∷ []) (λ x. go x (ltb lengthLimit (length x)) refl)) z
     where
-      go : (x : List ℕ) (b : Bool) → ltb lengthLimit (length x) ≡ b → upTo 8 (fitted room x) ≡ true
-      go x true q = ap (upTo 8) (too-long refused (got x) lengthLimit room (length x) (ltb-true lengthLimit (length x) q))
+      go : (x : List ℕ) (b : Bool) → ltb lengthLimit (length x) ≡ b → gives (early ++ (TextTooLong ∷ [])) (fitted room x) ≡ true
+      go x true q =
+          ap (gives (early ++ (TextTooLong ∷ []))) (too-long refused (got x) lengthLimit room (length x) (ltb-true lengthLimit (length x) q))
       go x false q =
           let l : length x ≤ lengthLimit = ltb-false lengthLimit (length x) q in
-          ap (upTo 8) (has-room refused (got x) lengthLimit room (length x) l (omega arith))
+          ap (gives (early ++ (TextTooLong ∷ []))) (has-room refused (got x) lengthLimit room (length x) l (omega arith))

@@ -102,11 +102,11 @@ fn written(writing: Writing, settings: &[u8], tree: &[u8], out: &mut [u8], size:
 // Whether a preview tells what writing into a buffer of this size answers.
 fn told(writing: Writing, settings: &[u8], tree: &[u8], size: usize) -> bool {
     let mut out = blank_buffer();
-    let told = number_of(gpkg::preview(writing, settings, tree, size));
-    told == written(writing, settings, tree, &mut out, size)
+    let said = number_of(gpkg::preview(writing, settings, tree, size));
+    said == written(writing, settings, tree, &mut out, size)
 }
 
-// The length of the text, or 0 where there is none.
+// The length of the text, or 0 where there is none. No length passes the test; it is for the bound, by which the sum below fits.
 fn length_of(writing: Writing, settings: &[u8], tree: &[u8]) -> usize
     ensures { λ r. ⌜ r ≤ 65535 ⌝ }
 {
@@ -139,6 +139,9 @@ fn all_told(writing: Writing, settings: &[u8], tree: &[u8], room: usize) -> bool
 fn answer(writing: Writing, settings: &[u8], tree: &[u8], text: &[u8], room: usize) -> u8 {
     let mut out = blank_buffer();
     let found = lowered(writing, settings, tree, text, &mut out, room);
+    if found == NO_ROOM {
+        return found;
+    }
     if !all_told(writing, settings, tree, room) {
         return OTHER_PREVIEW;
     }

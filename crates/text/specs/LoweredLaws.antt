@@ -28,7 +28,7 @@ heard-answer (got x) = refl
 pub heard-said : {r : lowered.Lowered} (x : Read (List ℕ)) → r ≡ answer x → heard r ≡ said x
 heard-said x e = ap heard e ∙ heard-answer x
 
--- a text that fits, and y is what is given
+-- x is within the limit and the room, and is the y that was given
 pub record Fits (room : ℕ) (x y : List ℕ) : Type 0 where
   pub is : x ≡ y
   pub short : length x ≤ lengthLimit
@@ -44,6 +44,7 @@ fitted-got room x y e = go (ltb lengthLimit (length x)) (ltb room (length x)) re
     go false false p q z = record { is = cc; short = ltb-false lengthLimit (length x) p; enough = ltb-false room (length x) q }
 
 module _ (w : Writing) (settings tree : List ℕ) where
+  -- x is the text of accepted settings and tree, and within the limit
   pub record Given (x : List ℕ) : Type 0 where
     pub holds : Settings × Tree
     pub read : accepted settings tree ≡ got holds
