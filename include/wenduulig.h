@@ -100,12 +100,13 @@
  *        return 0;
  *    }
  *
- * The same with no more space than the text needs; n is then the answer of both calls:
+ * The same with no more space than the text needs, and <stdlib.h>; n is then the answer of both calls:
  *
  *        int64_t n = wenduulig_preview_sql(settings, sizeof settings, tree, sizeof tree, SIZE_MAX);
  *        if (n < 0) { printf("refused: %d\n", (int)-n); return 1; }
  *        uint8_t *out = malloc((size_t)n);
  *        if (out) wenduulig_to_sql(settings, sizeof settings, tree, sizeof tree, out, (size_t)n);
+ *        free(out);
  */
 #ifndef WENDUULIG_H
 #define WENDUULIG_H

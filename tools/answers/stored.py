@@ -48,6 +48,7 @@ def cases(word, count):
         size = struct.unpack_from('<I', data, at)[0]
         parts.append(data[at + 4:at + 4 + size])
         at += 4 + size
+    assert len(parts) % count == 0, word + ' ends inside a case'
     return list(zip(*[iter(parts)] * count))
 
 

@@ -1,6 +1,6 @@
 //! Lowers CQL2 filters to SQL text for a GeoPackage, by one call byte for byte that of ogc-cql2 but for apostrophes in
 //! strings, which are doubled as SQLite reads them, by another with timestamps as a GeoPackage stores them and with open ends
-//! above every instant; says before how long either text is; and reads what a time filter's text says of a row.
+//! above every instant; says beforehand how long either text is; and reads what a time filter's text says of a row.
 //!
 //! All of it is done by functions that are proved to meet the papers' rules on all inputs (crates/capi of this
 //! repository, linked as `libcapi.a`, for x86-64 Linux); this crate builds their bytes from Rust types and refuses nothing
@@ -89,8 +89,8 @@ pub use settings::Settings;
 pub const TEXT_MAX: usize = 65_535;
 
 /// The bytes that are tried first for a tree of no more; for a longer tree [`TIMES_TREE`] times its own. Most texts are shorter,
-/// and one that is not is lowered anew into [`TEXT_MAX`] bytes. Asking for the length by a preview first would cost more than
-/// half a call each time (examples/reserving.rs).
+/// and one that is not is lowered anew into [`TEXT_MAX`] bytes. To ask for the length by a preview first takes half as long
+/// again where the first try is enough, as it mostly is (examples/reserving.rs).
 const FIRST_TRY: usize = 1024;
 const TIMES_TREE: usize = 3;
 
@@ -147,7 +147,7 @@ pub fn to_geopackage_sql_into(settings: &[u8], tree: &[u8], out: &mut [u8]) -> R
 }
 
 /// The length that [`to_sql`]'s text has, in bytes, if it is no longer than `size`: what [`to_sql_into`] answers with a buffer
-/// of that size. With [`TEXT_MAX`] or more no text is too long for it.
+/// of that size. With [`TEXT_MAX`] or more it is never refused with [`Refusal::BufferTooShort`].
 ///
 /// # Errors
 /// The first refusal of 1 to 9 that document 01's order gives.
