@@ -9,23 +9,20 @@ use crate::cases::all_are;
 use crate::lines::say;
 use gpkg::Lowered;
 use literal::Writing;
+use refusal::Refusal;
 
 // A byte that no text has: the buffer is full of it before the call.
 const BLANK: u8 = 7;
-// What is found instead of an answer: a text that is not the stored one; a byte changed that is not the text's; a case that asks for more
-// room than there is; a preview that does not tell what writing answers.
+// What is found instead of an answer: a text that is not the stored one; a byte changed that is not the text's; a preview that does not tell what
+// writing answers.
 const OTHER_TEXT: u8 = 100;
 
 const BYTE_CHANGED: u8 = 101;
 
-const NO_ROOM: u8 = 102;
+const OTHER_PREVIEW: u8 = 102;
 
-const OTHER_PREVIEW: u8 = 103;
-
-// The longest text, and a number between the lengths and the refusals.
+// The longest text.
 const LENGTH_LIMIT: usize = 65535;
-
-const NO_ANSWER: usize = 65536;
 
 fn blank_buffer() -> [u8; 65536]
     ensures { λ r. ⌜ 65536 ≡ length r ⌝ }
@@ -67,7 +64,21 @@ fn lower(writing: Writing, settings: &[u8], tree: &[u8], out: &mut [u8]) -> Lowe
     }
 }
 
-// A part of the buffer is lent, and the whole is compared.
+// A part of the buffer is lent. Where there is less than that, the refusal is one that lowering never gives, and so no stored one.
+fn lower_part(
+    writing: Writing,
+    settings: &[u8],
+    tree: &[u8],
+    out: &mut [u8],
+    size: usize,
+) -> Lowered {
+    if out.len() < size {
+        return Lowered::Refused(Refusal::InputTooLong);
+    }
+    lower(writing, settings, tree, &mut out[..size])
+}
+
+// The whole buffer is compared.
 fn lowered(
     writing: Writing,
     settings: &[u8],
@@ -76,10 +87,7 @@ fn lowered(
     out: &mut [u8],
     room: usize,
 ) -> u8 {
-    if out.len() < room {
-        return NO_ROOM;
-    }
-    let r = lower(writing, settings, tree, &mut out[..room]);
+    let r = lower_part(writing, settings, tree, out, room);
     found_of(r, text, out)
 }
 
@@ -87,23 +95,15 @@ fn lowered(
 fn number_of(r: Lowered) -> usize {
     match r {
         Lowered::Text(n) => n,
-        Lowered::Refused(e) => NO_ANSWER + refusal::number(e) as usize,
+        Lowered::Refused(e) => LENGTH_LIMIT + refusal::number(e) as usize,
     }
-}
-
-// What writing into a part of the buffer answers; where there is less, the number that is no answer's.
-fn written(writing: Writing, settings: &[u8], tree: &[u8], out: &mut [u8], size: usize) -> usize {
-    if out.len() < size {
-        return NO_ANSWER;
-    }
-    number_of(lower(writing, settings, tree, &mut out[..size]))
 }
 
 // Whether a preview tells what writing into a buffer of this size answers.
 fn told(writing: Writing, settings: &[u8], tree: &[u8], size: usize) -> bool {
     let mut out = blank_buffer();
     let said = number_of(gpkg::preview(writing, settings, tree, size));
-    said == written(writing, settings, tree, &mut out, size)
+    said == number_of(lower_part(writing, settings, tree, &mut out, size))
 }
 
 // The length of the text, or 0 where there is none. No length passes the test; it is for the bound, by which the sum below fits.
@@ -139,9 +139,6 @@ fn all_told(writing: Writing, settings: &[u8], tree: &[u8], room: usize) -> bool
 fn answer(writing: Writing, settings: &[u8], tree: &[u8], text: &[u8], room: usize) -> u8 {
     let mut out = blank_buffer();
     let found = lowered(writing, settings, tree, text, &mut out, room);
-    if found == NO_ROOM {
-        return found;
-    }
     if !all_told(writing, settings, tree, room) {
         return OTHER_PREVIEW;
     }
