@@ -49,12 +49,19 @@ pub extern "C" fn wenduulig_to_geopackage_sql(settings: &[u8], tree: &[u8], out:
     number(gpkg::to_geopackage_sql(settings, tree, out))
 }
 
+// The number of a preview's answer, by either writing.
+fn preview(writing: Writing, settings: &[u8], tree: &[u8], size: usize) -> i64
+    ensures { λ r. ⌜ r ≡ loweringNumber (said (lowering writing (now (settings .entry)) (now (tree .entry)) size)) ⌝ }
+{
+    number(gpkg::preview(writing, settings, tree, size))
+}
+
 // What `wenduulig_to_sql` answers with a buffer of this size; nothing is written.
 #[no_mangle]
 pub extern "C" fn wenduulig_preview_sql(settings: &[u8], tree: &[u8], size: usize) -> i64
     ensures { λ r. ⌜ r ≡ loweringNumber (said (lowering Rust (now (settings .entry)) (now (tree .entry)) size)) ⌝ }
 {
-    number(gpkg::preview(Writing::Rust, settings, tree, size))
+    preview(Writing::Rust, settings, tree, size)
 }
 
 // What `wenduulig_to_geopackage_sql` answers with a buffer of this size; nothing is written.
@@ -62,7 +69,7 @@ pub extern "C" fn wenduulig_preview_sql(settings: &[u8], tree: &[u8], size: usiz
 pub extern "C" fn wenduulig_preview_geopackage_sql(settings: &[u8], tree: &[u8], size: usize) -> i64
     ensures { λ r. ⌜ r ≡ loweringNumber (said (lowering GeoPackage (now (settings .entry)) (now (tree .entry)) size)) ⌝ }
 {
-    number(gpkg::preview(Writing::GeoPackage, settings, tree, size))
+    preview(Writing::GeoPackage, settings, tree, size)
 }
 
 // 1 true, 0 false, 2 unknown, or minus the number of a refusal, 10 to 13.

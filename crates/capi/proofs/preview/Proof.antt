@@ -1,8 +1,8 @@
--- `capi::wenduulig_preview_sql` meets its contract: the number of what `gpkg::preview` answers.
+-- `capi::preview` meets its contract, by either writing: the number of what `gpkg::preview` answers.
 use Rattle.capi.proofs.Laws.{short-answer, said-back}
 use borrow.Author.Needs.{needs}
-use Rattle.capi.proofs.wenduulig_preview_sql.Statement.{statement}
-use Rattle.capi.proofs.wenduulig_preview_sql.Tie as tie
+use Rattle.capi.proofs.preview.Statement.{statement}
+use Rattle.capi.proofs.preview.Tie as tie
 
 preview-requires : tie.Need-preview-requires
 preview-requires c κs = search needs
@@ -14,5 +14,5 @@ returns : tie.Need-returns
 returns c =
     said-back (c .before .preview .result) (c .number .ensures) (c .before .preview .ensures .1) (short-answer _ _ _ _ (c .before .preview .ensures .0))
 
-pub wenduulig-preview-sql-spec : {M : Type 1} → statement M
-wenduulig-preview-sql-spec = tie.close (tie.spec preview-requires number-requires returns)
+pub preview-spec : {M : Type 1} → statement M
+preview-spec = tie.close (tie.spec preview-requires number-requires returns)
