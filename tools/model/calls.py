@@ -1,5 +1,6 @@
 """The calls as a caller hears them (document 01, "What a caller hears"; document 02, slips 4 and 5, for the second that writes, slip 6 for
-previews): a text, a length, a truth, or the number of the first refusal in its order."""
+previews, slip 7 for the limits, which are the planner's if none are named): a text, a length, a truth, or the number of the first refusal in its
+order."""
 from . import checker, lowering, reader
 from .limits import PLANNER, ROW, SQL
 from .lowering import GEOPACKAGE, RUST
@@ -31,9 +32,9 @@ def heard(call, *arguments):
         return refused.number
 
 
-def check(settings, tree):
+def check(settings, tree, limit=PLANNER):
     """0, or the number of a refusal of 1 to 7."""
-    answer = heard(accepted, settings, tree)
+    answer = heard(accepted, settings, tree, limit)
     return answer if isinstance(answer, int) else 0
 
 
@@ -42,19 +43,19 @@ def fitted(answer, room):
     return BUFFER if isinstance(answer, bytes) and len(answer) > room else answer
 
 
-def to_sql(settings, tree, room, writing=RUST):
+def to_sql(settings, tree, room, writing=RUST, limit=PLANNER):
     """The text as bytes, or the number of a refusal of 1 to 9, for a buffer of `room` bytes."""
-    return fitted(heard(lowered, settings, tree, writing), room)
+    return fitted(heard(lowered, settings, tree, writing, limit), room)
 
 
-def to_geopackage_sql(settings, tree, room):
+def to_geopackage_sql(settings, tree, room, limit=PLANNER):
     """The same of the second call, which writes timestamps as a GeoPackage stores them, and an Interval's open end above every instant."""
-    return to_sql(settings, tree, room, GEOPACKAGE)
+    return to_sql(settings, tree, room, GEOPACKAGE, limit)
 
 
-def preview(settings, tree, size, writing=RUST):
+def preview(settings, tree, size, writing=RUST, limit=PLANNER):
     """What the call of the writing would answer with a buffer of `size` bytes: the text's length and no refusal, or no length and the refusal's number."""
-    answer = to_sql(settings, tree, size, writing)
+    answer = to_sql(settings, tree, size, writing, limit)
     return (None, answer) if isinstance(answer, int) else (len(answer), None)
 
 

@@ -1,4 +1,5 @@
-"""The limits of document 01 ("Records", "Truth", "What a caller hears"), each number once; all are the greatest values that pass."""
+"""The limits of document 01 ("Records", "Truth", "What a caller hears") and of the controller (document 02, slip 7), each number once; all are the
+greatest values that pass."""
 from typing import NamedTuple
 
 
@@ -10,6 +11,7 @@ class Limits(NamedTuple):
 
 
 PLANNER = Limits(tree=32768, depth=32, text=65535)
+CONTROLLER = Limits(tree=2000, depth=8, text=4000)
 
 NAME = 64
 STR = 4096

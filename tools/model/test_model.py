@@ -8,6 +8,7 @@ import re
 import unittest
 
 from model import c as c_numbers, calls, lowering, names, records, strings
+from model.limits import CONTROLLER, PLANNER
 from model.records import SHEET_SETTINGS, array, dyadic, encode, ident, interval, monadic, null, row, settings_record
 
 SETTINGS = settings_record(SHEET_SETTINGS)
@@ -243,6 +244,51 @@ class Previews(unittest.TestCase):
     def test_numbers(self):
         for answer, size, said in ((b'NULL', 3, -9), (b'NULL', 4, 4), (b'NULL', 2 ** 64 - 1, 4), (7, 0, -7), (8, 0, -8), (8, 2 ** 64 - 1, -8)):
             self.assertEqual(c_numbers.preview(answer, size), said)
+
+
+class Controller(unittest.TestCase):
+    """2,000 bytes, 8 levels, 4,000 bytes of text (document 02, slip 7): numbers written here, not the model's."""
+
+    def both(self, answer, tree, settings=SETTINGS, room=100000):
+        """What the controller hears of either call, a length or a refusal, and its preview."""
+        for writing in (lowering.RUST, lowering.GEOPACKAGE):
+            heard = calls.to_sql(settings, tree, room, writing, CONTROLLER)
+            self.assertEqual(heard if isinstance(heard, int) else (len(heard),), answer)
+            self.assertEqual(calls.preview(settings, tree, room, writing, CONTROLLER), (None, heard) if isinstance(heard, int) else (len(heard), None))
+
+    def test_limits(self):
+        self.assertEqual((tuple(PLANNER), tuple(CONTROLLER)), ((32768, 32, 65535), (2000, 8, 4000)))
+        opens = lambda name: array(*[records.unbounded()] * 266, ident(name))
+        for answer, tree in (((1995,), records.string(b'x' * 1993)), (2, records.string(b'x' * 1994)), ((46,), nested(8)), (4, nested(9)),
+                             ((4000,), opens(b'n' * 8)), (8, opens(b'n' * 9)), ((4000,), records.string(b"'" * 1993, 3))):
+            self.both(answer, tree)
+        self.both(8, records.string(b"'" * 1993, 3), records.settings_bytes(7, b'NC', b'NA', b'NCAI'))
+
+    def test_order(self):
+        long, broken = records.string(b'x' * 1994), bytes(2001)
+        for answer, tree, settings in ((1, broken, b''), (2, broken, SETTINGS), (2, array(long), SETTINGS), (3, nested(9)[:-6], SETTINGS),
+                                       (3, nested(9)[:-6] + b'\xff\0\0\0\0\0', SETTINGS), (4, nested(9)[:-6] + records.record(14), SETTINGS),
+                                       (4, array(nested(8), ident(b'1')), SETTINGS), (6, array(ident(b'1'), nested(8)), SETTINGS),
+                                       (4, array(interval(null(), null()), nested(8)), SETTINGS), (7, array(interval(null(), null()), nested(7)), SETTINGS)):
+            for room in (0, 4000):
+                self.both(answer, tree, settings, room)
+        self.both((46,), nested(8), room=46)
+        self.both(9, nested(8), room=45)
+        self.both(8, array(*[records.unbounded()] * 267), room=4004)
+        self.both(8, array(*[records.unbounded()] * 267), room=0)
+
+    def test_each_writing_counts_its_own_text(self):
+        stamps = encode(('array', [STAMP] * 142 + [('id', 'n' * 23)]))
+        self.assertEqual(calls.to_geopackage_sql(SETTINGS, stamps, 4001, CONTROLLER), 8)
+        self.assertEqual(len(calls.to_sql(SETTINGS, stamps, 4001, limit=CONTROLLER)), 142 * 23 + 25)
+
+    def test_beside_the_planner(self):
+        """Equal texts where both accept; else 2, 4, 8 or 9."""
+        for tree, _ in TEXTS + STAMPS + ENDS:
+            for writing in (lowering.RUST, lowering.GEOPACKAGE):
+                planner = calls.to_sql(SETTINGS, encode(tree), 65535, writing)
+                self.assertEqual(calls.to_sql(SETTINGS, encode(tree), 4000, writing, CONTROLLER), planner)
+                self.assertEqual(calls.to_sql(SETTINGS, encode(tree), 0, writing, CONTROLLER), 9)
 
 
 class Names(unittest.TestCase):
