@@ -4,11 +4,11 @@ import struct
 import sys
 
 from model.c import TRUTH
-from model.refusals import ABSENT, BUFFER, FIELD, FRAME, GRAMMAR, KIND, PLACE, READING_SIZE, ROW, TEXT_SIZE
+from model.refusals import ABSENT, BUFFER, GRAMMAR, READING_SIZE, ROW, SETTINGS
 
 CRATES = os.path.join(os.path.dirname(os.path.abspath(__file__)), '..', '..', 'crates')
-REPLAYED = ('operators', 'trees', 'keyword_trees', 'text_trees', 'leaves', 'lowerings', 'text_lowerings', 'geopackage_lowerings', 'readings',
-            'keyword_readings', 'text_readings', 'geopackage_readings')    # in the order of the program's lines
+REPLAYED = ('operators', 'trees', 'keyword_trees', 'text_trees', 'leaves', 'lowerings', 'text_lowerings', 'geopackage_lowerings', 'controller_lowerings',
+            'controller_geopackage_lowerings', 'readings', 'keyword_readings', 'text_readings', 'geopackage_readings')    # in the order of the program's lines
 checking = False    # set by make_all.py
 
 
@@ -65,7 +65,7 @@ def reading_case(text, row, answer):
 def lowering_line(tally):
     """What the program writes of cases whose answers are 0 for a text or a refusal's number, counted here."""
     return 'cases %d, as stored: texts %d, refused %s' % (
-        sum(tally.values()), tally[0], ', '.join('%d %d' % (n, tally[n]) for n in (FRAME, KIND, FIELD, PLACE, TEXT_SIZE, BUFFER)))
+        sum(tally.values()), tally[0], ', '.join('%d %d' % (n, tally[n]) for n in range(SETTINGS, BUFFER + 1)))
 
 
 def tree_line(tally):
