@@ -5,10 +5,10 @@
  * The library is for x86-64 Linux.
  *
  * Settings, trees and rows are handed in as the records below. Any bytes may be handed in: what breaks a rule is refused
- * by a number and never read out of bounds. The five functions are proved to give the numbers and bytes below on all
- * inputs (crates/capi, crates/gpkg, crates/truth).
+ * by a number and never read out of bounds. The nine functions are proved to give the numbers and bytes below on all
+ * inputs (crates/capi, crates/gpkg, crates/controller, crates/truth).
  *
- * Two of them write. They take the same arguments and refuse by the same rules: 1 to 7 the same inputs, 8 and 9 by the
+ * Two of them write for the planner. They take the same arguments and refuse by the same rules: 1 to 7 the same inputs, 8 and 9 by the
  * bytes of the text that the call writes. Their texts differ in two things alone. Timestamps, wherever they stand:
  *    wenduulig_to_sql              '2024-02-29T12:00:00'        the text of ogc-cql2, for columns that hold instants so
  *    wenduulig_to_geopackage_sql   '2024-02-29T12:00:00.000Z'   for DATETIME columns as OGC GeoPackage stores them; the
@@ -26,6 +26,10 @@
  * the place of one, any size_t, writes nothing, and answers what the call that writes would with a buffer of that size: the
  * length of the text, or the refusal. With SIZE_MAX, or any size from WENDUULIG_TEXT_MAX on, 9 does not occur: the answer is
  * the length to reserve, or a refusal of 1 to 8. It costs what the call that writes does before it writes.
+ *
+ * The camera's controller has the same four with wenduulig_controller_ before their names, and smaller limits: trees of 2,000
+ * bytes, 8 levels, texts of 4,000 bytes. 2, 4 and 8 mean these limits there; all else is the same. Where both callers accept,
+ * their texts are equal; what the planner's functions accept, the controller's refuse by 2, 4, 8 or 9 alone.
  *
  * Records. Length, 4 bytes; kind, 2 bytes; body. Numbers are little-endian; the length counts kind and body.
  *    0 Null, 1 Unbounded (..)   empty
@@ -53,17 +57,17 @@
  *
  *   number  where        the refusal
  *    1      settings     not exactly one record of kind 100 with a precision of 0 to 15 and three names
- *    2      tree         longer than 32,768 bytes
+ *    2      tree         longer than 32,768 bytes; the controller's: 2,000
  *    3      tree         a record is missing where one is due, a length is below 2 or passes the end around it, or bytes
  *                        are left over
- *    4      tree         a record lies deeper than 32, the root being 1
+ *    4      tree         a record lies deeper than 32, the root being 1; the controller's: 8
  *    5      tree         a record's kind is above 13, an operator's number above 52, or an operator stands at the wrong
  *                        number of operands
  *    6      tree         a field, a body's size, a name or a text breaks its rule above, as a Str that is no UTF-8
  *    7      tree         an Interval is no direct operand of a temporal operator, a temporal operator other than TAfter,
  *                        TBefore, TDisjoint, TEquals and TIntersects lacks an Interval on a side, or the right side of
  *                        BETWEEN or NOT BETWEEN is no Array of exactly two
- *    8      text         longer than 65,535 bytes
+ *    8      text         longer than 65,535 bytes; the controller's: 4,000
  *    9      buffer       shorter than the text; in a preview the size is less than the text's length
  *   10      text, row    the text is longer than 65,535 bytes or the row than 32,768
  *   11      row          no run of records of kind 200 as above, or two of its names are equal in any letter case
@@ -118,10 +122,13 @@
 extern "C" {
 #endif
 
-/* The limits, in bytes. A buffer of WENDUULIG_TEXT_MAX bytes, and a preview of that size, is never refused by 9. */
+/* The limits, in bytes. A buffer of WENDUULIG_TEXT_MAX bytes, and a preview of that size, is never refused by 9; by the
+ * controller's functions one of WENDUULIG_CONTROLLER_TEXT_MAX. */
 #define WENDUULIG_TREE_MAX 32768
 #define WENDUULIG_TEXT_MAX 65535
 #define WENDUULIG_ROW_MAX 32768
+#define WENDUULIG_CONTROLLER_TREE_MAX 2000
+#define WENDUULIG_CONTROLLER_TEXT_MAX 4000
 
 /* The kinds of records. */
 enum wenduulig_kind {
@@ -244,6 +251,17 @@ int64_t wenduulig_preview_sql(const uint8_t *settings, size_t settings_len, cons
 /* The same of wenduulig_to_geopackage_sql. */
 int64_t wenduulig_preview_geopackage_sql(const uint8_t *settings, size_t settings_len, const uint8_t *tree, size_t tree_len,
                                          size_t size);
+
+/* The same four for the controller: trees of at most 2,000 bytes and 8 levels, texts of at most 4,000 bytes, and 2, 4 and 8 by
+ * these limits. A text is the planner's, byte for byte. */
+int64_t wenduulig_controller_to_sql(const uint8_t *settings, size_t settings_len, const uint8_t *tree, size_t tree_len,
+                                    uint8_t *out, size_t out_len);
+int64_t wenduulig_controller_to_geopackage_sql(const uint8_t *settings, size_t settings_len, const uint8_t *tree,
+                                               size_t tree_len, uint8_t *out, size_t out_len);
+int64_t wenduulig_controller_preview_sql(const uint8_t *settings, size_t settings_len, const uint8_t *tree, size_t tree_len,
+                                         size_t size);
+int64_t wenduulig_controller_preview_geopackage_sql(const uint8_t *settings, size_t settings_len, const uint8_t *tree,
+                                                    size_t tree_len, size_t size);
 
 /* Reads what `text` says of `row`: an enum wenduulig_truth, or -10 to -13 for a refusal.
  * The text need not come from a call that writes; it has no closing zero byte. An empty row (row_len 0) has no columns.

@@ -1,5 +1,5 @@
 /* Tests of include/wenduulig.h: texts, truths, every refusal, and that lent bytes stay as they were; all of lowering by both
- * calls that write, and by their previews. Each part is handed over in memory of exactly its size, so that valgrind sees any
+ * calls that write, and by their previews, what both callers accept also by the controller's. Each part is handed over in memory of exactly its size, so that valgrind sees any
  * access past its end. */
 #include <pthread.h>
 #include <stdio.h>
@@ -24,6 +24,9 @@ static const struct writing {
     const char *name, *after, *end;
 } first_call = {wenduulig_to_sql, wenduulig_preview_sql, "to_sql", "", "'-2021-01-01'"},
   second_call = {wenduulig_to_geopackage_sql, wenduulig_preview_geopackage_sql, "to_geopackage_sql", ".000Z", "'A'"},
+  controller_first = {wenduulig_controller_to_sql, wenduulig_controller_preview_sql, "controller_to_sql", "", "'-2021-01-01'"},
+  controller_second = {wenduulig_controller_to_geopackage_sql, wenduulig_controller_preview_geopackage_sql,
+                       "controller_to_geopackage_sql", ".000Z", "'A'"},
   /* what is tested is reading, on texts of the first */
   before_reading = {wenduulig_to_sql, wenduulig_preview_sql, "read", "", "'-2021-01-01'"};
 
@@ -979,35 +982,193 @@ static void test_stack(void)
     pthread_attr_destroy(&attributes);
 }
 
-static void test_lowering(const struct writing *call)
+/* A tree of the controller's most bytes, and of one more: alone, and with settings or records that are wrong. */
+static void test_controller_sizes(void)
+{
+    make_settings(&settings);
+    make_run(&tree, 'x', 1993);
+    check(tree.n == WENDUULIG_CONTROLLER_TREE_MAX, "the test's own tree has 2,000 bytes");
+    expect_length(WENDUULIG_CONTROLLER_TEXT_MAX, 1995, "a tree of 2,000 bytes");
+    expect_refusal(1994, WENDUULIG_BUFFER_TOO_SHORT, "9: a buffer one byte short of its text");
+    tree.at[1999] = 1;
+    expect_refusal(4000, WENDUULIG_BAD_FIELD, "6: a tree of 2,000 bytes, the last one wrong");
+    make_run(&tree, 'x', 1994);
+    expect_refusal(4000, WENDUULIG_TREE_TOO_LONG, "2: a tree of 2,001 bytes");
+    tree.at[0] = 0;
+    expect_refusal(0, WENDUULIG_TREE_TOO_LONG, "2 comes before 3");
+    settings.at[6] = 16;
+    expect_refusal(4000, WENDUULIG_BAD_SETTINGS, "1 comes before 2");
+}
+
+/* The kinds that hold records, by turns; TAfter takes an Interval as well as any other operand. */
+static const unsigned char deep_kinds[][2] = {{WENDUULIG_MONADIC, WENDUULIG_MONADIC},   {WENDUULIG_DYADIC, WENDUULIG_DYADIC},
+                                              {WENDUULIG_FUNCTION, WENDUULIG_FUNCTION}, {WENDUULIG_ARRAY, WENDUULIG_ARRAY},
+                                              {WENDUULIG_DYADIC, WENDUULIG_INTERVAL},   {WENDUULIG_ARRAY, WENDUULIG_MONADIC}};
+
+/* `levels` records, one inside another, of the two kinds by turns; the last is `bottom` by its bytes. */
+static void make_levels(struct bytes *b, const unsigned char kinds[2], int levels, const void *bottom, size_t size)
+{
+    size_t starts[16];
+    b->n = 0;
+    for (int i = 0; i + 1 < levels; i++) {
+        unsigned kind = kinds[i % 2];
+        starts[i] = begin(b, kind);
+        if (kind == WENDUULIG_MONADIC || kind == WENDUULIG_DYADIC)
+            put(b, kind == WENDUULIG_MONADIC ? "\7" : "\x1a", 2);
+        if (kind == WENDUULIG_FUNCTION)
+            put_named(b, "f");
+    }
+    put(b, bottom, size);
+    for (int i = levels - 2; i >= 0; i--) {
+        if (kinds[i % 2] == WENDUULIG_DYADIC || kinds[i % 2] == WENDUULIG_INTERVAL)
+            put_id(b, "b");
+        end(b, starts[i]);
+    }
+}
+
+/* Eight levels of each kind have the planner's text, nine are refused; at the ninth a bad frame is a 3, all else a 4. */
+static void test_controller_levels(const struct writing *planner)
+{
+    static struct bytes theirs;
+    const struct writing *own = writing;
+    const uint8_t null[] = {2, 0, 0, 0, 0, 0}, cut[] = {3, 0, 0, 0, 0, 0}, kind[] = {2, 0, 0, 0, 14, 0}, field[] = {2, 0, 0, 0, 2, 0};
+    int clean;
+    make_settings(&settings);
+    for (size_t i = 0; i < sizeof deep_kinds / sizeof *deep_kinds; i++) {
+        make_levels(&tree, deep_kinds[i], 8, null, sizeof null);
+        writing = planner;
+        int64_t n = lower(&settings, &tree, 1000, &theirs, &clean);
+        writing = own;
+        expect_length(1000, (size_t)n, "8 levels");
+        check(theirs.n == text.n && memcmp(theirs.at, text.at, text.n) == 0, "8 levels: the planner's text");
+        make_levels(&tree, deep_kinds[i], 9, null, sizeof null);
+        expect_refusal(1000, WENDUULIG_TOO_DEEP, "4: 9 levels");
+        make_levels(&tree, deep_kinds[i], 9, kind, sizeof kind);
+        expect_refusal(1000, WENDUULIG_TOO_DEEP, "4 comes before 5");
+        make_levels(&tree, deep_kinds[i], 9, field, sizeof field);
+        expect_refusal(0, WENDUULIG_TOO_DEEP, "4 comes before 6");
+        make_levels(&tree, deep_kinds[i], 8, kind, sizeof kind);
+        expect_refusal(1000, WENDUULIG_BAD_KIND_OR_OPERATOR, "5: kind 14 at the eighth level");
+    }
+    for (int levels = 8; levels <= 9; levels++) {
+        make_levels(&tree, deep_kinds[3], levels, cut, sizeof cut);
+        expect_refusal(1000, WENDUULIG_BAD_FRAME, "3: a length that passes its end, also at the ninth level");
+    }
+}
+
+/* A text of the controller's most bytes, at each size of the buffer about it, and one of a byte more. */
+static void test_controller_texts(void)
+{
+    make_settings(&settings);
+    make_long(&tree, 266, "eight_by");
+    for (size_t size = 4000; size < 4003; size++)
+        expect_length(size, 4000, "a text of 4,000 bytes");
+    expect_refusal(3999, WENDUULIG_BUFFER_TOO_SHORT, "9: a buffer one byte short of it");
+    expect_refusal(0, WENDUULIG_BUFFER_TOO_SHORT, "9: an empty buffer");
+    make_long(&tree, 266, "nine_byte");
+    for (size_t size = 3998; size < 4004; size++)
+        expect_refusal(size, WENDUULIG_TEXT_TOO_LONG, "8: a text of 4,001 bytes");
+    expect_refusal(0, WENDUULIG_TEXT_TOO_LONG, "8 comes before 9");
+    expect_refusal(WENDUULIG_TEXT_MAX, WENDUULIG_TEXT_TOO_LONG, "8: though the buffer is the planner's largest");
+    make_run(&tree, '\'', 1993);
+    tree.at[6] = 3;
+    expect_length(4000, 4000, "a tree of 2,000 bytes with a text of 4,000");
+}
+
+/* 8 counts the text of the call: 142 timestamps and a name have 4,000 bytes by the second, 3,290 by the first. */
+static void test_controller_writings(void)
+{
+    int second = *writing->after != 0;
+    make_settings(&settings);
+    make_many_stamps(&tree, 142, "name_of_twenty_two_byt");
+    expect_length(4000, second ? 4000 : 3290, "142 timestamps, 4,000 bytes by the second call");
+    make_many_stamps(&tree, 142, "name_of_twenty_three_by");
+    if (second)
+        expect_refusal(4001, WENDUULIG_TEXT_TOO_LONG, "8: a byte more, which the first call takes");
+    else
+        expect_length(4001, 3291, "a byte more, which the second call refuses with 8");
+}
+
+/* An And of two: of a text that is too long and an Interval out of place, and of a record that is too deep and a wrong one. */
+static void make_pair(const struct bytes *one, const struct bytes *other)
+{
+    tree.n = 0;
+    size_t both = begin_op(&tree, WENDUULIG_DYADIC, WENDUULIG_AND);
+    put(&tree, one->at, one->n);
+    put(&tree, other->at, other->n);
+    end(&tree, both);
+}
+
+static void test_controller_order(void)
+{
+    static struct bytes longer, deep, apart, wrong;
+    make_settings(&settings);
+    make_long(&longer, 267, "");
+    make_deep(&deep, 8);
+    apart.n = wrong.n = 0;
+    put_interval(&apart, "a", "b");
+    put_id(&wrong, "1");
+    make_pair(&longer, &apart);
+    expect_refusal(100, WENDUULIG_BAD_OPERAND, "7 comes before 8 and 9");
+    make_pair(&longer, &deep);
+    expect_refusal(100, WENDUULIG_TOO_DEEP, "4 comes before 8 and 9");
+    make_pair(&apart, &deep);
+    expect_refusal(100, WENDUULIG_TOO_DEEP, "4 comes before 7, wherever they stand");
+    make_pair(&deep, &wrong);
+    expect_refusal(100, WENDUULIG_TOO_DEEP, "4 before a 6 that stands later");
+    make_pair(&wrong, &deep);
+    expect_refusal(100, WENDUULIG_BAD_FIELD, "6 before a 4 that stands later");
+    make_pair(&longer, &longer);
+    expect_refusal(0, WENDUULIG_TREE_TOO_LONG, "2 comes before 8 and 9");
+}
+
+/* What both callers answer alike: nothing here lies between the controller's limits and the planner's. */
+static void test_either_caller(const struct writing *call)
 {
     writing = call;
     test_texts();
     test_kinds();
     test_timestamps();
-    test_timestamp_limits();
     test_timestamp_truths();
     test_open_ends();
     test_lone_unbounded();
-    test_open_end_limits();
     test_open_end_truths();
     test_outer_refusals();
     test_inner_refusals();
-    test_length_refusals();
     test_preview_sizes();
-    test_preview_limits();
-    test_preview_order();
     test_reserving();
     test_strings();
-    test_string_limits();
     test_damage();
+}
+
+static void test_planner(const struct writing *call)
+{
+    test_either_caller(call);
+    test_timestamp_limits();
+    test_open_end_limits();
+    test_length_refusals();
+    test_preview_limits();
+    test_preview_order();
+    test_string_limits();
     test_stack();
+}
+
+static void test_controller(const struct writing *call, const struct writing *planner)
+{
+    test_either_caller(call);
+    test_controller_sizes();
+    test_controller_levels(planner);
+    test_controller_texts();
+    test_controller_writings();
+    test_controller_order();
 }
 
 int main(void)
 {
-    test_lowering(&first_call);
-    test_lowering(&second_call);
+    test_planner(&first_call);
+    test_planner(&second_call);
+    test_controller(&controller_first, &first_call);
+    test_controller(&controller_second, &second_call);
     writing = &before_reading;
     test_truths();
     test_reading_refusals();
