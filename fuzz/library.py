@@ -2,11 +2,14 @@
 import ctypes, mmap, random
 
 from model import c as c_numbers
+from model.limits import CONTROLLER, PLANNER
 from model.lowering import GEOPACKAGE, RUST
 
 PAGE = mmap.PAGESIZE
 MARK = bytes(range(0x9d, 0xbd))
 NOISE = random.Random(9).randbytes(160000)    # what a lent buffer holds before the call
+CALLERS = {PLANNER: '', CONTROLLER: 'controller_'}    # by their limits, what stands before the names of their functions
+CALLS = {RUST: 'sql', GEOPACKAGE: 'geopackage_sql'}    # and what stands after
 
 
 class Lent:
@@ -47,8 +50,9 @@ class Library:
     def __init__(self, path):
         c = ctypes.CDLL(path)
         slice_ = [ctypes.c_void_p, ctypes.c_size_t]
-        self.writers, self.reader = {RUST: c.wenduulig_to_sql, GEOPACKAGE: c.wenduulig_to_geopackage_sql}, c.wenduulig_read
-        self.previews = {RUST: c.wenduulig_preview_sql, GEOPACKAGE: c.wenduulig_preview_geopackage_sql}
+        both = [(limit, writing, name + '%s_' + call) for limit, name in CALLERS.items() for writing, call in CALLS.items()]
+        self.writers, self.previews = ({(limit, writing): c['wenduulig_' + name % word] for limit, writing, name in both} for word in ('to', 'preview'))
+        self.reader = c.wenduulig_read
         for writer in self.writers.values():
             writer.argtypes, writer.restype = slice_ * 3, ctypes.c_int64
         for preview in self.previews.values():
@@ -56,17 +60,17 @@ class Library:
         self.reader.argtypes, self.reader.restype = slice_ * 2, ctypes.c_int32
         self.one, self.two, self.out = Lent(18), Lent(18), Lent(18)
 
-    def lower(self, writing, settings, tree, out, at_end):
+    def lower(self, writing, settings, tree, out, at_end, limit=PLANNER):
         """The answer, the bytes of `out` afterwards, and what was touched that should not have been."""
         a, b, c = self.one.place(settings, at_end), self.two.place(tree, at_end), self.out.place(out, at_end)
-        answer = self.writers[writing](a, len(settings), b, len(tree), c, len(out))
+        answer = self.writers[limit, writing](a, len(settings), b, len(tree), c, len(out))
         after, marked = self.out.now()
         touched = [what for what, kept in (('settings', self.one.kept()), ('tree', self.two.kept()), ('beside out', marked)) if not kept]
         return answer, after, touched
 
-    def preview(self, writing, settings, tree, size, at_end):
+    def preview(self, writing, settings, tree, size, at_end, limit=PLANNER):
         a, b = self.one.place(settings, at_end), self.two.place(tree, at_end)
-        answer = self.previews[writing](a, len(settings), b, len(tree), size)
+        answer = self.previews[limit, writing](a, len(settings), b, len(tree), size)
         return answer, [what for what, kept in (('settings', self.one.kept()), ('tree', self.two.kept())) if not kept]
 
     def read(self, text, row, at_end):
@@ -75,20 +79,20 @@ class Library:
         return answer, [what for what, kept in (('text', self.one.kept()), ('row', self.two.kept())) if not kept]
 
 
-def check_lowering(library, writing, settings, tree, want, room, noise, at_end):
+def check_lowering(library, writing, settings, tree, want, room, noise, at_end, limit=PLANNER):
     """Nothing, or what was expected and what came."""
     out = NOISE[noise:noise + room]
     right = c_numbers.left(want, out)
-    answer, after, touched = library.lower(writing, settings, tree, out, at_end)
+    answer, after, touched = library.lower(writing, settings, tree, out, at_end, limit)
     if (answer, after) == right and not touched:
         return None
     return right, (answer, after), touched
 
 
-def check_preview(library, writing, settings, tree, want, size, noise, at_end):
+def check_preview(library, writing, settings, tree, want, size, noise, at_end, limit=PLANNER):
     """The same of a preview, which is lent no buffer and so no noise."""
     right = c_numbers.preview(want, size)
-    answer, touched = library.preview(writing, settings, tree, size, at_end)
+    answer, touched = library.preview(writing, settings, tree, size, at_end, limit)
     return None if answer == right and not touched else ((right, b''), (answer, b''), touched)
 
 

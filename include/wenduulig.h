@@ -8,8 +8,8 @@
  * by a number and never read out of bounds. The nine functions are proved to give the numbers and bytes below on all
  * inputs (crates/capi, crates/gpkg, crates/controller, crates/truth).
  *
- * Two of them write for the planner. They take the same arguments and refuse by the same rules: 1 to 7 the same inputs, 8 and 9 by the
- * bytes of the text that the call writes. Their texts differ in two things alone. Timestamps, wherever they stand:
+ * Two of them write for the planner. They take the same arguments and refuse by the same rules: 1 to 7 the same inputs, 8 and
+ * 9 by the bytes of the text that the call writes. Their texts differ in two things alone. Timestamps, wherever they stand:
  *    wenduulig_to_sql              '2024-02-29T12:00:00'        the text of ogc-cql2, for columns that hold instants so
  *    wenduulig_to_geopackage_sql   '2024-02-29T12:00:00.000Z'   for DATETIME columns as OGC GeoPackage stores them; the
  *                                                               fields of a Timestamp are then UTC

@@ -1,6 +1,6 @@
 /* Tests of include/wenduulig.h: texts, truths, every refusal, and that lent bytes stay as they were; all of lowering by both
- * calls that write, and by their previews, what both callers accept also by the controller's. Each part is handed over in memory of exactly its size, so that valgrind sees any
- * access past its end. */
+ * calls that write, and by their previews; by the controller's functions what both callers answer alike, and its own limits.
+ * Each part is handed over in memory of exactly its size, so that valgrind sees any access past its end. */
 #include <pthread.h>
 #include <stdio.h>
 #include <stdlib.h>
@@ -1031,7 +1031,8 @@ static void test_controller_levels(const struct writing *planner)
 {
     static struct bytes theirs;
     const struct writing *own = writing;
-    const uint8_t null[] = {2, 0, 0, 0, 0, 0}, cut[] = {3, 0, 0, 0, 0, 0}, kind[] = {2, 0, 0, 0, 14, 0}, field[] = {2, 0, 0, 0, 2, 0};
+    const uint8_t null[] = {2, 0, 0, 0, 0, 0}, cut[] = {3, 0, 0, 0, 0, 0}, kind[] = {2, 0, 0, 0, 14, 0};
+    const uint8_t field[] = {2, 0, 0, 0, 2, 0};
     int clean;
     make_settings(&settings);
     for (size_t i = 0; i < sizeof deep_kinds / sizeof *deep_kinds; i++) {
