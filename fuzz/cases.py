@@ -3,10 +3,13 @@ import random
 
 from damage import DAMAGE
 from lowering_cases import Lowerings
+from model.limits import CONTROLLER, PLANNER
 from model.lowering import GEOPACKAGE, RUST
 from reading_cases import Readings
 
-WRITINGS = {'L': RUST, 'G': GEOPACKAGE, 'l': RUST, 'g': GEOPACKAGE}    # of the two calls that write, in small letters of their previews; R is for reading
+# the writings of the two calls that write, with a C those of the controller; in small letters of their previews; R is for reading
+WRITINGS = {case(name): writing for name, writing in (('L', RUST), ('G', GEOPACKAGE), ('CL', RUST), ('CG', GEOPACKAGE)) for case in (str.upper, str.lower)}
+LIMITS = {which: PLANNER if len(which) == 1 else CONTROLLER for which in WRITINGS}    # of their caller
 
 DATETIME = 'timestamps against DATETIME values'    # of which SQLite is asked on columns that are declared so
 
@@ -21,6 +24,9 @@ LOWERING = [
     ('random bytes as a tree', 'random_bytes', 250), ('random records', 'random_records', 700), ('30 to 34 levels', 'deep', 200),
     ('tree of 32,768 bytes', 'tree_limit', 40), ('text of 65,535 bytes', 'text_limit', 40), ('doubled and unwritten ends', 'doubled_ends', 60),
     ('text too long, and wrong besides', 'long_and_wrong', 80),
+    ('6 to 10 levels', 'controller_deep', 300), ('any trees of 7 to 10 levels', 'controller_levels', 200),
+    ('tree of 2,000 bytes', 'controller_tree', 150), ('text of 4,000 bytes', 'controller_text', 200),
+    ('timestamps, 4,000 bytes of text', 'controller_stamps', 100), ('wrong, and past 2,000, 8 or 4,000', 'controller_wrong', 200),
     ('empty settings or tree', 'empty', 50), ('tree too long', 'too_long', 60), ('stored large trees', 'large', 10)]
 READING = [
     ('texts in the grammar', 'grammar', 1000), ('texts of time filters', 'lowered', 600), (DATETIME, 'stamped', 400),

@@ -8,6 +8,7 @@ int64_t true_to_sql(const uint8_t *, size_t, const uint8_t *, size_t, uint8_t *,
 int64_t true_to_geopackage_sql(const uint8_t *, size_t, const uint8_t *, size_t, uint8_t *, size_t);
 int64_t true_preview_sql(const uint8_t *, size_t, const uint8_t *, size_t, size_t);
 int64_t true_preview_geopackage_sql(const uint8_t *, size_t, const uint8_t *, size_t, size_t);
+int64_t true_controller_preview_sql(const uint8_t *, size_t, const uint8_t *, size_t, size_t);
 int32_t true_read(const uint8_t *, size_t, const uint8_t *, size_t);
 
 static uint8_t copy[140000];
@@ -343,13 +344,25 @@ static int64_t faulty_to_geopackage_sql(const uint8_t *s, size_t sn, const uint8
     }
 }
 
+/* The planner's calls with one of the controller's limits. */
+static int64_t limited(int64_t n, size_t tn)
+{
+    if (FAULT == 128 && n >= 0 && tn > WENDUULIG_CONTROLLER_TREE_MAX) /* 128 the planner has the controller's limit of a tree */
+        return -2;
+    if (FAULT == 129 && n > WENDUULIG_CONTROLLER_TEXT_MAX) /* 129 the planner has the controller's limit of a text */
+        return -8;
+    return n;
+}
+
 int64_t wenduulig_to_sql(const uint8_t *s, size_t sn, const uint8_t *t, size_t tn, uint8_t *out, size_t room)
 {
+    if (FAULT == 130 && true_controller_preview_sql(s, sn, t, tn, room) == -4) /* 130 the planner has the controller's depth */
+        return -4;
     if (FAULT == 49) /* 49 the first call writes .000Z */
         return ends_written(true_to_geopackage_sql, END, "-2021-01-01", s, sn, t, tn, out, room);
     if (FAULT == 64) /* 64 the first call writes 'A' for an open end */
         return ends_written(true_to_sql, END, "A", s, sn, t, tn, out, room);
-    return faulty_to_sql(s, sn, t, tn, out, room, true_to_sql(s, sn, t, tn, out, room));
+    return faulty_to_sql(s, sn, t, tn, out, room, limited(true_to_sql(s, sn, t, tn, out, room), tn));
 }
 
 int64_t wenduulig_to_geopackage_sql(const uint8_t *s, size_t sn, const uint8_t *t, size_t tn, uint8_t *out, size_t room)

@@ -3,9 +3,9 @@ import struct
 
 from damage import DAMAGE, INTERVAL, LARGE_TREES, LEAVES, NULL, SMALL_TREES, SPECIAL, bytes_changed, cut_or_lengthened, flipped
 from edges import any_text, edge_leaf, edge_name, edge_value
-from generators import filters, stamps, trees
+from generators import caller_limits, filters, stamps, trees
 from model import lowering, records
-from model.limits import FLAGS, PLANNER, STR
+from model.limits import CONTROLLER, FLAGS, PLANNER, STR
 from model.operators import DYADIC, INSTANT_OR_INTERVAL, MONADIC, NAMES, NUMBER, TEMPORAL
 from model.records import SHEET_SETTINGS, encode, settings_record
 
@@ -18,6 +18,10 @@ AND, EQ, BETWEEN = numbers(('And', 'Eq', 'IsBetween'))
 SPANNING = numbers(INSTANT_OR_INTERVAL)
 OPEN = ('unbounded',)
 SOUP = numbers('Eq And TAfter TDisjoint TEquals TIntersects IsBetween'.split())
+
+
+WRONG = [*((settings_record(SHEET_SETTINGS), *one) for group in (caller_limits.wrong_and_deep, caller_limits.wrong_and_long) for one in group(CONTROLLER)),
+         *caller_limits.wrong_settings(CONTROLLER)]
 
 
 class Lowerings:
@@ -103,9 +107,9 @@ class Lowerings:
             inside = ('dyadic', operator, side(), side())
         return self.settings(), encode(r.choice((inside, ('array', [inside, OPEN]), ('dyadic', 'Or', inside, OPEN))))
 
-    def stamps_limit(self):
-        """Timestamps, written twice, with a text of 65,533 to 65,538 bytes by one of the two calls that write."""
-        r, want = self.r, PLANNER.text + self.r.choice((-2, -1, 0, 0, 1, 1, 2, 3))
+    def stamps_limit(self, limit=PLANNER):
+        """Timestamps, written twice, with a text that is at most two bytes shorter or three longer than the limit by one of the two calls that write."""
+        r, want = self.r, limit.text + self.r.choice((-2, -1, 0, 0, 1, 1, 2, 3))
         writing, side = r.choice((lowering.RUST, lowering.GEOPACKAGE)), ('interval', ('id', 'a'), ('id', 'b'))
         full = lambda count, size: ('dyadic', 'And', ('dyadic', 'TEquals', ('array', [stamps.STAMP] * count), side), ('str', 0, 'y' * size))
         size = lambda tree: len(lowering.text(SHEET_SETTINGS, tree, writing))
@@ -144,12 +148,12 @@ class Lowerings:
         head = {9: struct.pack('<H', operator), 10: struct.pack('<H', operator), 11: b'\1f'}.get(kind, b'')
         return records.record(kind, head + b''.join(below))
 
-    def deep(self):
-        """30 to 34 levels, with something right or wrong at the bottom."""
+    def deep(self, limit=PLANNER):
+        """Up to two levels fewer or more than the limit, with something right or wrong at the bottom."""
         r = self.r
         t = r.choice((NULL, trees.A, r.choice(LEAVES), records.record(14), records.record(2, b'\2'), b'\0', b'\1\0\0\0\0\0', records.array(),
                       INTERVAL))
-        levels = r.choice((29, 30, 31, 31, 32, 33))
+        levels = limit.depth + r.choice((-3, -2, -1, -1, 0, 1))
         while levels > 0:
             k = r.randrange(7)
             if k == 6 and levels >= 2:
@@ -161,13 +165,13 @@ class Lowerings:
             levels -= 1
         return self.settings(), t
 
-    def tree_limit(self):
-        """32,766 to 32,770 bytes, right but for the size; sometimes the settings are wrong too, or the last record."""
-        r = self.r
-        size = PLANNER.tree + r.choice((-2, -1, 0, 0, 1, 1, 2))
+    def tree_limit(self, limit=PLANNER):
+        """Up to two bytes fewer or more than the limit, right but for the size; sometimes the settings are wrong too, or the last record."""
+        r, most = self.r, limit.tree // 8
+        size = limit.tree + r.choice((-2, -1, 0, 0, 1, 1, 2))
         items, used = [], 6
-        while size - used > 4103 + 10:
-            item = encode(self.tree()) if r.random() < .2 else records.string(b'y' * r.randint(3000, 4096))
+        while size - used > most + 17:
+            item = encode(self.tree()) if r.random() < .2 else records.string(b'y' * r.randint(most * 3 // 4, most))
             if used + len(item) + 10 > size:
                 continue
             items.append(item)
@@ -178,11 +182,11 @@ class Lowerings:
             tree = tree[:-1] + b'\0'
         return (self.settings() if r.random() < .9 else b''), tree
 
-    def text_limit(self):
-        """A text of 65,533 to 65,538 bytes by one of the two calls that write, most of it written several times."""
-        r, want = self.r, PLANNER.text + self.r.choice((-2, -1, 0, 0, 0, 1, 1, 1, 2, 3))
+    def text_limit(self, limit=PLANNER):
+        """A text at most two bytes shorter or three longer than the limit by one of the two calls that write, most of it written several times."""
+        r, want = self.r, limit.text + self.r.choice((-2, -1, 0, 0, 0, 1, 1, 1, 2, 3))
         g, writing = self.m.settings(), r.choice((lowering.RUST, lowering.GEOPACKAGE))
-        t = ('array', [('str', r.randrange(4), 'x' * 3900)] * 3)
+        t = ('array', [('str', r.randrange(4), 'x' * (limit.text // 17))] * 3)
         for _ in range(2):
             ends = (r.choice((('id', name), ('unbounded',))) for name in 'ab')
             t = ('dyadic', r.choice(('TEquals', 'TDisjoint', 'TIntersects')), t, ('interval', *ends))
@@ -212,6 +216,28 @@ class Lowerings:
         wrong = r.choice((INTERVAL, INTERVAL, records.dyadic(BETWEEN, trees.A, records.array(trees.A)), records.record(14), records.ident(b'1'), b'\0'))
         sides = r.choice(((encode(t), wrong), (wrong, encode(t))))
         return (self.settings() if r.random() < .9 else b''), records.dyadic(AND, *sides)
+
+    def controller_deep(self):
+        return self.deep(CONTROLLER)
+
+    def controller_levels(self):
+        """Accepted trees, put deeper by any operators."""
+        return self.settings(), encode(caller_limits.deeper(self.r, self.tree(), CONTROLLER.depth + self.r.choice((-1, 0, 0, 1, 2))))
+
+    def controller_tree(self):
+        return self.tree_limit(CONTROLLER)
+
+    def controller_text(self):
+        return self.text_limit(CONTROLLER)
+
+    def controller_stamps(self):
+        return self.stamps_limit(CONTROLLER)
+
+    def controller_wrong(self):
+        """Past a limit of the controller and wrong besides; some with a byte changed."""
+        r = self.r
+        settings, tree, _ = r.choice(WRONG)
+        return (settings if r.random() < .9 else b''), (bytes_changed(r, tree) if tree and r.random() < .2 else tree)
 
     def empty(self):
         r = self.r

@@ -1,13 +1,12 @@
 """Makes the inputs of a disagreement smaller, as long as the library and the expectation still part in the same way."""
 import multiprocessing, time
 
-from cases import WRITINGS
+from cases import LIMITS, WRITINGS
 from damage import NULL
 from generators.edits import records_of, replaced, resized
 from generators.trees import SETTINGS
 from library import Library, check_lowering, check_preview, check_reading
 from model import c as c_numbers, calls
-from model.limits import PLANNER
 
 SECONDS = 20
 
@@ -37,10 +36,11 @@ def again(library, which, a, b, lent):
     """What disagrees on these inputs; the buffer keeps its distance from the text's length, unless no text is as long."""
     if which == 'R':
         return lent, check_reading(library, a, b, c_numbers.read(a, b), *lent)
-    want, check = calls.heard(calls.lowered, a, b, WRITINGS[which]), check_lowering if which.isupper() else check_preview
-    near = len(lent) > 3 and not isinstance(want, int) and lent[0] <= PLANNER.text
+    limit, check = LIMITS[which], check_lowering if which.isupper() else check_preview
+    want = calls.heard(calls.lowered, a, b, WRITINGS[which], limit)
+    near = len(lent) > 3 and not isinstance(want, int) and lent[0] <= limit.text
     room = max(0, len(want) + lent[3]) if near else lent[0]
-    return (room, *lent[1:]), check(library, WRITINGS[which], a, b, want, room, lent[1], lent[2])
+    return (room, *lent[1:]), check(library, WRITINGS[which], a, b, want, room, lent[1], lent[2], limit)
 
 
 def signature(which, found):
@@ -51,7 +51,7 @@ def signature(which, found):
 def reduce(path, which, a, b, lent, found, pipe):
     library, until = Library(path), time.time() + SECONDS
     if which in WRITINGS:
-        want = calls.heard(calls.lowered, a, b, WRITINGS[which])
+        want = calls.heard(calls.lowered, a, b, WRITINGS[which], LIMITS[which])
         lent = (*lent, 0 if isinstance(want, int) else lent[0] - len(want))
     goal, best, moved = signature(which, found), (a, b, lent, found), True
     while moved and time.time() < until:
