@@ -14,11 +14,14 @@ struct input { char kind; size_t count; struct bytes (*ones)[4]; };
 typedef int64_t writer(const uint8_t *, size_t, const uint8_t *, size_t, uint8_t *, size_t);
 typedef int64_t previewer(const uint8_t *, size_t, const uint8_t *, size_t, size_t);
 typedef int32_t reader(const uint8_t *, size_t, const uint8_t *, size_t);
+enum { FUNCTIONS = 9 };
+static const struct { char kind; const char *name; } functions[FUNCTIONS] = {
+    {'L', "wenduulig_to_sql"}, {'G', "wenduulig_to_geopackage_sql"}, {'P', "wenduulig_preview_sql"}, {'Q', "wenduulig_preview_geopackage_sql"},
+    {'l', "wenduulig_controller_to_sql"}, {'g', "wenduulig_controller_to_geopackage_sql"}, {'p', "wenduulig_controller_preview_sql"},
+    {'q', "wenduulig_controller_preview_geopackage_sql"}, {'R', "wenduulig_read"}};
 /* An earlier build may lack a function: it is NULL. */
 struct build {
-    writer *to_sql, *to_geopackage_sql;
-    previewer *preview_sql, *preview_geopackage_sql;
-    reader *read;
+    union { void *at; writer *write; previewer *preview; reader *read; } calls[FUNCTIONS];
 };
 
 static struct input inputs[MOST];
@@ -46,15 +49,13 @@ static void load_inputs(const char *path)
     fclose(f);
 }
 
-static int has_function(const struct input *i, const struct build *b)
+static size_t place_of(char kind)
 {
-    switch (i->kind) {
-    case 'L': return b->to_sql != NULL;
-    case 'G': return b->to_geopackage_sql != NULL;
-    case 'P': return b->preview_sql != NULL;
-    case 'Q': return b->preview_geopackage_sql != NULL;
-    default: return b->read != NULL;
-    }
+    for (size_t k = 0; k < FUNCTIONS; k++)
+        if (functions[k].kind == kind)
+            return k;
+    fail("an input of no function");
+    return 0;
 }
 
 static void load_build(const char *path)
@@ -63,30 +64,26 @@ static void load_build(const char *path)
     if (!so || build_count == MOST)
         fail(so ? "too many libraries" : dlerror());
     struct build *b = &builds[build_count++];
-    *(void **)&b->to_sql = dlsym(so, "wenduulig_to_sql");
-    *(void **)&b->to_geopackage_sql = dlsym(so, "wenduulig_to_geopackage_sql");
-    *(void **)&b->preview_sql = dlsym(so, "wenduulig_preview_sql");
-    *(void **)&b->preview_geopackage_sql = dlsym(so, "wenduulig_preview_geopackage_sql");
-    *(void **)&b->read = dlsym(so, "wenduulig_read");
+    for (size_t k = 0; k < FUNCTIONS; k++)
+        b->calls[k].at = dlsym(so, functions[k].name);
     for (size_t k = 0; k < input_count; k++)
-        if (!has_function(&inputs[k], b))
+        if (!b->calls[place_of(inputs[k].kind)].at)
             fail("a library lacks a function that an input is for");
-}
-
-static int64_t call(char kind, const struct build *b, const struct bytes *p)
-{
-    if (kind == 'L' || kind == 'G')
-        return (kind == 'L' ? b->to_sql : b->to_geopackage_sql)(p[0].at, p[0].n, p[1].at, p[1].n, out, sizeof out);
-    if (kind == 'P' || kind == 'Q')
-        return (kind == 'P' ? b->preview_sql : b->preview_geopackage_sql)(p[0].at, p[0].n, p[1].at, p[1].n, sizeof out);
-    return b->read(p[0].at, p[0].n, p[1].at, p[1].n);
 }
 
 static int64_t pass(const struct input *i, const struct build *b)
 {
+    const size_t place = place_of(i->kind);
     int64_t sum = 0;
-    for (size_t k = 0; k < i->count; k++)
-        sum += call(i->kind, b, i->ones[k]);
+    for (size_t k = 0; k < i->count; k++) {
+        const struct bytes *p = i->ones[k];
+        if (strchr("LGlg", i->kind))
+            sum += b->calls[place].write(p[0].at, p[0].n, p[1].at, p[1].n, out, sizeof out);
+        else if (i->kind != 'R')
+            sum += b->calls[place].preview(p[0].at, p[0].n, p[1].at, p[1].n, sizeof out);
+        else
+            sum += b->calls[place].read(p[0].at, p[0].n, p[1].at, p[1].n);
+    }
     return sum;
 }
 

@@ -64,12 +64,18 @@ static void load(const char *path)
 
 static int64_t ours(char kind, const struct one *o)
 {
-    const struct bytes *p = o->part;
-    if (kind == 'L' || kind == 'G')
-        return (kind == 'L' ? wenduulig_to_sql : wenduulig_to_geopackage_sql)(p[0].at, p[0].n, p[1].at, p[1].n, out, sizeof out);
-    if (kind == 'P' || kind == 'Q')
-        return (kind == 'P' ? wenduulig_preview_sql : wenduulig_preview_geopackage_sql)(p[0].at, p[0].n, p[1].at, p[1].n, sizeof out);
-    return wenduulig_read(p[0].at, p[0].n, p[1].at, p[1].n);
+    const struct bytes *s = &o->part[0], *t = &o->part[1];
+    switch (kind) {
+    case 'L': return wenduulig_to_sql(s->at, s->n, t->at, t->n, out, sizeof out);
+    case 'G': return wenduulig_to_geopackage_sql(s->at, s->n, t->at, t->n, out, sizeof out);
+    case 'P': return wenduulig_preview_sql(s->at, s->n, t->at, t->n, sizeof out);
+    case 'Q': return wenduulig_preview_geopackage_sql(s->at, s->n, t->at, t->n, sizeof out);
+    case 'l': return wenduulig_controller_to_sql(s->at, s->n, t->at, t->n, out, sizeof out);
+    case 'g': return wenduulig_controller_to_geopackage_sql(s->at, s->n, t->at, t->n, out, sizeof out);
+    case 'p': return wenduulig_controller_preview_sql(s->at, s->n, t->at, t->n, sizeof out);
+    case 'q': return wenduulig_controller_preview_geopackage_sql(s->at, s->n, t->at, t->n, sizeof out);
+    default: return wenduulig_read(s->at, s->n, t->at, t->n);
+    }
 }
 
 static void step(sqlite3_stmt *s)

@@ -4,7 +4,7 @@ import os, random, struct, sys
 sys.path.insert(0, os.path.join(os.path.dirname(os.path.abspath(__file__)), '..', 'tools'))
 from generators.reading_edges import three_letter_names
 from model import records
-from model.limits import BRACKETS, PLANNER, SQL, STR, VALUE
+from model.limits import BRACKETS, CONTROLLER, PLANNER, SQL, STR, VALUE
 from model.lowering import text
 from model.records import SHEET_SETTINGS, encode, settings_record
 from model.strings import quoted
@@ -248,6 +248,17 @@ def previewed():
         ('time filters', lowering(TIME_FILTERS)), ('mixed filters', lowering(MIXED_FILTERS)), ('32 KB trees', lowering(large(PLANNER.tree))),
         ('stays that have not ended, 2nd call', lowering(NOT_ENDED_FILTERS, 'G')), ('a 32 KB tree that is refused, 7', refused),
         ('29 TDisjoint, refused with 8', long))]
+
+
+def controlled():
+    """Label, and the same trees by a call of the planner's and of the controller's: filters that both accept, and some that are refused."""
+    listed, _, numbers = large(CONTROLLER.tree)
+    longer = [listed, balanced(MIXED_FILTERS), numbers]    # of 2, 1 and 2 KB; more filters would be more than 8 levels deep
+    wrong = two('And', large(CONTROLLER.tree - 100)[0], span(ENTERED, EXITED))
+    return [(label, case, (case[0].lower(), case[1])) for label, case in (
+        ('time filters', lowering(TIME_FILTERS)), ('mixed filters', lowering(MIXED_FILTERS)), ('trees of 1 to 2 KB', lowering(longer)),
+        ('stays that have not ended, 2nd call', lowering(NOT_ENDED_FILTERS, 'G')), ('previews, time filters', lowering(TIME_FILTERS, 'P')),
+        ('previews, trees of 1 to 2 KB, 2nd call', lowering(longer, 'Q')), ('a 2 KB tree that is refused, 7', lowering([wrong])))]
 
 
 def compared():
