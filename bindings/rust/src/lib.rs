@@ -20,6 +20,8 @@
 //! [`preview_sql`] and [`preview_geopackage_sql`] answer what a call would that writes into a buffer of some size: the length
 //! of the text, or the refusal. With [`TEXT_MAX`] or more, as `usize::MAX`, the length is what has to be reserved.
 //!
+//! These are the planner's calls. [`controller`] has the same with the limits of the camera's controller.
+//!
 //! ```
 //! use wenduulig::{preview_sql, read, to_geopackage_sql, to_sql, Op, Refusal, Row, Settings, E};
 //!
@@ -68,6 +70,7 @@
 #![deny(missing_docs, unsafe_code)]
 #![warn(clippy::all)]
 
+pub mod controller;
 mod expr;
 mod ffi;
 mod op;
@@ -77,6 +80,7 @@ mod row;
 mod settings;
 mod walks;
 
+use ffi::Caller::{self, Planner};
 use ffi::Writing;
 
 pub use expr::{Call, Date, Num, QString, Timestamp, E, G};
@@ -89,7 +93,7 @@ pub use settings::Settings;
 pub const TEXT_MAX: usize = 65_535;
 
 /// The bytes that are tried first for a tree of no more; for a longer tree [`TIMES_TREE`] times its own. Most texts are shorter,
-/// and one that is not is lowered anew into [`TEXT_MAX`] bytes. To ask for the length by a preview first takes half as long
+/// and one that is not is lowered anew into as many as the caller's longest text has. To ask for the length by a preview first takes half as long
 /// again where the first try is enough, as it mostly is (examples/reserving.rs).
 const FIRST_TRY: usize = 1024;
 const TIMES_TREE: usize = 3;
@@ -108,7 +112,7 @@ pub fn to_sql(settings: &Settings, filter: &E) -> Result<String, Refusal> {
 /// # Errors
 /// The first refusal of 1 to 8 that document 01's order gives. Any bytes may be handed in.
 pub fn to_sql_bytes(settings: &[u8], tree: &[u8]) -> Result<String, Refusal> {
-    lower(Writing::Rust, settings, tree)
+    lower(Planner, Writing::Rust, settings, tree)
 }
 
 /// Lowers into a buffer of the caller's and answers the text's length. Bytes past the text, and after a refusal all bytes,
@@ -117,7 +121,7 @@ pub fn to_sql_bytes(settings: &[u8], tree: &[u8]) -> Result<String, Refusal> {
 /// # Errors
 /// The first refusal of 1 to 9 that document 01's order gives.
 pub fn to_sql_into(settings: &[u8], tree: &[u8], out: &mut [u8]) -> Result<usize, Refusal> {
-    lower_into(Writing::Rust, settings, tree, out)
+    lower_into(Planner, Writing::Rust, settings, tree, out)
 }
 
 /// The SQL text of a filter with timestamps as a GeoPackage stores them in DATETIME columns: `.000Z` stands after their
@@ -135,7 +139,7 @@ pub fn to_geopackage_sql(settings: &Settings, filter: &E) -> Result<String, Refu
 /// # Errors
 /// Those of [`to_sql_bytes`]; 8 counts the text of this call.
 pub fn to_geopackage_sql_bytes(settings: &[u8], tree: &[u8]) -> Result<String, Refusal> {
-    lower(Writing::GeoPackage, settings, tree)
+    lower(Planner, Writing::GeoPackage, settings, tree)
 }
 
 /// The same into a buffer of the caller's, as [`to_sql_into`].
@@ -143,7 +147,7 @@ pub fn to_geopackage_sql_bytes(settings: &[u8], tree: &[u8]) -> Result<String, R
 /// # Errors
 /// Those of [`to_sql_into`]; 8 and 9 count the text of this call.
 pub fn to_geopackage_sql_into(settings: &[u8], tree: &[u8], out: &mut [u8]) -> Result<usize, Refusal> {
-    lower_into(Writing::GeoPackage, settings, tree, out)
+    lower_into(Planner, Writing::GeoPackage, settings, tree, out)
 }
 
 /// The length that [`to_sql`]'s text has, in bytes, if it is no longer than `size`: what [`to_sql_into`] answers with a buffer
@@ -180,7 +184,7 @@ pub fn preview_sql(settings: &Settings, filter: &E, size: usize) -> Result<usize
 /// # Ok::<(), Refusal>(())
 /// ```
 pub fn preview_sql_bytes(settings: &[u8], tree: &[u8], size: usize) -> Result<usize, Refusal> {
-    answered(ffi::preview(Writing::Rust, settings, tree, size))
+    preview(Planner, Writing::Rust, settings, tree, size)
 }
 
 /// The same of [`to_geopackage_sql`]: what [`to_geopackage_sql_into`] answers with a buffer of that size.
@@ -204,30 +208,48 @@ pub fn preview_geopackage_sql(settings: &Settings, filter: &E, size: usize) -> R
 /// # Errors
 /// Those of [`preview_sql_bytes`]; 8 and 9 count the text of this call.
 pub fn preview_geopackage_sql_bytes(settings: &[u8], tree: &[u8], size: usize) -> Result<usize, Refusal> {
-    answered(ffi::preview(Writing::GeoPackage, settings, tree, size))
+    preview(Planner, Writing::GeoPackage, settings, tree, size)
 }
 
-fn lower(writing: Writing, settings: &[u8], tree: &[u8]) -> Result<String, Refusal> {
+/// The length of a caller's longest text, in bytes.
+const fn text_max(caller: Caller) -> usize {
+    match caller {
+        Planner => TEXT_MAX,
+        Caller::Controller => controller::TEXT_MAX,
+    }
+}
+
+fn lower(caller: Caller, writing: Writing, settings: &[u8], tree: &[u8]) -> Result<String, Refusal> {
     let (mut short, mut long);
     let first: &mut [u8] = if tree.len() <= FIRST_TRY {
         short = [0; FIRST_TRY];
         &mut short
     } else {
-        long = vec![0; TEXT_MAX.min(tree.len().saturating_mul(TIMES_TREE))];
+        long = vec![0; text_max(caller).min(tree.len().saturating_mul(TIMES_TREE))];
         &mut long
     };
-    match lower_into(writing, settings, tree, first) {
+    match lower_into(caller, writing, settings, tree, first) {
         Err(Refusal::BufferTooShort) => {
-            let mut out = vec![0; TEXT_MAX];
-            let n = lower_into(writing, settings, tree, &mut out)?;
+            let mut out = vec![0; text_max(caller)];
+            let n = lower_into(caller, writing, settings, tree, &mut out)?;
             Ok(string(&out[..n]))
         }
         answer => Ok(string(&first[..answer?])),
     }
 }
 
-fn lower_into(writing: Writing, settings: &[u8], tree: &[u8], out: &mut [u8]) -> Result<usize, Refusal> {
-    answered(ffi::lower(writing, settings, tree, out))
+fn lower_into(
+    caller: Caller,
+    writing: Writing,
+    settings: &[u8],
+    tree: &[u8],
+    out: &mut [u8],
+) -> Result<usize, Refusal> {
+    answered(ffi::lower(caller, writing, settings, tree, out))
+}
+
+fn preview(caller: Caller, writing: Writing, settings: &[u8], tree: &[u8], size: usize) -> Result<usize, Refusal> {
+    answered(ffi::preview(caller, writing, settings, tree, size))
 }
 
 /// A length, or the refusal of an answer below zero.

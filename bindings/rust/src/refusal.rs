@@ -40,11 +40,12 @@ refusals! {
          collations, each of ",
         names!()
     ),
-    TreeTooLong = 2: "the filter is longer than 32,768 bytes as records: split it, or shorten its lists and texts",
+    TreeTooLong = 2: "the filter is longer than 32,768 bytes as records, for the controller 2,000: split it, or shorten its lists and \
+         texts",
     BadFrame = 3: "the filter's records are broken: a record is missing where one is due, a length is below 2 or passes \
          the end around it, or bytes are left over; trees made by `E::encode` never are",
-    TooDeep = 4: "the filter is nested deeper than 32 levels, the outermost being 1: build long AND and OR chains as \
-         balanced trees",
+    TooDeep = 4: "the filter is nested deeper than 32 levels, for the controller 8, the outermost being 1: build long AND and \
+         OR chains as balanced trees",
     BadKindOrOperator = 5: "a record's kind is above 13, an operator's number above 52, or an operator stands at the \
          wrong number of operands: of one operand are only Minus, Neg, CaseI, AccentI, IsNull and IsNotNull, of two all \
          others and Minus",
@@ -59,10 +60,10 @@ refusals! {
     BadOperand = 7: "an operand is out of place: an Interval stands only directly under a temporal operator, temporal \
          operators other than TAfter, TBefore, TDisjoint, TEquals and TIntersects need an Interval on both sides, and \
          BETWEEN and NOT BETWEEN need an Array of exactly two on their right",
-    TextTooLong = 8: "the SQL text is longer than 65,535 bytes: a smaller filter is needed; operands of nested temporal \
-         operators are written more than once",
+    TextTooLong = 8: "the SQL text is longer than 65,535 bytes, for the controller 4,000: a smaller filter is needed; operands \
+         of nested temporal operators are written more than once",
     BufferTooShort = 9: "the SQL text is longer than the buffer that was lent: lend a larger one; 65,535 bytes are \
-         always enough",
+         always enough, for the controller 4,000",
     InputTooLong = 10: "the SQL text to be read is longer than 65,535 bytes, or the row longer than 32,768 bytes as \
          records",
     BadRow = 11: concat!(
