@@ -12,10 +12,11 @@ use Rattle.refusal.specs.declared.Refusal.{Refusal}
 use Rattle.refusal.specs.declared.Refusal.the-variants.{BadSettings, TreeTooLong, BadFrame, TooDeep, BadKindOrOperator, BadField, BadOperand, TextTooLong, BufferTooShort, InputTooLong, BadRow, BadText, MissingColumn}
 use Rattle.refusal.specs.Number.{numberOf}
 use Rattle.literal.specs.declared.Writing.{Writing}
+use Rattle.tree.specs.declared.Limits.{Limits}
 use Rattle.tree.specs.Parse.{Read, refused, got}
 use Rattle.text.specs.declared.Lowered.{Lowered}
 use Rattle.text.specs.declared.Lowered.the-variants.{Text, Refused}
-use Rattle.text.specs.Lowered.{Heard, refusal, answer, heard, lowering}
+use Rattle.text.specs.Lowered.{Heard, refusal, answer, heard, loweringWithin}
 use Rattle.text.specs.LoweredLaws.{given}
 use Rattle.capi.specs.LengthWords.{lengthOf}
 use Rattle.capi.specs.Numbers.{minus, loweringNumber}
@@ -51,14 +52,14 @@ module _ {z : ℤ} {n : ℕ} (e : z ≡ minus n) (h : n < 256) where
   pub back64 : toZ w64 (ofZ w64 (toZ w32 (ofZ w32 z))) ≡ minus n
   back64 = toZ-ofZ wide-fits ∙ back32
 
--- no text that lowering answers is longer than 65,535 bytes
-short : (w : Writing) (settings tree : List ℕ) (room : ℕ) → lengthOf (answer (lowering w settings tree room)) ≤ 65535
+-- no text that lowering answers is longer than the caller's limit
+short : (limits : Limits) (w : Writing) (settings tree : List ℕ) (room : ℕ) → lengthOf (answer (loweringWithin limits w settings tree room)) ≤ limits .text
 unfolding answer
-short w settings tree room = go (lowering w settings tree room) refl
+short limits w settings tree room = go (loweringWithin limits w settings tree room) refl
   where
-    go : (x : Read (List ℕ)) → lowering w settings tree room ≡ x → lengthOf (answer x) ≤ 65535
+    go : (x : Read (List ℕ)) → loweringWithin limits w settings tree room ≡ x → lengthOf (answer x) ≤ limits .text
     go (refused r) e = omega arith
-    go (got x) e = given w settings tree room x e .short
+    go (got x) e = given limits w settings tree room x e .short
 
 pub length-fits : (n : ℕ) → n ≤ 65535 → SFits w64 (pos n)
 length-fits n h = record { sfits = omega arith }
@@ -66,9 +67,9 @@ length-fits n h = record { sfits = omega arith }
 pub length-back : (n : ℕ) → n ≤ 65535 → toZ w64 n ≡ pos n
 length-back n h = toZ-pos w64 {n = n} (omega arith)
 
--- so the answer of each writing call and of each preview is short
-pub short-answer : (w : Writing) (settings tree : List ℕ) (room : ℕ) {found : Lowered} → found ≡ answer (lowering w settings tree room) → lengthOf found ≤ 65535
-short-answer w settings tree room e = subst (λ (l : Lowered). lengthOf l ≤ 65535) (sym e) (short w settings tree room)
+-- so the answer of each writing call and of each preview is short, be it the planner's or the controller's
+pub short-answer : (limits : Limits) (w : Writing) (settings tree : List ℕ) (room : ℕ) {found : Lowered} → limits .text ≤ 65535 → found ≡ answer (loweringWithin limits w settings tree room) → lengthOf found ≤ 65535
+short-answer limits w settings tree room h e = subst (λ (l : Lowered). lengthOf l ≤ 65535) (sym e) (omega (arith, short limits w settings tree room))
 
 -- a number of at most five digits, of either sign, fits
 small-fits : (z : ℤ) → natAbs z ≤ 65535 → SFits w64 z

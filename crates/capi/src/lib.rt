@@ -4,7 +4,9 @@ ghost use Prim.Native.Nat.{_<_, _≤_};
 ghost use lib.ListN.{length};
 ghost use Rattle.refusal.specs.Number.{numberOf};
 ghost use Rattle.literal.specs.declared.Writing.the-variants.{Rust, GeoPackage};
-ghost use Rattle.text.specs.Lowered.{heard, leaves, lengthLimit, lowering, said};
+ghost use Rattle.text.specs.Lowered.{heard, leaves, lowering, loweringWithin, said};
+ghost use Rattle.tree.specs.Limits.{lengthLimit};
+ghost use Rattle.controller.specs.Controller.{controller};
 ghost use Rattle.truth.specs.Reading as reading;
 ghost use Rattle.capi.specs.LengthWords.{lengthOf};
 ghost use Rattle.capi.specs.Numbers.{minus, loweringNumber, readingNumber};
@@ -70,6 +72,55 @@ pub extern "C" fn wenduulig_preview_geopackage_sql(settings: &[u8], tree: &[u8],
     ensures { λ r. ⌜ r ≡ loweringNumber (said (lowering GeoPackage (now (settings .entry)) (now (tree .entry)) size)) ⌝ }
 {
     preview(Writing::GeoPackage, settings, tree, size)
+}
+
+// The same of `controller::to_sql`: refusals 2, 4 and 8 mean the controller's limits.
+#[no_mangle]
+pub extern "C" fn wenduulig_controller_to_sql(settings: &[u8], tree: &[u8], out: &mut [u8]) -> i64
+    ensures says { λ r. ⌜ r ≡ loweringNumber (said (loweringWithin controller Rust (now (settings .entry)) (now (tree .entry)) (length (now (out .entry))))) ⌝ }
+    ensures bytes { λ r. ⌜ now (out .exit) ≡ leaves (now (out .entry)) (loweringWithin controller Rust (now (settings .entry)) (now (tree .entry)) (length (now (out .entry)))) ⌝ }
+{
+    number(controller::to_sql(settings, tree, out))
+}
+
+// The same of `controller::to_geopackage_sql`.
+#[no_mangle]
+pub extern "C" fn wenduulig_controller_to_geopackage_sql(
+    settings: &[u8],
+    tree: &[u8],
+    out: &mut [u8],
+) -> i64
+    ensures says { λ r. ⌜ r ≡ loweringNumber (said (loweringWithin controller GeoPackage (now (settings .entry)) (now (tree .entry)) (length (now (out .entry))))) ⌝ }
+    ensures bytes { λ r. ⌜ now (out .exit) ≡ leaves (now (out .entry)) (loweringWithin controller GeoPackage (now (settings .entry)) (now (tree .entry)) (length (now (out .entry)))) ⌝ }
+{
+    number(controller::to_geopackage_sql(settings, tree, out))
+}
+
+// The number of the answer of a controller's preview, by either writing.
+fn controller_preview(writing: Writing, settings: &[u8], tree: &[u8], size: usize) -> i64
+    ensures { λ r. ⌜ r ≡ loweringNumber (said (loweringWithin controller writing (now (settings .entry)) (now (tree .entry)) size)) ⌝ }
+{
+    number(controller::preview(writing, settings, tree, size))
+}
+
+// What `wenduulig_controller_to_sql` answers with a buffer of this size; nothing is written.
+#[no_mangle]
+pub extern "C" fn wenduulig_controller_preview_sql(settings: &[u8], tree: &[u8], size: usize) -> i64
+    ensures { λ r. ⌜ r ≡ loweringNumber (said (loweringWithin controller Rust (now (settings .entry)) (now (tree .entry)) size)) ⌝ }
+{
+    controller_preview(Writing::Rust, settings, tree, size)
+}
+
+// What `wenduulig_controller_to_geopackage_sql` answers with a buffer of this size; nothing is written.
+#[no_mangle]
+pub extern "C" fn wenduulig_controller_preview_geopackage_sql(
+    settings: &[u8],
+    tree: &[u8],
+    size: usize,
+) -> i64
+    ensures { λ r. ⌜ r ≡ loweringNumber (said (loweringWithin controller GeoPackage (now (settings .entry)) (now (tree .entry)) size)) ⌝ }
+{
+    controller_preview(Writing::GeoPackage, settings, tree, size)
 }
 
 // 1 true, 0 false, 2 unknown, or minus the number of a refusal, 10 to 13.

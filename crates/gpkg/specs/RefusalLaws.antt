@@ -23,25 +23,21 @@ use Rattle.op.specs.declared.Op.{Op}
 use Rattle.op.specs.declared.Named.{Named}
 use Rattle.op.specs.declared.Named.the-variants.{Is, NoOp}
 use Rattle.op.specs.Op.{opOf}
-use Rattle.tree.specs.Limits.{treeLimit, depthLimit}
+use Rattle.tree.specs.declared.Limits.{Limits}
 use Rattle.tree.specs.Tests.{first, second}
 use Rattle.tree.specs.Tree.{Tree, Trees, null, unbounded, bool, num, str, date, timestamp, spatial, id, monadic, dyadic, function, array, interval}
 use Rattle.tree.specs.Parse.{Read, refused, got, also, Body, Row, cons, end, exactly, many, items, mantissa, emptyBody, boolBody, numBody, strBody, dateBody, timestampBody, spatialBody, leaf, takesOne, takesTwo, allowed, operated, readFunction, choose, kinds, node, parse}
 use Rattle.tree.specs.Placed.{placed}
 use Rattle.tree.specs.Accepted.{settings, accepted}
+use Rattle.tree.specs.LimitLaws.{isOf}
 use Rattle.text.specs.Text.{text}
-use Rattle.text.specs.Lowered.{lengthLimit, fitted, lowering}
+use Rattle.text.specs.Lowered.{fitted, loweringWithin}
 use Rattle.room.specs.Room.{sized}
 use Rattle.room.specs.RoomLaws.{too-long, has-room}
 
 -- refusals 1 to 7, of settings and tree
 abbrev pub early : List Refusal
 early = BadSettings ∷ TreeTooLong ∷ BadFrame ∷ TooDeep ∷ BadKindOrOperator ∷ BadField ∷ BadOperand ∷ []
-
--- a refusal stands in a list of them
-abbrev pub isOf : List Refusal → Refusal → Bool
-isOf [] n = false
-isOf (r ∷ rs) n = either (eqb (numberOf r) (numberOf n)) (isOf rs n)
 
 -- a value, or a refusal of the list
 abbrev gives : {A : Type 0} → List Refusal → Read A → Bool
@@ -161,12 +157,12 @@ unfolding node
 node-gives zero k s = refl
 node-gives (suc n) k s = kinds-gives (λ j b. node n j b) (λ j b. node-gives n j b) k s
 
-accepted-gives : (c s : List ℕ) → gives early (accepted c s) ≡ true
+accepted-gives : (l : Limits) (c s : List ℕ) → gives early (accepted l c s) ≡ true
 unfolding accepted settings parse
-accepted-gives c s =
+accepted-gives l c s =
     also-gives early _ _ (pick-gives early (isSettings c) _ _ refl refl) (λ g.
-    pick-gives early (ltb treeLimit (length s)) _ _ refl
-    (also-gives early _ _ (also-gives early _ _ (exactly-gives (node depthLimit) (λ j b. node-gives depthLimit j b) 1 s) (λ ts. refl)) (λ t.
+    pick-gives early (ltb (l .tree) (length s)) _ _ refl
+    (also-gives early _ _ (also-gives early _ _ (exactly-gives (node (l .depth)) (λ j b. node-gives (l .depth) j b) 1 s) (λ ts. refl)) (λ t.
     pick-gives early (placed t) _ _ refl refl)))
 
 longer : (rs more : List Refusal) (n : Refusal) → isOf rs n ≡ true → isOf (rs ++ more) n ≡ true
@@ -185,39 +181,39 @@ refuses : {A : Type 0} {r : Read A} {n : Refusal} (rs : List Refusal) → gives 
 refuses {A} {r} {n} rs e z = sym (ap (gives rs) z) ∙ e
 
 -- What is refused of settings and a tree is one of 1 to 7.
-pub accepted-refuses : (settings tree : List ℕ) (n : Refusal) → accepted settings tree ≡ refused n → isOf early n ≡ true
-accepted-refuses settings tree n z = refuses early (accepted-gives settings tree) z
+pub accepted-refuses : (limits : Limits) (settings tree : List ℕ) (n : Refusal) → accepted limits settings tree ≡ refused n → isOf early n ≡ true
+accepted-refuses limits settings tree n z = refuses early (accepted-gives limits settings tree) z
 
-module _ (w : Writing) (settings tree : List ℕ) (room : ℕ) (n : Refusal) where
-  lowering-gives : (more : List Refusal) → ((x : List ℕ) → gives (early ++ more) (fitted room x) ≡ true) → gives (early ++ more) (lowering w settings tree room) ≡ true
-  unfolding lowering
+module _ (limits : Limits) (w : Writing) (settings tree : List ℕ) (room : ℕ) (n : Refusal) where
+  lowering-gives : (more : List Refusal) → ((x : List ℕ) → gives (early ++ more) (fitted (limits .text) room x) ≡ true) → gives (early ++ more) (loweringWithin limits w settings tree room) ≡ true
+  unfolding loweringWithin
   lowering-gives more f =
       also-gives
       (early ++ more)
-      (accepted settings tree)
-      (λ p. fitted room (text w (p .0) (p .1)))
-      (more-gives more (accepted settings tree) (accepted-gives settings tree))
+      (accepted limits settings tree)
+      (λ p. fitted (limits .text) room (text w (p .0) (p .1)))
+      (more-gives more (accepted limits settings tree) (accepted-gives limits settings tree))
       (λ p. f (text w (p .0) (p .1)))
 
   -- What a writing call or a preview refuses is one of 1 to 9.
-  pub lowering-refuses : lowering w settings tree room ≡ refused n → isOf (early ++ (TextTooLong ∷ BufferTooShort ∷ [])) n ≡ true
+  pub lowering-refuses : loweringWithin limits w settings tree room ≡ refused n → isOf (early ++ (TextTooLong ∷ BufferTooShort ∷ [])) n ≡ true
   unfolding fitted sized
   lowering-refuses z =
       refuses
       _
       (lowering-gives
       (TextTooLong ∷ BufferTooShort ∷ [])
-      (λ x. pick-gives _ (ltb lengthLimit (length x)) (refused TextTooLong) _ refl (pick-gives _ (ltb room (length x)) (refused BufferTooShort) (got x) refl refl)))
+      (λ x. pick-gives _ (ltb (limits .text) (length x)) (refused TextTooLong) _ refl (pick-gives _ (ltb room (length x)) (refused BufferTooShort) (got x) refl refl)))
       z
 
   -- From 65,535 bytes on it is one of 1 to 8.
-  pub ample-refuses : lengthLimit ≤ room → lowering w settings tree room ≡ refused n → isOf (early ++ (TextTooLong ∷ [])) n ≡ true
+  pub ample-refuses : limits .text ≤ room → loweringWithin limits w settings tree room ≡ refused n → isOf (early ++ (TextTooLong ∷ [])) n ≡ true
   unfolding fitted
-  ample-refuses h z = refuses _ (lowering-gives (TextTooLong ∷ []) (λ x. go x (ltb lengthLimit (length x)) refl)) z
+  ample-refuses h z = refuses _ (lowering-gives (TextTooLong ∷ []) (λ x. go x (ltb (limits .text) (length x)) refl)) z
     where
-      go : (x : List ℕ) (b : Bool) → ltb lengthLimit (length x) ≡ b → gives (early ++ (TextTooLong ∷ [])) (fitted room x) ≡ true
+      go : (x : List ℕ) (b : Bool) → ltb (limits .text) (length x) ≡ b → gives (early ++ (TextTooLong ∷ [])) (fitted (limits .text) room x) ≡ true
       go x true q =
-          ap (gives (early ++ (TextTooLong ∷ []))) (too-long refused (got x) lengthLimit room (length x) (ltb-true lengthLimit (length x) q))
+          ap (gives (early ++ (TextTooLong ∷ []))) (too-long refused (got x) (limits .text) room (length x) (ltb-true (limits .text) (length x) q))
       go x false q =
-          let l : length x ≤ lengthLimit = ltb-false lengthLimit (length x) q in
-          ap (gives (early ++ (TextTooLong ∷ []))) (has-room refused (got x) lengthLimit room (length x) l (omega arith))
+          let l : length x ≤ limits .text = ltb-false (limits .text) (length x) q in
+          ap (gives (early ++ (TextTooLong ∷ []))) (has-room refused (got x) (limits .text) room (length x) l (omega arith))

@@ -2,6 +2,7 @@
 pub mod Text
 pub mod Lowered
 -- Words of private contracts.
+pub mod LimitWords
 pub mod RecordWords
 pub mod LeafWords
 pub mod EndWords
@@ -9,3 +10,4 @@ pub mod FormWords
 pub mod NodeWords
 -- Laws.
 pub mod LoweredLaws
+pub mod LimitLaws

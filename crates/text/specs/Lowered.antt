@@ -1,5 +1,5 @@
 -- What lowering answers and what it leaves in the buffer, refusals 1 to 9 in order: document 01, "What a caller hears"; by the
--- writing, and by the size of a buffer alone: document 02, slips 4 and 6.
+-- writing, by the size of a buffer alone, and by the caller's limits: document 02, slips 4, 6 and 7.
 use Prim.Native.Nat.{ℕ}
 use mathlib.Core.List.{List, _++_}
 use lib.ListN.{length, drop}
@@ -7,23 +7,24 @@ use Rattle.refusal.specs.Number.{numberOf}
 use Rattle.literal.specs.declared.Writing.{Writing}
 use Rattle.tree.specs.Parse.{Read, refused, got, also}
 use Rattle.tree.specs.Accepted.{accepted}
-use Rattle.tree.specs.Limits.{limits}
+use Rattle.tree.specs.declared.Limits.{Limits}
+use Rattle.tree.specs.Limits.{planner}
 use Rattle.room.specs.Room.{sized}
 use Rattle.text.specs.Text.{text}
 use Rattle.text.specs.declared.Lowered as lowered
 use Rattle.text.specs.declared.Lowered.the-variants.{Text, Refused}
 
--- the bytes of a text
-abbrev pub lengthLimit : ℕ
-lengthLimit = limits .text
+-- 8 if the text is longer than the limit, 9 if it is longer than the buffer, whose bytes are `room`, else the text
+unfoldable pub fitted : ℕ → ℕ → List ℕ → Read (List ℕ)
+fitted limit room x = sized refused (got x) limit room (length x)
 
--- 8 if the text is longer than 65,535 bytes, 9 if it is longer than the buffer, whose bytes are `room`, else the text
-unfoldable pub fitted : ℕ → List ℕ → Read (List ℕ)
-fitted room x = sized refused (got x) lengthLimit room (length x)
+-- the text of settings and a tree that are accepted within the caller's limits, by the writing of the call
+unfoldable pub loweringWithin : Limits → Writing → List ℕ → List ℕ → ℕ → Read (List ℕ)
+loweringWithin limits w settings tree room = also (accepted limits settings tree) (λ p. fitted (limits .text) room (text w (p .0) (p .1)))
 
--- the text of accepted settings and tree, by the writing of the call
-unfoldable pub lowering : Writing → List ℕ → List ℕ → ℕ → Read (List ℕ)
-lowering w settings tree room = also (accepted settings tree) (λ p. fitted room (text w (p .0) (p .1)))
+-- for the planner
+abbrev pub lowering : Writing → List ℕ → List ℕ → ℕ → Read (List ℕ)
+lowering = loweringWithin planner
 
 -- the answer: a text's length, or the refusal
 unfoldable pub answer : Read (List ℕ) → lowered.Lowered

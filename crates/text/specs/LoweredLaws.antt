@@ -11,6 +11,7 @@ use borrow.Author.Tests.{ltb-false}
 use Rattle.prelude.specs.Choice.{pick}
 use Rattle.refusal.specs.declared.Refusal.the-variants.{TextTooLong, BufferTooShort}
 use Rattle.literal.specs.declared.Writing.{Writing}
+use Rattle.tree.specs.declared.Limits.{Limits}
 use Rattle.tree.specs.Tree.{Tree, Settings}
 use Rattle.tree.specs.Parse.{Read, refused, got, also}
 use Rattle.tree.specs.ParseLaws.{also-got, not-got}
@@ -18,7 +19,7 @@ use Rattle.tree.specs.Accepted.{accepted}
 use Rattle.room.specs.Room.{sized}
 use Rattle.text.specs.declared.Lowered as lowered
 use Rattle.text.specs.Text.{text}
-use Rattle.text.specs.Lowered.{lengthLimit, answer, fitted, said, heard, lowering}
+use Rattle.text.specs.Lowered.{answer, fitted, said, heard, loweringWithin}
 
 heard-answer : (x : Read (List ℕ)) → heard (answer x) ≡ said x
 unfolding answer
@@ -29,38 +30,38 @@ pub heard-said : {r : lowered.Lowered} (x : Read (List ℕ)) → r ≡ answer x 
 heard-said x e = ap heard e ∙ heard-answer x
 
 -- x is within the limit and the room, and is the y that was given
-pub record Fits (room : ℕ) (x y : List ℕ) : Type 0 where
+pub record Fits (limit room : ℕ) (x y : List ℕ) : Type 0 where
   pub is : x ≡ y
-  pub short : length x ≤ lengthLimit
+  pub short : length x ≤ limit
   pub enough : length x ≤ room
 
-pub fitted-got : (room : ℕ) (x y : List ℕ) → fitted room x ≡ got y → Fits room x y
+pub fitted-got : (limit room : ℕ) (x y : List ℕ) → fitted limit room x ≡ got y → Fits limit room x y
 unfolding fitted sized
-fitted-got room x y e = go (ltb lengthLimit (length x)) (ltb room (length x)) refl refl e
+fitted-got limit room x y e = go (ltb limit (length x)) (ltb room (length x)) refl refl e
   where
-    go : (a b : Bool) → ltb lengthLimit (length x) ≡ a → ltb room (length x) ≡ b → pick a (refused TextTooLong) (pick b (refused BufferTooShort) (got x)) ≡ got y → Fits room x y
+    go : (a b : Bool) → ltb limit (length x) ≡ a → ltb room (length x) ≡ b → pick a (refused TextTooLong) (pick b (refused BufferTooShort) (got x)) ≡ got y → Fits limit room x y
     go true b p q z = not-got TextTooLong y z
     go false true p q z = not-got BufferTooShort y z
-    go false false p q z = record { is = cc; short = ltb-false lengthLimit (length x) p; enough = ltb-false room (length x) q }
+    go false false p q z = record { is = cc; short = ltb-false limit (length x) p; enough = ltb-false room (length x) q }
 
-module _ (w : Writing) (settings tree : List ℕ) where
-  -- x is the text of accepted settings and tree, and within the limit
+module _ (limits : Limits) (w : Writing) (settings tree : List ℕ) where
+  -- x is the text of settings and a tree that are accepted within the limits, and is within them
   pub record Given (x : List ℕ) : Type 0 where
     pub holds : Settings × Tree
-    pub read : accepted settings tree ≡ got holds
+    pub read : accepted limits settings tree ≡ got holds
     pub is : text w (holds .0) (holds .1) ≡ x
-    pub short : length x ≤ lengthLimit
+    pub short : length x ≤ limits .text
 
-  pub given : (room : ℕ) (x : List ℕ) → lowering w settings tree room ≡ got x → Given x
-  unfolding lowering
+  pub given : (room : ℕ) (x : List ℕ) → loweringWithin limits w settings tree room ≡ got x → Given x
+  unfolding loweringWithin
   given room x e =
-      let h = also-got (accepted settings tree) (λ p. fitted room (text w (p .0) (p .1))) x e in
+      let h = also-got (accepted limits settings tree) (λ p. fitted (limits .text) room (text w (p .0) (p .1))) x e in
       let p = h .0 in
-      let f = fitted-got room (text w (p .0) (p .1)) x (h .2) in
+      let f = fitted-got (limits .text) room (text w (p .0) (p .1)) x (h .2) in
       record { holds = p; read = h .1; is = f .is; short = omega (arith, ap length (f .is), f .short) }
 
-  pub at-room : (x : List ℕ) (room : ℕ) → Given x → lowering w settings tree room ≡ fitted room x
-  unfolding lowering also
+  pub at-room : (x : List ℕ) (room : ℕ) → Given x → loweringWithin limits w settings tree room ≡ fitted (limits .text) room x
+  unfolding loweringWithin also
   at-room x room g =
-      ap (λ (r : Read (Settings × Tree)). also r (λ p. fitted room (text w (p .0) (p .1)))) (g .read)
-      ∙ ap (fitted room) (g .is)
+      ap (λ (r : Read (Settings × Tree)). also r (λ p. fitted (limits .text) room (text w (p .0) (p .1)))) (g .read)
+      ∙ ap (fitted (limits .text) room) (g .is)

@@ -1,6 +1,6 @@
 -- What demand 3 claims: of two answers that they are alike or opposite, of thirteen that exactly one is true and the other twelve are false; and
 -- the three sentences of the demand, over texts that lowering answers and over reading's answers on them (document 01, "Truth"; document 02,
--- slip 4, for the second call's texts).
+-- slips 4 and 7, for the second call's texts and another caller's).
 use Prim.Native.Nat.{ℕ}
 use mathlib.Core.Path.{_≡_}
 use mathlib.Core.List.{List}
@@ -38,7 +38,7 @@ pub record ExactlyOne {A : Type 0} (yes no : A) (answer : Op → A) : Type 0 whe
   pub is-true : answer which ≡ yes
   pub others-false : (q : Op) → oneOf q thirteen ≡ true → (opNumber q ≡ opNumber which → ⊥) → answer q ≡ no
 
--- Demand 3, over either writing, the same for all texts that are compared (document 02, slip 4).
+-- Demand 3, over either writing, the same for all texts that are compared (document 02, slip 4); each text may be any caller's (slip 7).
 pub record Demand3 : Type 0 where
   -- "Whatever time filter an integrator composes, whatever row holds its columns, and whichever of its temporal predicates, one, some or all, are
   -- replaced by their converses with operands exchanged: the texts before and after read alike on that row, if both filters are accepted."

@@ -5,31 +5,31 @@ use mathlib.Core.Path.{_≡_, refl, sym, ap, _∙_}
 use mathlib.Core.List.{List, [], _∷_}
 use mathlib.Core.Bool.{Bool, true, false, false≢true}
 use native.Mathlib.Omega.{arith}
-use lib.Dec.{eqb, ltb}
+use lib.Dec.{eqb}
 use lib.ListN.{length, getD}
 use borrow.Author.Tests.{le-ltb}
 use Rattle.prelude.specs.Choice.{pick}
 use Rattle.prelude.specs.ChoiceLaws.{both-true}
-use Rattle.refusal.specs.declared.Refusal.the-variants.{TreeTooLong, BadOperand}
 use Rattle.op.specs.Op.{opNumber, oneOf}
 use Rattle.op.specs.declared.Op.the-variants.{IsNull}
 use Rattle.tree.specs.Kinds.{BOOL}
 use Rattle.tree.specs.Tree.{Tree, Settings, null, kindOf}
 use Rattle.order.specs.Order.{order}
-use Rattle.tree.specs.Limits.{depthLimit, treeLimit}
-use Rattle.tree.specs.Parse.{refused, got, also, parse}
-use Rattle.tree.specs.ParseLaws.{also-got, not-got, parse-good}
+use Rattle.tree.specs.Limits.{depthLimit, lengthLimit, planner}
+use Rattle.tree.specs.Parse.{got, also}
+use Rattle.tree.specs.ParseLaws.{parse-good}
 use Rattle.tree.specs.GoodWords.{Good}
 use Rattle.tree.specs.Placed.{placed}
 use Rattle.tree.specs.Tests.{fieldsOf, everywhere, isId, isInterval, startOf, stopOf, endsOf, columnsOf}
 use Rattle.tree.specs.TestsLaws.{everywhere-here, everywhere-start, everywhere-stop, by-operator}
-use Rattle.tree.specs.Accepted.{settings, accepted}
+use Rattle.tree.specs.AcceptedLaws.{accepted-is}
+use Rattle.tree.specs.LimitLaws.{accepted-more}
 use Rattle.literal.specs.declared.Writing.{Writing}
 use Rattle.literal.specs.Literal.{startSlot, stopSlot}
 use Rattle.sql.specs.Condition as sql
 use Rattle.sql.specs.Translators.{translate}
 use Rattle.text.specs.Text as gpkg
-use Rattle.text.specs.Lowered.{lengthLimit, fitted, lowering}
+use Rattle.text.specs.Lowered.{fitted, loweringWithin}
 use Rattle.text.specs.LoweredLaws.{fitted-got}
 use Rattle.row.specs.Row.{Column, Found, absent, has, val}
 use Rattle.row.specs.Row as row
@@ -48,7 +48,7 @@ use Rattle.time.specs.TruthLaws.{end-on, value-found}
 use Rattle.time.specs.ReadBackLaws.{Prints, parses-back}
 use Rattle.time.specs.FilterReadsLaws.{filterAst, filter-eval, filter-shown, deeper}
 
--- What an accepted filter is.
+-- What an accepted filter is; the planner, too, accepts what another caller does.
 pub record Parts (writing : Writing) (t : Tree) (x : List ℕ) : Type 0 where
   pub with : Settings
   pub text-is : x ≡ gpkg.text writing with t
@@ -56,39 +56,19 @@ pub record Parts (writing : Writing) (t : Tree) (x : List ℕ) : Type 0 where
   pub good : Good t depthLimit
   pub in-place : placed t ≡ true
 
-placed-is : (g : Settings) (s : List ℕ) (p : Settings × Tree)
-    → also (parse s) (λ t. pick (placed t) (got (g, t)) (refused BadOperand)) ≡ got p → (parse s ≡ got (p .1)) × (placed (p .1) ≡ true)
-placed-is g s p e =
-    let h = also-got (parse s) (λ t. pick (placed t) (got (g, t)) (refused BadOperand)) p e in
-    go (h .0) (h .1) (placed (h .0)) refl (h .2)
-  where
-    go : (t : Tree) → parse s ≡ got t → (b : Bool) → placed t ≡ b → pick b (got (g, t)) (refused BadOperand) ≡ got p → (parse s ≡ got (p .1)) × (placed (p .1) ≡ true)
-    go t q true r w = let v : _≡_ {A = Settings × Tree} (g, t) p = cc in (q ∙ ap (λ (z : Settings × Tree). got (z .1)) v, sym (ap (λ (z : Settings × Tree). placed (z .1)) v) ∙ r)
-    go t q false r w = not-got BadOperand p w
-
-accepted-is : (c s : List ℕ) (p : Settings × Tree) → accepted c s ≡ got p → (parse s ≡ got (p .1)) × (placed (p .1) ≡ true)
-unfolding accepted
-accepted-is c s p e =
-    let h = also-got (settings c) (λ g. pick (ltb treeLimit (length s)) (refused TreeTooLong) (also (parse s) (λ t. pick (placed t) (got (g, t)) (refused BadOperand)))) p e in
-    go (h .0) (ltb treeLimit (length s)) (h .2)
-  where
-    go : (g : Settings) (b : Bool) → pick b (refused TreeTooLong) (also (parse s) (λ t. pick (placed t) (got (g, t)) (refused BadOperand))) ≡ got p
-        → (parse s ≡ got (p .1)) × (placed (p .1) ≡ true)
-    go g true q = not-got TreeTooLong p q
-    go g false q = placed-is g s p q
-
 pub parts : {writing : Writing} {t : Tree} {x : List ℕ} → Lowers writing t x → Parts writing t x
-unfolding lowering also
+unfolding loweringWithin also
 parts {writing} {t} {x} L =
-    let a = accepted-is (L .settings) (L .tree) (L .holds, t) (L .read) in
-    let e : fitted (L .room) (gpkg.text writing (L .holds) t) ≡ got x = rw (L .read) at (L .lowered) in
-    let f = fitted-got (L .room) (gpkg.text writing (L .holds) t) x e in
+    let r = accepted-more (L .limits) planner (L .settings) (L .tree) (L .holds, t) (L .within) (L .read) in
+    let a = accepted-is planner (L .settings) (L .tree) (L .holds) t r in
+    let e : fitted (L .limits .text) (L .room) (gpkg.text writing (L .holds) t) ≡ got x = rw (L .read) at (L .lowered) in
+    let f = fitted-got (L .limits .text) (L .room) (gpkg.text writing (L .holds) t) x e in
     record {
       with = L .holds;
       text-is = sym (f .is);
-      short = omega (arith, ap length (f .is), f .short);
-      good = parse-good (L .tree) t (L .bytes) (a .0);
-      in-place = a .1;
+      short = omega (arith, ap length (f .is), f .short, L .within .text);
+      good = parse-good depthLimit (L .tree) t (L .bytes) (a .2);
+      in-place = a .3;
     }
 
 -- No name is missing.

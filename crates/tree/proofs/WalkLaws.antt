@@ -38,7 +38,7 @@ use Rattle.tree.specs.Parse.{Read, refused, got, also, Body, cons, end, 
 use Rattle.tree.specs.Placed.{isBetween, operands, noInterval, inPlace, inner, inners, placed}
 use Rattle.tree.specs.Tests.{first, second, count, everywhere, everywhereIn, byOperator, isInterval, isItems, isPair}
 use Rattle.tree.specs.Accepted.{settings, accepted, verdict}
-use Rattle.tree.specs.Limits.{depthLimit, treeLimit}
+use Rattle.tree.specs.declared.Limits.{Limits}
 use Rattle.tree.specs.WalkWords.{shapeOf, seen, seenOne, seenTwo, seenAll, ended, framed, firstOf, takenBy, taken, plainShape, pairShape, intervalShape, soundShape, fits, orMisplaced, leafOne, monadicOne, dyadicOne, functionOne, arrayOne, intervalOne}
 use Rattle.tree.specs.ParseLaws.{frame-whole, both-true}
 use Rattle.tree.proofs.Laws.{tail, tail-is}
@@ -488,9 +488,9 @@ node-other levels k s h r = node-as levels k k s h refl ∙ simp (ne-eqb k 0 (r 
 
 -- The public call.
 
-pub accepted-settings : (c s : List ℕ) → isSettings c ≡ false → verdict (accepted c s) ≡ Refused BadSettings
+pub accepted-settings : (l : Limits) (c s : List ℕ) → isSettings c ≡ false → verdict (accepted l c s) ≡ Refused BadSettings
 unfolding accepted settings also verdict
-accepted-settings c s h = simp h
+accepted-settings l c s h = simp h
 
 -- what is left to say after the walk: refusal 7, where nothing else was found
 abbrev pub concluded : One → Checked
@@ -502,16 +502,16 @@ unfolding verdict
 verdict-pick A true x = refl
 verdict-pick A false x = refl
 
-module _ (c s : List ℕ) (known : isSettings c ≡ true) where
-  pub accepted-long : treeLimit < length s → verdict (accepted c s) ≡ Refused TreeTooLong
+module _ (l : Limits) (c s : List ℕ) (known : isSettings c ≡ true) where
+  pub accepted-long : l .tree < length s → verdict (accepted l c s) ≡ Refused TreeTooLong
   unfolding accepted settings also verdict
-  accepted-long l = simp (known, lt-ltb treeLimit (length s) l)
+  accepted-long n = simp (known, lt-ltb (l .tree) (length s) n)
 
-  within-limit : length s ≤ treeLimit → (r : Read Trees) → exactly (node depthLimit) 1 s ≡ r → verdict (accepted c s) ≡ concluded (seenOne r)
+  within-limit : length s ≤ l .tree → (r : Read Trees) → exactly (node (l .depth)) 1 s ≡ r → verdict (accepted l c s) ≡ concluded (seenOne r)
   unfolding accepted settings parse verdict also seenOne placed
-  within-limit l (refused e) h = simp (known, le-ltb treeLimit (length s) l, h)
-  within-limit l (got ts) h =
-      simp (known, le-ltb treeLimit (length s) l, h) (verdict-pick _ (placed (first ts)) _ ∙ ap (λ (b : Bool). pick b Valid (Refused BadOperand)) (sym (plain-is (first ts))))
+  within-limit n (refused e) h = simp (known, le-ltb (l .tree) (length s) n, h)
+  within-limit n (got ts) h =
+      simp (known, le-ltb (l .tree) (length s) n, h) (verdict-pick _ (placed (first ts)) _ ∙ ap (λ (b : Bool). pick b Valid (Refused BadOperand)) (sym (plain-is (first ts))))
 
-  pub accepted-walk : (a : One) → length s ≤ treeLimit → a ≡ seenOne (exactly (node depthLimit) 1 s) → verdict (accepted c s) ≡ concluded a
-  accepted-walk a l e = within-limit l (exactly (node depthLimit) 1 s) refl ∙ ap concluded (sym e)
+  pub accepted-walk : (a : One) → length s ≤ l .tree → a ≡ seenOne (exactly (node (l .depth)) 1 s) → verdict (accepted l c s) ≡ concluded a
+  accepted-walk a n e = within-limit n (exactly (node (l .depth)) 1 s) refl ∙ ap concluded (sym e)

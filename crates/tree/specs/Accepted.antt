@@ -1,4 +1,5 @@
--- What the settings hold, with refusal 1, and what is accepted, with refusals 1 to 7 in order: document 01, "Records" and "What a caller hears".
+-- What the settings hold, with refusal 1, and what is accepted, with refusals 1 to 7 in order: document 01, "Records" and "What a caller
+-- hears"; by the caller's limits: document 02, slip 7.
 use Prim.Native.Nat.{ℕ}
 use mathlib.Core.List.{List}
 use lib.ListN.{length, getD}
@@ -10,7 +11,7 @@ use Rattle.settings.specs.Settings.{precisionAt, ciAt, aiAt, caiAt, isSettings}
 use Rattle.charset.specs.Named.{nameAt}
 use Rattle.tree.specs.declared.Checked.{Checked}
 use Rattle.tree.specs.declared.Checked.the-variants.{Valid, Refused}
-use Rattle.tree.specs.Limits.{treeLimit}
+use Rattle.tree.specs.declared.Limits.{Limits}
 use Rattle.tree.specs.Tree.{Tree, Settings}
 use Rattle.tree.specs.Parse.{Read, refused, got, also, parse}
 use Rattle.tree.specs.Placed.{placed}
@@ -23,11 +24,11 @@ unfoldable pub settings : List ℕ → Read Settings
 settings s = pick (isSettings s) (got (settingsIn s)) (refused BadSettings)
 
 -- 1 comes first, then 2, then 3 to 6, only then 7
-unfoldable pub accepted : List ℕ → List ℕ → Read (Settings × Tree)
-accepted c s =
+unfoldable pub accepted : Limits → List ℕ → List ℕ → Read (Settings × Tree)
+accepted limits c s =
     also (settings c) (λ g.
-    pick (ltb treeLimit (length s)) (refused TreeTooLong)
-    (also (parse s) (λ t. pick (placed t) (got (g, t)) (refused BadOperand))))
+    pick (ltb (limits .tree) (length s)) (refused TreeTooLong)
+    (also (parse (limits .depth) s) (λ t. pick (placed t) (got (g, t)) (refused BadOperand))))
 
 -- the answer: that they are accepted, or the refusal
 unfoldable pub verdict : {A : Type 0} → Read A → Checked

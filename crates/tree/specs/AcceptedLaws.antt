@@ -4,7 +4,7 @@ use mathlib.Core.Path.{_≡_, refl, ap, sym, _∙_}
 use mathlib.Core.Logic.{⊎-elim}
 use mathlib.Core.List.{List, [], _∷_, _++_, append-nil}
 use mathlib.Core.Bool.{Bool, true}
-use Prim.Native.Nat.{ℕ, _+_, _-_, _≤_}
+use Prim.Native.Nat.{ℕ, _+_, _-_, _≤_, _<_}
 use native.Mathlib.Omega.{arith}
 use lib.ListN.{length, getD, take, drop, length-drop, take-append-drop, drop-of-length-le}
 use lib.Seq.{length-take-le, drop-drop, take-all}
@@ -19,7 +19,7 @@ use Rattle.charset.specs.Charset.{name}
 use Rattle.settings.specs.Settings.{precisionLimit, settingsKind, isFrame, ciAt, aiAt, caiAt, settingsBody, isSettings}
 use Rattle.charset.specs.Named.{nameAt, past, namedAt}
 use Rattle.tree.specs.declared.Checked.the-variants.{Valid}
-use Rattle.tree.specs.Limits.{treeLimit, depthLimit}
+use Rattle.tree.specs.declared.Limits.{Limits}
 use Rattle.tree.specs.Tree.{Tree, Settings, encode, encodeSettings, counted, Bytes}
 use Rattle.tree.specs.Parse.{Read, refused, got, also, parse}
 use Rattle.tree.specs.Placed.{placed}
@@ -27,49 +27,51 @@ use Rattle.tree.specs.Accepted.{settingsIn, settings, accepted, verdict,
 use Rattle.tree.specs.GoodWords.{Good}
 use Rattle.tree.specs.ByteLaws.{reads-drop}
 use Rattle.tree.specs.ParseLaws.{split, both-true, not-got, also-got, frame-record}
-use Rattle.tree.specs.EncodeLaws.{encode-parse}
+use Rattle.tree.specs.EncodeLaws.{sizeLimit, encode-parse}
 
 -- what is accepted passes each refusal
-pub accepted-is : (c s : List ℕ) (g : Settings) (t : Tree) → accepted c s ≡ got (g, t) → (settings c ≡ got g) × (length s ≤ treeLimit) × (parse s ≡ got t) × (placed t ≡ true)
+pub accepted-is : (l : Limits) (c s : List ℕ) (g : Settings) (t : Tree) → accepted l c s ≡ got (g, t)
+    → (settings c ≡ got g) × (length s ≤ l .tree) × (parse (l .depth) s ≡ got t) × (placed t ≡ true)
 unfolding accepted
-accepted-is c s g t h =
-    let rest : Settings → Read (Settings × Tree) = λ k. pick (ltb treeLimit (length s)) (refused TreeTooLong) (also (parse s) (λ u. pick (placed u) (got (k, u)) (refused BadOperand))) in
+accepted-is l c s g t h =
+    let rest : Settings → Read (Settings × Tree) = λ k. pick (ltb (l .tree) (length s)) (refused TreeTooLong) (also (parse (l .depth) s) (λ u. pick (placed u) (got (k, u)) (refused BadOperand))) in
     let p = also-got (settings c) rest (g, t) h in
     ⊎-elim
     (λ w. not-got TreeTooLong (g, t) (w .1))
-    (λ w. let q = also-got (parse s) (λ u. pick (placed u) (got (p .0, u)) (refused BadOperand)) (g, t) (w .1) in
+    (λ w. let q = also-got (parse (l .depth) s) (λ u. pick (placed u) (got (p .0, u)) (refused BadOperand)) (g, t) (w .1) in
     ⊎-elim
     (λ v. let e : (p .0, q .0) ≡ (g, t) = cc (v .1) in (
       p .1 ∙ ap (λ (x : Settings × Tree). got (x .0)) e,
-      ltb-false treeLimit (length s) (w .0),
+      ltb-false (l .tree) (length s) (w .0),
       q .1 ∙ ap (λ (x : Settings × Tree). got (x .1)) e,
       sym (ap (λ (x : Settings × Tree). placed (x .1)) e) ∙ v .0,
     ))
     (λ v. not-got BadOperand (g, t) (v .1))
     (split (placed (q .0)) (got (p .0, q .0)) (refused BadOperand) (got (g, t)) (q .2)))
-    (split (ltb treeLimit (length s)) (refused TreeTooLong) (also (parse s) (λ u. pick (placed u) (got (p .0, u)) (refused BadOperand))) (got (g, t)) (p .2))
+    (split (ltb (l .tree) (length s)) (refused TreeTooLong) (also (parse (l .depth) s) (λ u. pick (placed u) (got (p .0, u)) (refused BadOperand))) (got (g, t)) (p .2))
 
 -- and what passes each is accepted
-pub accepted-of : (c s : List ℕ) (g : Settings) (t : Tree) → settings c ≡ got g → length s ≤ treeLimit → parse s ≡ got t → placed t ≡ true → accepted c s ≡ got (g, t)
+pub accepted-of : (l : Limits) (c s : List ℕ) (g : Settings) (t : Tree) → settings c ≡ got g → length s ≤ l .tree → parse (l .depth) s ≡ got t → placed t ≡ true → accepted l c s ≡ got (g, t)
 unfolding accepted also
-accepted-of c s g t p l q r = simp (p, le-ltb treeLimit (length s) l, q, r)
+accepted-of l c s g t p n q r = simp (p, le-ltb (l .tree) (length s) n, q, r)
 
 -- so a good tree that is short enough and has everything in its place is accepted as it is written
-pub accepted-written : (c : List ℕ) (g : Settings) (t : Tree) → settings c ≡ got g → Good t depthLimit → length (encode t) ≤ treeLimit → placed t ≡ true → accepted c (encode t) ≡ got (g, t)
-accepted-written c g t p h l r = accepted-of c (encode t) g t p l (encode-parse t h (omega arith)) r
+pub accepted-written : (l : Limits) (c : List ℕ) (g : Settings) (t : Tree) → l .tree < sizeLimit → settings c ≡ got g → Good t (l .depth) → length (encode t) ≤ l .tree → placed t ≡ true
+    → accepted l c (encode t) ≡ got (g, t)
+accepted-written l c g t m p h n r = accepted-of l c (encode t) g t p n (encode-parse (l .depth) t h (omega arith)) r
 
 -- `Valid` is the answer for what is accepted and for nothing else
-pub valid-is : (c s : List ℕ) → verdict (accepted c s) ≡ Valid → (x : Settings × Tree) × (accepted c s ≡ got x)
+pub valid-is : (l : Limits) (c s : List ℕ) → verdict (accepted l c s) ≡ Valid → (x : Settings × Tree) × (accepted l c s ≡ got x)
 unfolding verdict
-valid-is c s h = go (accepted c s) refl h
+valid-is l c s h = go (accepted l c s) refl h
   where
-    go : (r : Read (Settings × Tree)) → accepted c s ≡ r → verdict r ≡ Valid → (x : Settings × Tree) × (accepted c s ≡ got x)
+    go : (r : Read (Settings × Tree)) → accepted l c s ≡ r → verdict r ≡ Valid → (x : Settings × Tree) × (accepted l c s ≡ got x)
     go (refused n) e v = let z : _≡_ {A = ℕ} 0 1 = cc in absurd (omega arith)
     go (got x) e v = (x, e)
 
-pub is-valid : (c s : List ℕ) (x : Settings × Tree) → accepted c s ≡ got x → verdict (accepted c s) ≡ Valid
+pub is-valid : (l : Limits) (c s : List ℕ) (x : Settings × Tree) → accepted l c s ≡ got x → verdict (accepted l c s) ≡ Valid
 unfolding verdict
-is-valid c s x e = simp e
+is-valid l c s x e = simp e
 
 -- The settings.
 

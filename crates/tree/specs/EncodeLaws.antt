@@ -21,7 +21,7 @@ use Rattle.op.specs.declared.Op.{Op}
 use Rattle.op.specs.Op.{opNumber}
 use Rattle.op.specs.OpLaws.{number-of, number-below}
 use Rattle.charset.specs.Named.{past, namedAt}
-use Rattle.tree.specs.Limits.{depthLimit, mantissaLimit, scaleLimit, flagsLimit, textLimit}
+use Rattle.tree.specs.Limits.{mantissaLimit, scaleLimit, flagsLimit, textLimit}
 use Rattle.tree.specs.Tree.{Tree, Trees, null, unbounded, bool, num, str, date, timestamp, spatial, id, monadic, dyadic, function, array, interval, none, _then_, twos, dateBytes, counted, encode, encodes}
 use Rattle.tree.specs.Parse.{Read, got, also, Body, cons, end, exactly, many, mantissa, emptyBody, boolBody, numBody, strBody, dateBody, timestampBody, spatialBody, leaf, takesOne, takesTwo, allowed, operated, readFunction, choose, kinds, readKind, node, parse}
 use Rattle.tree.specs.Tests.{first, second}
@@ -250,6 +250,6 @@ mutual
       many-cons n f (encodes ts) t ts b (many-back ts n (g .1) (omega arith) f (omega arith))
 
 -- a good tree that is written is parsed
-pub encode-parse : (t : Tree) → Good t depthLimit → length (encode t) < sizeLimit → parse (encode t) ≡ got t
+pub encode-parse : (n : ℕ) (t : Tree) → Good t n → length (encode t) < sizeLimit → parse n (encode t) ≡ got t
 unfolding parse also first
-encode-parse t g l = ap (λ (r : Read Trees). also r (λ ts. got (first ts))) (exactly-one depthLimit t (node-back t depthLimit g l))
+encode-parse n t g l = ap (λ (r : Read Trees). also r (λ ts. got (first ts))) (exactly-one n t (node-back t n g l))

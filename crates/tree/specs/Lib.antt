@@ -15,3 +15,4 @@ pub mod TestsLaws
 pub mod ParseLaws
 pub mod EncodeLaws
 pub mod AcceptedLaws
+pub mod LimitLaws

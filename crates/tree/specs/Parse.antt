@@ -20,7 +20,7 @@ use Rattle.op.specs.declared.Op.the-variants.{Minus, Neg, CaseI, AccentI, IsNul
 use Rattle.op.specs.declared.Named.{Named}
 use Rattle.op.specs.declared.Named.the-variants.{Is, NoOp}
 use Rattle.op.specs.Op.{opOf, oneOf}
-use Rattle.tree.specs.Limits.{depthLimit, mantissaLimit, scaleLimit, flagsLimit, textLimit}
+use Rattle.tree.specs.Limits.{mantissaLimit, scaleLimit, flagsLimit, textLimit}
 use Rattle.tree.specs.Tests.{first, second}
 use Rattle.tree.specs.Tree.{Tree, Trees, null, unbounded, bool, num, str, date, timestamp, spatial, id, monadic, dyadic, function, array, interval, none, _then_}
 use Rattle.tree.specs.Kinds.{NULL, UNBOUNDED, BOOL, NUM, STR, DATE, TIMESTAMP, SPATIAL, ID, MONADIC, DYADIC, FUNCTION, ARRAY, INTERVAL}
@@ -180,5 +180,5 @@ node zero k s = refused TooDeep
 node (suc levels) k s = readKind (λ j b. node levels j b) k s
 
 -- a tree is exactly one record
-unfoldable pub parse : List ℕ → Read Tree
-parse s = also (exactly (node depthLimit) 1 s) (λ ts. got (first ts))
+unfoldable pub parse : ℕ → List ℕ → Read Tree
+parse levels s = also (exactly (node levels) 1 s) (λ ts. got (first ts))

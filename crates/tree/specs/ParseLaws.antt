@@ -26,7 +26,7 @@ use Rattle.op.specs.declared.Named.the-variants.{Is, NoOp}
 use Rattle.op.specs.Op.{opNumber, opOf}
 use Rattle.op.specs.OpLaws.{of-number}
 use Rattle.charset.specs.Named.{nameAt, past, namedAt}
-use Rattle.tree.specs.Limits.{depthLimit, mantissaLimit, scaleLimit, flagsLimit, textLimit}
+use Rattle.tree.specs.Limits.{mantissaLimit, scaleLimit, flagsLimit, textLimit}
 use Rattle.tree.specs.Tree.{Tree, Trees, null, unbounded, bool, num, str, date, timestamp, spatial, id, monadic, dyadic, function, array, interval, none, _then_, twos, dateBytes, counted, encode, encodes, Bytes}
 use Rattle.tree.specs.Parse.{Read, refused, got, also, Body, cons, end, exactly, many, items, mantissa, emptyBody, boolBody, numBody, strBody, dateBody, timestampBody, spatialBody, leaf, takesOne, takesTwo, allowed, operated, readMonadic, readDyadic, readFunction, readArray, readInterval, Row, row, choose, kinds, node, parse}
 use Rattle.tree.specs.Tests.{first, second, count}
@@ -400,25 +400,25 @@ node-sound (suc n) k s t h c =
     choose-sound (suc n) (kinds (λ j b. node n j b)) (kinds-sound (suc n) (omega arith) (λ j b. node n j b) S) k s t h c
 
 -- what is parsed is what was written, and is good
-pub parse-sound : (s : List ℕ) (t : Tree) → Bytes s → parse s ≡ got t → (s ≡ encode t) × Good t depthLimit
+pub parse-sound : (n : ℕ) (s : List ℕ) (t : Tree) → Bytes s → parse n s ≡ got t → (s ≡ encode t) × Good t n
 unfolding parse
-parse-sound s t h c =
-    let p = also-got (exactly (node depthLimit) 1 s) (λ ts. got (first ts)) t c in
+parse-sound n s t h c =
+    let p = also-got (exactly (node n) 1 s) (λ ts. got (first ts)) t c in
     let z : first (p .0) ≡ t = cc (p .2) in
-    let r = exactly-sound depthLimit (node depthLimit) (node-sound depthLimit) 1 s (p .0) h (p .1) in
-    let q = one-is depthLimit (p .0) (exactly-count (node depthLimit) 1 s (p .0) (p .1)) (r .1) in
-    (r .0 ∙ q .0 ∙ ap (λ (u : Tree). encode u) z, subst (λ (u : Tree). Good u depthLimit) z (q .1))
+    let r = exactly-sound n (node n) (node-sound n) 1 s (p .0) h (p .1) in
+    let q = one-is n (p .0) (exactly-count (node n) 1 s (p .0) (p .1)) (r .1) in
+    (r .0 ∙ q .0 ∙ ap (λ (u : Tree). encode u) z, subst (λ (u : Tree). Good u n) z (q .1))
 
-pub parse-encode : (s : List ℕ) (t : Tree) → Bytes s → parse s ≡ got t → s ≡ encode t
-parse-encode s t h c = parse-sound s t h c .0
+pub parse-encode : (n : ℕ) (s : List ℕ) (t : Tree) → Bytes s → parse n s ≡ got t → s ≡ encode t
+parse-encode n s t h c = parse-sound n s t h c .0
 
-pub parse-good : (s : List ℕ) (t : Tree) → Bytes s → parse s ≡ got t → Good t depthLimit
-parse-good s t h c = parse-sound s t h c .1
+pub parse-good : (n : ℕ) (s : List ℕ) (t : Tree) → Bytes s → parse n s ≡ got t → Good t n
+parse-good n s t h c = parse-sound n s t h c .1
 
--- two byte strings that parse as one tree are one
-pub parse-injective : (s u : List ℕ) (t : Tree) → Bytes s → Bytes u → parse s ≡ got t → parse u ≡ got t → s ≡ u
-parse-injective s u t h g c d = parse-encode s t h c ∙ sym (parse-encode u t g d)
+-- two byte strings that parse as one tree are one, whatever their levels
+pub parse-injective : (n m : ℕ) (s u : List ℕ) (t : Tree) → Bytes s → Bytes u → parse n s ≡ got t → parse m u ≡ got t → s ≡ u
+parse-injective n m s u t h g c d = parse-encode n s t h c ∙ sym (parse-encode m u t g d)
 
 -- and bytes parse as one tree only
-pub parse-unique : (s : List ℕ) (t u : Tree) → parse s ≡ got t → parse s ≡ got u → t ≡ u
-parse-unique s t u c d = cc
+pub parse-unique : (n : ℕ) (s : List ℕ) (t u : Tree) → parse n s ≡ got t → parse n s ≡ got u → t ≡ u
+parse-unique n s t u c d = cc

@@ -53,11 +53,7 @@ pub const ARRAY: usize = 12;
 
 pub const INTERVAL: usize = 13;
 
-// Document 01's limits.
-const TREE_LIMIT: usize = 32768;
-
-const DEPTH_LIMIT: usize = 32;
-
+// Document 01's limits of fields.
 const MANTISSA_LIMIT: usize = 999999999999999;
 
 const SCALE_LIMIT: usize = 9;
@@ -65,6 +61,20 @@ const SCALE_LIMIT: usize = 9;
 const FLAGS_LIMIT: usize = CAI;
 
 const TEXT_LIMIT: usize = 4096;
+
+// What a caller allows: the bytes of a tree, its levels, the root being 1, and the bytes of the SQL text.
+pub struct Limits {
+    pub tree: usize,
+    pub depth: usize,
+    pub text: usize,
+}
+
+// The planner's, those of document 01.
+pub const PLANNER: Limits = Limits {
+    tree: 32768,
+    depth: 32,
+    text: 65535,
+};
 
 // What checking settings and a tree answers.
 pub enum Checked {
@@ -518,16 +528,16 @@ fn check_many(s: &[u8], levels: usize) -> Items
     Items::ItemsAre { plain, count }
 }
 
-// Whether the settings and the tree are accepted; else the refusal that comes first.
-pub fn check(settings: &[u8], tree: &[u8]) -> Checked
-    ensures says { λ r. ⌜ r ≡ verdict (accepted (now (settings .entry)) (now (tree .entry))) ⌝ }
-    ensures hears { λ r. ⌜ heard r ≡ said (accepted (now (settings .entry)) (now (tree .entry))) ⌝ }
+// Whether the settings and the tree are accepted within a caller's limits; else the refusal that comes first.
+pub fn check(limits: Limits, settings: &[u8], tree: &[u8]) -> Checked
+    ensures says { λ r. ⌜ r ≡ verdict (accepted limits (now (settings .entry)) (now (tree .entry))) ⌝ }
+    ensures hears { λ r. ⌜ heard r ≡ said (accepted limits (now (settings .entry)) (now (tree .entry))) ⌝ }
 {
     if settings::is_settings(settings) {
-        if TREE_LIMIT < tree.len() {
+        if limits.tree < tree.len() {
             return Checked::Refused(Refusal::TreeTooLong);
         }
-        match check_one(tree, DEPTH_LIMIT) {
+        match check_one(tree, limits.depth) {
             One::OneBad(e) => Checked::Refused(e),
             One::OneIs(a) => {
                 if plain_shape(a) {

@@ -1,4 +1,5 @@
 -- `capi::preview` meets its contract, by either writing: the number of what `gpkg::preview` answers.
+use native.Mathlib.Omega.{arith}
 use Rattle.capi.proofs.Laws.{short-answer, said-back}
 use borrow.Author.Needs.{needs}
 use Rattle.capi.proofs.preview.Statement.{statement}
@@ -8,11 +9,11 @@ preview-requires : tie.Need-preview-requires
 preview-requires c κs = search needs
 
 number-requires : tie.Need-number-requires
-number-requires c κs = short-answer _ _ _ _ (c .preview .ensures .0)
+number-requires c κs = short-answer _ _ _ _ _ (omega arith) (c .preview .ensures .0)
 
 returns : tie.Need-returns
 returns c =
-    said-back (c .before .preview .result) (c .number .ensures) (c .before .preview .ensures .1) (short-answer _ _ _ _ (c .before .preview .ensures .0))
+    said-back (c .before .preview .result) (c .number .ensures) (c .before .preview .ensures .1) (short-answer _ _ _ _ _ (omega arith) (c .before .preview .ensures .0))
 
 pub preview-spec : {M : Type 1} → statement M
 preview-spec = tie.close (tie.spec preview-requires number-requires returns)

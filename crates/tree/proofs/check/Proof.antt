@@ -22,7 +22,7 @@ is-settings-requires : tie.Need-is-settings-requires
 is-settings-requires c κs = search needs
 
 returns : tie.Need-returns
-returns c = heard-too _ (sym (walk.accepted-long (c .before .before .before .before .before .args .settings .now) (c .before .before .before .before .before .args .tree .now) (sym (c .before .before .is-settings .ensures) ∙ c .before .if1 .taken) (c .if2 .taken)))
+returns c = heard-too _ (sym (walk.accepted-long _ (c .before .before .before .before .before .before .args .settings .now) (c .before .before .before .before .before .before .args .tree .now) (sym (c .before .before .before .is-settings .ensures) ∙ c .before .before .if1 .taken) (c .if2 .taken)))
 
 check-one-requires : tie.Need-check-one-requires
 check-one-requires c κs = search needs
@@ -37,16 +37,16 @@ plain-shape-requires : tie.Need-plain-shape-requires
 plain-shape-requires c κs = search needs
 
 returns-2 : tie.Need-returns-2
-returns-2 c = heard-too _ (sym (walk.accepted-walk (c .before .before .before .before .before .before .before .before .before .args .settings .now) (c .before .before .before .before .before .before .before .before .before .args .tree .now) (sym (c .before .before .before .before .before .before .is-settings .ensures) ∙ c .before .before .before .before .before .if1 .taken) _ (c .before .before .before .before .if2 .left) (c .before .before .before .check-one .ensures) ∙ ap concluded (c .before .e .given .1)))
+returns-2 c = heard-too _ (sym (walk.accepted-walk _ (c .before .before .before .before .before .before .before .before .before .before .args .settings .now) (c .before .before .before .before .before .before .before .before .before .before .args .tree .now) (sym (c .before .before .before .before .before .before .before .is-settings .ensures) ∙ c .before .before .before .before .before .before .if1 .taken) _ (c .before .before .before .before .if2 .left) (c .before .before .before .check-one .ensures) ∙ ap concluded (c .before .e .given .1)))
 
 returns-3 : tie.Need-returns-3
-returns-3 c = heard-too _ (sym (walk.accepted-walk (c .before .before .before .before .before .before .before .before .before .before .before .args .settings .now) (c .before .before .before .before .before .before .before .before .before .before .before .args .tree .now) (sym (c .before .before .before .before .before .before .before .before .is-settings .ensures) ∙ c .before .before .before .before .before .before .before .if1 .taken) _ (c .before .before .before .before .before .before .if2 .left) (c .before .before .before .before .before .check-one .ensures) ∙ ap concluded (c .before .before .before .a .given .1) ∙ ap (λ (b : Bool). pick b Valid (Refused BadOperand)) (sym (c .before .plain-shape .ensures) ∙ c .if3 .taken)))
+returns-3 c = heard-too _ (sym (walk.accepted-walk _ (c .before .before .before .before .before .before .before .before .before .before .before .before .args .settings .now) (c .before .before .before .before .before .before .before .before .before .before .before .before .args .tree .now) (sym (c .before .before .before .before .before .before .before .before .before .is-settings .ensures) ∙ c .before .before .before .before .before .before .before .before .if1 .taken) _ (c .before .before .before .before .before .before .if2 .left) (c .before .before .before .before .before .check-one .ensures) ∙ ap concluded (c .before .before .before .a .given .1) ∙ ap (λ (b : Bool). pick b Valid (Refused BadOperand)) (sym (c .before .plain-shape .ensures) ∙ c .if3 .taken)))
 
 returns-4 : tie.Need-returns-4
-returns-4 c = heard-too _ (sym (walk.accepted-walk (c .before .before .before .before .before .before .before .before .before .before .before .args .settings .now) (c .before .before .before .before .before .before .before .before .before .before .before .args .tree .now) (sym (c .before .before .before .before .before .before .before .before .is-settings .ensures) ∙ c .before .before .before .before .before .before .before .if1 .taken) _ (c .before .before .before .before .before .before .if2 .left) (c .before .before .before .before .before .check-one .ensures) ∙ ap concluded (c .before .before .before .a .given .1) ∙ ap (λ (b : Bool). pick b Valid (Refused BadOperand)) (sym (c .before .plain-shape .ensures) ∙ c .if3 .left)))
+returns-4 c = heard-too _ (sym (walk.accepted-walk _ (c .before .before .before .before .before .before .before .before .before .before .before .before .args .settings .now) (c .before .before .before .before .before .before .before .before .before .before .before .before .args .tree .now) (sym (c .before .before .before .before .before .before .before .before .before .is-settings .ensures) ∙ c .before .before .before .before .before .before .before .before .if1 .taken) _ (c .before .before .before .before .before .before .if2 .left) (c .before .before .before .before .before .check-one .ensures) ∙ ap concluded (c .before .before .before .a .given .1) ∙ ap (λ (b : Bool). pick b Valid (Refused BadOperand)) (sym (c .before .plain-shape .ensures) ∙ c .if3 .left)))
 
 returns-5 : tie.Need-returns-5
-returns-5 c = heard-too _ (sym (walk.accepted-settings (c .before .before .before .before .args .settings .now) _ (sym (c .before .is-settings .ensures) ∙ c .if1 .left)))
+returns-5 c = heard-too _ (sym (walk.accepted-settings _ (c .before .before .before .before .args .settings .now) _ (sym (c .before .is-settings .ensures) ∙ c .if1 .left)))
 
 pub check-spec : {M : Type 1} → statement M
 check-spec =

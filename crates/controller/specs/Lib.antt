@@ -1,0 +1,4 @@
+-- What is to be believed.
+pub mod Controller
+-- Theorems.
+pub mod Callers
