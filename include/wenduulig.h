@@ -84,7 +84,8 @@
  * `settings` nor `tree`. Other parts may overlap; they are only read. The `size` of a preview lends nothing.
  *
  * Threads. There is no state: any number of calls may run at once, as long as no call's `out` overlaps bytes of another
- * call. Each needs less than 128 KiB of stack, and every call ends. Of the C library only memcpy and memset are called.
+ * call. Each needs less than 128 KiB of stack, the controller's less than 4 KiB besides what memcpy and memset take, which are
+ * all that is called of the C library; and every call ends.
  *
  * An example: the text of TAfter(entry, 2024-02-29), and what it says of a row. It prints entry > '2024-02-29' and 1.
  *
