@@ -1,22 +1,31 @@
-// Lowers filters as `gpkg::to_sql` does, or with the argument `geopackage` as `gpkg::to_geopackage_sql`. Standard input: cases to its end, each a
-// settings record and then a tree, each of these after its length in four bytes, little-endian. Standard output: a line for each case, the SQL
+// Lowers filters as `gpkg::to_sql` does, or with the argument `geopackage` as `gpkg::to_geopackage_sql`; with the argument `controller` before it as
+// these of crate controller. Standard input: cases to its end, each a settings record and then a tree, each of these after its length in four bytes, little-endian. Standard output: a line for each case, the SQL
 // text or `refused N`; `incomplete` if the input ends inside a case.
 use gpkg::Lowered;
 use input::Part;
 use libc::STDERR_FILENO;
 use libc::STDIN_FILENO;
 use libc::STDOUT_FILENO;
-use literal::Writing;
 
-fn lower(writing: Writing, settings: &[u8], tree: &[u8], out: &mut [u8]) -> Lowered {
-    match writing {
-        Writing::Rust => gpkg::to_sql(settings, tree, out),
-        Writing::GeoPackage => gpkg::to_geopackage_sql(settings, tree, out),
+// The calls of crate gpkg, and those of crate controller.
+enum Call {
+    Sql,
+    GeoPackageSql,
+    ControllerSql,
+    ControllerGeoPackageSql,
+}
+
+fn lower(call: Call, settings: &[u8], tree: &[u8], out: &mut [u8]) -> Lowered {
+    match call {
+        Call::Sql => gpkg::to_sql(settings, tree, out),
+        Call::GeoPackageSql => gpkg::to_geopackage_sql(settings, tree, out),
+        Call::ControllerSql => controller::to_sql(settings, tree, out),
+        Call::ControllerGeoPackageSql => controller::to_geopackage_sql(settings, tree, out),
     }
 }
 
-fn answer(writing: Writing, settings: &[u8], tree: &[u8], out: &mut [u8]) {
-    match lower(writing, settings, tree, out) {
+fn answer(call: Call, settings: &[u8], tree: &[u8], out: &mut [u8]) {
+    match lower(call, settings, tree, out) {
         Lowered::Text(n) => {
             io::write_all(STDOUT_FILENO, input::first(out, n));
         }
@@ -34,7 +43,7 @@ fn incomplete() {
 
 // Answers the case whose settings are settings[..n]; false if the input ends inside it.
 fn rest_of_case(
-    writing: Writing,
+    call: Call,
     settings: &mut [u8],
     n: usize,
     tree: &mut [u8],
@@ -44,12 +53,7 @@ fn rest_of_case(
     let read = input::read_part(STDIN_FILENO, &mut head, tree);
     match input::part_of(&head, read, tree.len()) {
         Part::Whole(m) => {
-            answer(
-                writing,
-                input::first(settings, n),
-                input::first(tree, m),
-                out,
-            );
+            answer(call, input::first(settings, n), input::first(tree, m), out);
             true
         }
         _ => {
@@ -60,7 +64,7 @@ fn rest_of_case(
 }
 
 // Answers the case that comes next; false if there is none, or the input ends inside it.
-fn next_case(writing: Writing, settings: &mut [u8], tree: &mut [u8], out: &mut [u8]) -> bool {
+fn next_case(call: Call, settings: &mut [u8], tree: &mut [u8], out: &mut [u8]) -> bool {
     let mut head = [0u8; 4];
     let read = input::read_part(STDIN_FILENO, &mut head, settings);
     match input::part_of(&head, read, settings.len()) {
@@ -69,38 +73,43 @@ fn next_case(writing: Writing, settings: &mut [u8], tree: &mut [u8], out: &mut [
             incomplete();
             false
         }
-        Part::Whole(n) => rest_of_case(writing, settings, n, tree, out),
+        Part::Whole(n) => rest_of_case(call, settings, n, tree, out),
     }
 }
 
 // A proved loop has to end, and nothing says that the input does: the turns are counted down from a number that no run uses up.
-fn answer_all(writing: Writing, settings: &mut [u8], tree: &mut [u8], out: &mut [u8]) {
+fn answer_all(call: Call, settings: &mut [u8], tree: &mut [u8], out: &mut [u8]) {
     let mut turns = u64::MAX;
-    while turns > 0 && next_case(writing, settings, tree, out) {
+    while turns > 0 && next_case(call, settings, tree, out) {
         turns -= 1;
     }
 }
 
-fn answer_by(writing: Writing) {
+fn answer_by(call: Call) {
     let mut settings = io::large_buffer();
     let mut tree = io::large_buffer();
     let mut out = io::large_buffer();
-    answer_all(writing, &mut settings, &mut tree, &mut out);
+    answer_all(call, &mut settings, &mut tree, &mut out);
 }
 
-// The arguments are the one word `geopackage`.
-fn asks_geopackage() -> bool {
-    let mut word = [0u8; 16];
-    let n = os::arg(1, &mut word);
-    os::arg_count() == 2 && order::is_same(input::first(&word, n), b"geopackage")
+// Whether the argument at this place is the word.
+fn is_arg(place: usize, word: &[u8]) -> bool {
+    let mut found = [0u8; 16];
+    let n = os::arg(place, &mut found);
+    order::is_same(input::first(&found, n), word)
 }
 
 fn main() {
-    if os::arg_count() <= 1 {
-        answer_by(Writing::Rust);
-    } else if asks_geopackage() {
-        answer_by(Writing::GeoPackage);
+    let n = os::arg_count();
+    if n <= 1 {
+        answer_by(Call::Sql);
+    } else if n == 2 && is_arg(1, b"geopackage") {
+        answer_by(Call::GeoPackageSql);
+    } else if n == 2 && is_arg(1, b"controller") {
+        answer_by(Call::ControllerSql);
+    } else if n == 3 && is_arg(1, b"controller") && is_arg(2, b"geopackage") {
+        answer_by(Call::ControllerGeoPackageSql);
     } else {
-        io::write_all(STDERR_FILENO, b"usage: lower [geopackage]\n");
+        io::write_all(STDERR_FILENO, b"usage: lower [controller] [geopackage]\n");
     }
 }

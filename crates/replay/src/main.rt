@@ -7,8 +7,8 @@ use crate::cases::Read;
 use crate::cases::Turn;
 use crate::lines::say;
 use crate::lines::write;
+use crate::lowerings::Call;
 use input::first;
-use literal::Writing;
 
 mod cases;
 mod leaves;
@@ -23,8 +23,7 @@ enum Kind {
     Operators,
     Trees,
     Leaves,
-    Lowerings,
-    GeoPackageLowerings,
+    Lowerings(Call),
     Readings,
 }
 
@@ -61,7 +60,7 @@ fn parts_of(kind: Kind) -> usize {
         Kind::Operators => 1,
         Kind::Trees => 3,
         Kind::Leaves => 2,
-        Kind::Lowerings | Kind::GeoPackageLowerings => 4,
+        Kind::Lowerings(_) => 4,
         Kind::Readings => 3,
     }
 }
@@ -72,8 +71,7 @@ fn judged<'a>(kind: Kind, place: u64, a: &'a [u8], b: &'a [u8], c: &'a [u8], d: 
         Kind::Operators => operators::judged(a, place as usize),
         Kind::Trees => trees::judged(a, b, c),
         Kind::Leaves => leaves::judged(a, b),
-        Kind::Lowerings => lowerings::judged(Writing::Rust, a, b, c, d),
-        Kind::GeoPackageLowerings => lowerings::judged(Writing::GeoPackage, a, b, c, d),
+        Kind::Lowerings(call) => lowerings::judged(call, a, b, c, d),
         Kind::Readings => readings::judged(a, b, c),
     }
 }
@@ -164,7 +162,7 @@ fn report(name: &[u8], kind: Kind, done: u64, counts: [u64; 16]) {
         Kind::Operators => operators::report(done, counts),
         Kind::Trees => trees::report(done, counts),
         Kind::Leaves => leaves::report(done, counts),
-        Kind::Lowerings | Kind::GeoPackageLowerings => lowerings::report(done, counts),
+        Kind::Lowerings(_) => lowerings::report(done, counts),
         Kind::Readings => readings::report(done, counts),
     }
     write(b"\n");
@@ -200,9 +198,20 @@ fn main() {
     replay(b"keyword_trees", Kind::Trees);
     replay(b"text_trees", Kind::Trees);
     replay(b"leaves", Kind::Leaves);
-    replay(b"lowerings", Kind::Lowerings);
-    replay(b"text_lowerings", Kind::Lowerings);
-    replay(b"geopackage_lowerings", Kind::GeoPackageLowerings);
+    replay(b"lowerings", Kind::Lowerings(Call::Sql));
+    replay(b"text_lowerings", Kind::Lowerings(Call::Sql));
+    replay(
+        b"geopackage_lowerings",
+        Kind::Lowerings(Call::GeoPackageSql),
+    );
+    replay(
+        b"controller_lowerings",
+        Kind::Lowerings(Call::ControllerSql),
+    );
+    replay(
+        b"controller_geopackage_lowerings",
+        Kind::Lowerings(Call::ControllerGeoPackageSql),
+    );
     replay(b"readings", Kind::Readings);
     replay(b"keyword_readings", Kind::Readings);
     replay(b"text_readings", Kind::Readings);

@@ -13,7 +13,10 @@ fn number_of(c: Checked) -> u8 {
 }
 
 pub(crate) fn judged(settings: &[u8], tree: &[u8], answer: &[u8]) -> Turn {
-    of_byte(answer, number_of(tree::check(settings, tree)))
+    of_byte(
+        answer,
+        number_of(tree::check(tree::PLANNER, settings, tree)),
+    )
 }
 
 fn add(a: u64, b: u64) -> u64 {

@@ -6,10 +6,10 @@ use Rattle.lower.proofs.answer_all.Statement.{statement}
 use Rattle.lower.proofs.answer_all.Tie as tie
 
 abbrev Inv-loop : tie.InvT-loop
-Inv-loop writing settings₀ tree₀ out₀ turns₀ settings tree out turns = (length settings ≡ length settings₀) × (length tree ≡ length tree₀) × (length out ≡ length out₀)
+Inv-loop call settings₀ tree₀ out₀ turns₀ settings tree out turns = (length settings ≡ length settings₀) × (length tree ≡ length tree₀) × (length out ≡ length out₀)
 
 abbrev μ-loop : tie.MeasureT-loop
-μ-loop writing settings₀ tree₀ out₀ turns₀ settings tree out turns = turns
+μ-loop call settings₀ tree₀ out₀ turns₀ settings tree out turns = turns
 
 loop-holds : tie.Need-loop-holds Inv-loop μ-loop
 loop-holds c = search needs
