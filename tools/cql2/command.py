@@ -4,6 +4,7 @@ import sqlite3
 import sys
 
 from . import differences, lowering, prepare, proved, records, table
+from .callers import CONTROLLER, LIMITS, PLANNER
 from .columns import NoTable, Table
 from .encode import KNOWN, Encoder
 from .errors import BadInput, Parted, guarded, some, told
@@ -19,6 +20,7 @@ MORE = '''examples:
   ./filter filters/late_shift.json --geopackage target/demo/stays.gpkg --writing rust
   ./filter filters/not_ended.json --writing geopackage
   ./filter filters/not_ended.json --writing geopackage --length
+  ./filter filters/during.json --controller
   cat filters/during.json | ./filter - --geopackage target/demo/stays.gpkg --table stays
 
 timestamps:
@@ -90,6 +92,8 @@ def parser():
                    help='how timestamps and open ends are written: as ogc-cql2 does, or as GeoPackage and CQL2 have them (default: geopackage with '
                         '--geopackage, else rust)')
     p.add_argument('--length', action='store_true', help="show the text's length in bytes in the place of the text, and no rows")
+    p.add_argument('--controller', action='store_true', help="lower it within the limits of the camera's controller: {0.tree:,} bytes as records, {0.depth} levels, "
+                   'a text of {0.text:,} bytes'.format(LIMITS[CONTROLLER]))
     p.add_argument('--rows', metavar='N', type=whole(0, 10 ** 9), default=40, help='show at most N rows (default 40; 0: all)')
     p.add_argument('--spatialite', action='store_true', help='load SpatiaLite, for the s_ operators')
     p.add_argument('--strict', action='store_true', help='refuse a filter that has a warning')
@@ -170,7 +174,7 @@ def run(arguments):
     proved.build(['lower'])
     settings = records.settings(options.precision, *collations)
     writing = options.writing or (GEOPACKAGE if package else RUST)
-    sql = lowering.lower(settings, tree, writing)
+    sql = lowering.lower(settings, tree, writing, CONTROLLER if options.controller else PLANNER)
     if package:
         check_columns(tree, package, name)
     scratch = prepare.Scratch(tree, collations)

@@ -1,15 +1,16 @@
 """The SQL text of a tree by the proved program, or its refusal in words with the place in the filter."""
 import re
 
-from . import proved, records
+from . import callers, proved, records
+from .callers import PLANNER
 from .encode import RULES
 from .errors import BadInput, Refused
 from .writing import ARGUMENTS, RUST
 
-WORDS = {
-    2: 'the filter is longer than 32,768 bytes as records (it has %d)',
-    4: 'this lies deeper than 32 levels',
-    8: 'the SQL text would be longer than 65,535 bytes',
+WORDS = {    # of the caller's limits, whose they are, and the bytes of the filter
+    2: 'the filter is longer than {0.tree:,} bytes as records{1} (it has {2})',
+    4: 'this lies deeper than {0.depth} levels{1}',
+    8: 'the SQL text would be longer than {0.text:,} bytes{1}',
 }
 
 
@@ -18,10 +19,10 @@ def refusal_of(line):
     return int(told.group(1)) if told else None
 
 
-def lower(settings, tree, writing=RUST):
-    """The SQL text, or Refused; both writings are refused alike, but for the length of the text."""
-    data = tree.encode()
-    line = proved.run('lower', [(settings, data)], ARGUMENTS[writing])[0]
+def lower(settings, tree, writing=RUST, caller=PLANNER):
+    """The SQL text, or Refused; both writings are refused alike, but for the length of the text, both callers but for their limits."""
+    data, limit = tree.encode(), callers.LIMITS[caller]
+    line = proved.run('lower', [(settings, data)], callers.ARGUMENTS[caller] + ARGUMENTS[writing])[0]
     number = refusal_of(line)
     if number is None:
         return line
@@ -31,8 +32,8 @@ def lower(settings, tree, writing=RUST):
         raise explained(number, settings, tree)
     if number not in WORDS:
         raise BadInput('the proved program refused (%d) records that this command made: please report the filter' % number)
-    place = next((node.place for node, depth in tree.walk() if depth == 33), '$') if number == 4 else None
-    raise Refused(number, WORDS[number] % len(data) if number == 2 else WORDS[number], place)
+    place = next((node.place for node, depth in tree.walk() if depth > limit.depth), '$') if number == 4 else None
+    raise Refused(number, WORDS[number].format(limit, callers.WHOSE[caller], len(data)), place)
 
 
 def explained(number, settings, tree):

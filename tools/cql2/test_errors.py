@@ -164,6 +164,13 @@ REFUSED = [    # a filter that document 01 refuses: the number, the place, the b
 ]
 
 
+TWICE = op('t_equals', op('f', op('t_equals', op('f', 'x' * 1000), AB)), AB)    # a text of 1,000 characters, written four times
+OWN_LIMITS = [    # filters that are accepted, and what is said of them by --controller; nothing where they are accepted too
+    (op('=', A, 'x' * 1978), None), (op('=', A, 'x' * 1979), "refused (2): the filter is longer than 2,000 bytes as records, the controller's limit (it has 2001)"),
+    (nested(7), None), (nested(8), "refused (4) at $%s: this lies deeper than 8 levels, the controller's limit" % ('.args[0]' * 8)),
+    (op('in', A, ["'" * 980] * 2), None), (TWICE, "refused (8): the SQL text would be longer than 4,000 bytes, the controller's limit")]
+
+
 class Errors(unittest.TestCase):
     def line(self, done, status):
         self.assertEqual(done.returncode, status, done.stderr)
@@ -199,6 +206,27 @@ class Errors(unittest.TestCase):
         data = json.dumps(op('in', A, [stamp] * 2400)).encode()
         self.assertEqual(len(run('-', data=data).stdout), 2400 * 23 + 6)
         self.assertEqual(self.line(run('-', '--writing', 'geopackage', data=data), 1), 'refused (8): the SQL text would be longer than 65,535 bytes')
+
+    def test_the_controllers_limits(self):
+        """By both writings; what it accepts has the same text, and the same warnings."""
+        for data, words in OWN_LIMITS:
+            data = (data if isinstance(data, str) else json.dumps(data)).encode()
+            for writing in ('rust', 'geopackage'):
+                arguments = '-', '--function', 'f', '--writing', writing
+                planner, controller = run(*arguments, data=data), run(*arguments, '--controller', data=data)
+                self.assertEqual(planner.returncode, 0)
+                if words:
+                    self.assertEqual(self.line(controller, 1), words)
+                else:
+                    self.assertEqual((controller.stdout, controller.stderr, controller.returncode), (planner.stdout, planner.stderr, 0))
+
+    def test_refusals_of_the_controller(self):
+        """What the planner's calls refuse with 6 or 7 it refuses in the same words, unless a limit of its own comes first."""
+        for data, number, *_ in REFUSED:
+            data = (data if isinstance(data, str) else json.dumps(data)).encode()
+            planner, controller = (self.line(run('-', '--function', 'lower', *words, data=data), 1) for words in ([], ['--controller']))
+            self.assertTrue(controller == planner or controller.startswith(('refused (2): ', 'refused (4) ', 'refused (8): ')), controller)
+            self.assertTrue(number in (2, 4, 6, 7) or controller != planner)
 
     def test_function_names(self):
         keyword = 'the function %s is a keyword of SQLite: give it another name where it is registered, or use another function'

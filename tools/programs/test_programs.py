@@ -1,6 +1,7 @@
 """Tests of the programs `lower` and `read` as they stand on standard input: cut input, lengths that lie, slow pipes, long runs.
 
   python3 -m unittest discover -s tools     all tests of the command and of the programs"""
+import itertools
 import os
 import random
 import struct
@@ -10,11 +11,11 @@ import unittest
 
 sys.path.insert(0, os.path.join(os.path.dirname(os.path.abspath(__file__)), '..'))
 from answers.stored import framed
-from cql2 import proved
+from cql2 import callers, proved
 from cql2.writing import ARGUMENTS as WORDS
-from generators import filters, readings, stamps, text_cases, texts, trees
+from generators import caller_limits, filters, readings, stamps, text_cases, texts, trees
 from model import calls
-from model.limits import PLANNER
+from model.limits import CONTROLLER
 from model.records import encode, row as row_of, settings_record
 from programs.cases import LOWER, NULL, READ, ROW_N, SETTINGS, SHEET_J, STAMPED, TEXT_J
 
@@ -39,9 +40,10 @@ class Programs(unittest.TestCase):
         self.assertEqual(answers('lower', b''.join(framed(*parts) for parts, _ in LOWER), 'geopackage'), [line for _, line in LOWER])
 
     def test_other_arguments(self):
-        for words in (['rust'], ['geopackage', 'geopackage'], [''], ['GEOPACKAGE'], ['--help']):
+        for words in (['rust'], ['geopackage', 'geopackage'], [''], ['GEOPACKAGE'], ['--help'], ['planner'], ['geopackage', 'controller'],
+                      ['controller', 'controller'], ['controller', 'geopackage', 'geopackage'], ['controllers'], ['controller', '']):
             done = subprocess.run([proved.path_of('lower'), *words], input=framed(SETTINGS, NULL), capture_output=True, timeout=60)
-            self.assertEqual((done.stdout, done.stderr), (b'', b'usage: lower [geopackage]\n'), words)
+            self.assertEqual((done.stdout, done.stderr), (b'', b'usage: lower [controller] [geopackage]\n'), words)
 
     def test_each_cut_of_a_case_is_told(self):
         for name, case in (('lower', framed(SETTINGS, SHEET_J)), ('read', framed(TEXT_J, ROW_N))):
@@ -79,13 +81,15 @@ class Programs(unittest.TestCase):
     def test_lowerings_of_the_model(self):
         made = [*filters.accepted(2000, 7), *filters.accepted(2000, 8, texts.random_text), *filters.accepted(2000, 9, texts.random_text, stamps.Maker)]
         cases = [(settings_record(settings), encode(tree)) for settings, tree in made] + list(trees.mutations(2000, 7))
-        for writing, words in WORDS.items():
-            told = answers('lower', b''.join(framed(*case) for case in cases), *words)
+        cases += [(SETTINGS, encode(tree)) for tree in (*caller_limits.chains(CONTROLLER), *caller_limits.tree_sizes(CONTROLLER))]
+        for (caller, limit), (writing, words) in itertools.product(callers.LIMITS.items(), WORDS.items()):
+            told = answers('lower', b''.join(framed(*case) for case in cases), *callers.ARGUMENTS[caller], *words)
             for case, line in zip(cases, told):
-                want = calls.to_sql(*case, PLANNER.text, writing)
+                want = calls.to_sql(*case, limit.text, writing, limit)
                 self.assertEqual(line, want.decode() if isinstance(want, bytes) else 'refused %d' % want, case)
             self.assertEqual(len(told), len(cases))
-            self.assertTrue(set(told) >= {'refused 3', 'refused 5', 'refused 6', 'refused 7'})
+            own = {'refused 2', 'refused 4', 'refused 8'} if limit == CONTROLLER else set()
+            self.assertTrue(set(told) >= {'refused 3', 'refused 5', 'refused 6', 'refused 7', *own})
 
     def test_readings_of_the_model(self):
         r = random.Random(7)
