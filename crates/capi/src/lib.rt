@@ -74,7 +74,7 @@ pub extern "C" fn wenduulig_preview_geopackage_sql(settings: &[u8], tree: &[u8],
     preview(Writing::GeoPackage, settings, tree, size)
 }
 
-// The same of `controller::to_sql`: refusals 2, 4 and 8 mean the controller's limits.
+// What `wenduulig_to_sql` answers and leaves, of `controller::to_sql`: refusals 2, 4 and 8 mean the controller's limits.
 #[no_mangle]
 pub extern "C" fn wenduulig_controller_to_sql(settings: &[u8], tree: &[u8], out: &mut [u8]) -> i64
     ensures says { λ r. ⌜ r ≡ loweringNumber (said (loweringWithin controller Rust (now (settings .entry)) (now (tree .entry)) (length (now (out .entry))))) ⌝ }
@@ -83,7 +83,7 @@ pub extern "C" fn wenduulig_controller_to_sql(settings: &[u8], tree: &[u8], out:
     number(controller::to_sql(settings, tree, out))
 }
 
-// The same of `controller::to_geopackage_sql`.
+// The same of `controller::to_geopackage_sql`, by the second call.
 #[no_mangle]
 pub extern "C" fn wenduulig_controller_to_geopackage_sql(
     settings: &[u8],

@@ -1,6 +1,6 @@
 -- Planner and controller on one tree: document 02, slip 7, sentence by sentence, whatever the two buffers. Of any two callers these are laws of
 -- crate text, LimitLaws.antt.
-use Prim.Native.Nat.{ℕ}
+use Prim.Native.Nat.{ℕ, _≤_}
 use mathlib.Core.Path.{_≡_}
 use mathlib.Core.Bool.{true}
 use mathlib.Core.List.{List}
@@ -46,6 +46,6 @@ module _ (w : Writing) (settings tree : List ℕ) (theirs ours : ℕ) where
   unfolding fitted sized
   controller-answers h t x y r e = own-answer controller planner w settings tree ours theirs h t x (record { tree = omega arith; depth = omega arith; text = omega arith }) y r e
 
-  -- What the controller accepts the planner accepts with a buffer as long as the text.
-  pub planner-accepts : (x : List ℕ) → loweringWithin controller w settings tree ours ≡ got x → lowering w settings tree (length x) ≡ got x
-  planner-accepts x e = more-accepts controller planner w settings tree ours (length x) x smaller e (omega arith)
+  -- What the controller accepts the planner accepts with a buffer as long as the text, or a longer one.
+  pub planner-accepts : (x : List ℕ) → loweringWithin controller w settings tree ours ≡ got x → length x ≤ theirs → lowering w settings tree theirs ≡ got x
+  planner-accepts x e = more-accepts controller planner w settings tree ours theirs x smaller e

@@ -8,6 +8,7 @@ use literal::Writing;
 pub use text::Lowered;
 use tree::Limits;
 
+// Its limits: document 02, slip 7.
 const CONTROLLER: Limits = Limits {
     tree: 2000,
     depth: 8,
@@ -23,7 +24,7 @@ pub fn to_sql(settings: &[u8], tree: &[u8], out: &mut [u8]) -> Lowered
     text::lower(CONTROLLER, Writing::Rust, settings, tree, out)
 }
 
-// The same as `gpkg::to_geopackage_sql`.
+// Lowers a tree as `gpkg::to_geopackage_sql` does; 2, 4 and 8 as above.
 pub fn to_geopackage_sql(settings: &[u8], tree: &[u8], out: &mut [u8]) -> Lowered
     ensures says { λ r. ⌜ r ≡ answer (loweringWithin controller GeoPackage (now (settings .entry)) (now (tree .entry)) (length (now (out .entry)))) ⌝ }
     ensures bytes { λ r. ⌜ now (out .exit) ≡ leaves (now (out .entry)) (loweringWithin controller GeoPackage (now (settings .entry)) (now (tree .entry)) (length (now (out .entry)))) ⌝ }

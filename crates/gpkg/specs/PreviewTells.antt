@@ -1,4 +1,5 @@
--- What a preview tells of writing: document 02, slip 6. Both contracts cite `lowering`, so one proof over the writing serves both calls.
+-- What a preview tells of writing: document 02, slip 6. The contracts cite `loweringWithin`, `lowering` being it at the
+-- planner's limits, so one proof over limits and writing serves every call.
 use Prim.Native.Nat.{ℕ, _≤_, _<_}
 use mathlib.Core.Path.{_≡_, refl, sym, ap, _∙_}
 use mathlib.Core.List.{List, _++_}

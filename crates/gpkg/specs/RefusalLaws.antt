@@ -206,7 +206,7 @@ module _ (limits : Limits) (w : Writing) (settings tree : List ℕ) (room : ℕ)
       (λ x. pick-gives _ (ltb (limits .text) (length x)) (refused TextTooLong) _ refl (pick-gives _ (ltb room (length x)) (refused BufferTooShort) (got x) refl refl)))
       z
 
-  -- From 65,535 bytes on it is one of 1 to 8.
+  -- From the caller's limit of a text on it is one of 1 to 8.
   pub ample-refuses : limits .text ≤ room → loweringWithin limits w settings tree room ≡ refused n → isOf (early ++ (TextTooLong ∷ [])) n ≡ true
   unfolding fitted
   ample-refuses h z = refuses _ (lowering-gives (TextTooLong ∷ []) (λ x. go x (ltb (limits .text) (length x)) refl)) z

@@ -5,11 +5,11 @@ ghost use Rattle.refusal.specs.Number.{numberOf};
 pub enum Refusal {
     // 1: the settings are not exactly one settings record.
     BadSettings,
-    // 2: the tree is longer than 32,768 bytes.
+    // 2: the tree is longer than the caller allows, the planner 32,768 bytes.
     TreeTooLong,
     // 3: a record's frame is broken, or bytes remain after the last record due.
     BadFrame,
-    // 4: a record lies deeper than 32.
+    // 4: a record lies deeper than the caller allows, the planner 32.
     TooDeep,
     // 5: the kind is unknown, or the operator is not one that the kind takes.
     BadKindOrOperator,
@@ -17,7 +17,7 @@ pub enum Refusal {
     BadField,
     // 7: an Interval, an interval operator's operand or a BETWEEN list is out of place.
     BadOperand,
-    // 8: the text is longer than 65,535 bytes.
+    // 8: the text is longer than the caller allows, the planner 65,535 bytes.
     TextTooLong,
     // 9: the text is longer than the buffer.
     BufferTooShort,

@@ -2,7 +2,6 @@
 pub mod Text
 pub mod Lowered
 -- Words of private contracts.
-pub mod LimitWords
 pub mod RecordWords
 pub mod LeafWords
 pub mod EndWords

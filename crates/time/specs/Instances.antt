@@ -15,11 +15,12 @@ use Rattle.op.specs.declared.Op.the-variants.{TAfter, TBefore, TContains, TDisj
 use Rattle.op.specs.Op.{isTemporal}
 use Rattle.tree.specs.Tree.{Tree, Settings, unbounded, timestamp, id, dyadic, interval, encode, encodeSettings, Bytes}
 use Rattle.tree.specs.Parse.{got}
-use Rattle.tree.specs.Limits.{planner}
+use Rattle.tree.specs.declared.Limits.{Limits}
+use Rattle.tree.specs.Limits.{NoGreater, planner}
 use Rattle.tree.specs.Accepted.{accepted}
 use Rattle.literal.specs.declared.Writing.{Writing}
 use Rattle.literal.specs.declared.Writing.the-variants.{Rust, GeoPackage}
-use Rattle.text.specs.Lowered.{lowering}
+use Rattle.text.specs.Lowered.{loweringWithin, lowering}
 use Rattle.row.specs.Row.{Column, val, rowOf, columns}
 use Rattle.truth.specs.declared.Reading.the-variants.{True as SaysTrue, False as SaysFalse, Unknown as SaysUnknown}
 use Rattle.truth.specs.Grammar.{truthOf}
@@ -79,11 +80,24 @@ settings = record { precision = 7; ci = bytes "NC"; ai = bytes "NA"; cai = bytes
 abbrev room : ℕ
 room = 100
 
--- a tree whose bytes are accepted and lowered
+-- a tree whose bytes are accepted and lowered within some limits
+lowers-within : (l : Limits) → NoGreater l planner → (w : Writing) (t : Tree) → all (λ b. ltb b 256) (encode t) ≡ true → accepted l (encodeSettings settings) (encode t) ≡ got (settings, t)
+    → loweringWithin l w (encodeSettings settings) (encode t) room ≡ got (gpkg-text.text w settings t) → Lowers w t (gpkg-text.text w settings t)
+lowers-within k h w t b r l =
+    record { limits = k; within = h; settings = encodeSettings settings; tree = encode t; room = room; bytes = bytes-by (encode t) b; holds = settings; read = r; lowered = l }
+
+-- for the planner
 lowers-by : (w : Writing) (t : Tree) → all (λ b. ltb b 256) (encode t) ≡ true → accepted planner (encodeSettings settings) (encode t) ≡ got (settings, t)
     → lowering w (encodeSettings settings) (encode t) room ≡ got (gpkg-text.text w settings t) → Lowers w t (gpkg-text.text w settings t)
-lowers-by w t b r l =
-    record { limits = planner; within = record { tree = omega arith; depth = omega arith; text = omega arith }; settings = encodeSettings settings; tree = encode t; room = room; bytes = bytes-by (encode t) b; holds = settings; read = r; lowered = l }
+lowers-by = lowers-within planner (record { tree = omega arith; depth = omega arith; text = omega arith })
+
+-- for another caller, the limits being the controller's
+abbrev smaller : Limits
+smaller = record { tree = 2000; depth = 8; text = 4000 }
+
+lowers-smaller : (w : Writing) (t : Tree) → all (λ b. ltb b 256) (encode t) ≡ true → accepted smaller (encodeSettings settings) (encode t) ≡ got (settings, t)
+    → loweringWithin smaller w (encodeSettings settings) (encode t) room ≡ got (gpkg-text.text w settings t) → Lowers w t (gpkg-text.text w settings t)
+lowers-smaller = lowers-within smaller (record { tree = omega arith; depth = omega arith; text = omega arith })
 
 abbrev a : Tree
 a = id (bytes "a")
@@ -202,7 +216,7 @@ computed w =
       rowNull-is = refl;
       rowD-is = refl;
       apart-lowers = lowers-by w apart refl refl refl;
-      turned-lowers = lowers-by w turned refl refl refl;
+      turned-lowers = lowers-smaller w turned refl refl refl;
       meeting-lowers = lowers-by w meeting refl refl refl;
       pairs-lower =
           lowers-by w (pair TAfter) refl refl refl

@@ -13,7 +13,7 @@ use Rattle.prelude.specs.ChoiceLaws.{both-true}
 use Rattle.op.specs.Op.{opNumber, oneOf}
 use Rattle.op.specs.declared.Op.the-variants.{IsNull}
 use Rattle.tree.specs.Kinds.{BOOL}
-use Rattle.tree.specs.Tree.{Tree, Settings, null, kindOf}
+use Rattle.tree.specs.Tree.{Tree, Settings, kindOf}
 use Rattle.order.specs.Order.{order}
 use Rattle.tree.specs.Limits.{depthLimit, lengthLimit, planner}
 use Rattle.tree.specs.Parse.{got, also}

@@ -1,5 +1,5 @@
--- Demand 3 and the agreement with OGC 21-065r2, as theorems over the public calls: over texts that `lowering` answers (the definition in the
--- contracts of gpkg::to_sql and gpkg::to_geopackage_sql) and over `readingOf` (the definition in the contract of truth::read). Demand 2 is
+-- Demand 3 and the agreement with OGC 21-065r2, as theorems over the public calls: over texts that `loweringWithin` answers within
+-- limits no greater than the planner's (the definition in the contracts of the writing calls of crates gpkg and controller) and over `readingOf` (the definition in the contract of truth::read). Demand 2 is
 -- `reads-truth` of ReadsTruth.antt. Each follows from reads-truth and the law of the same name over trees; string-reads, the round trip of a Str,
 -- from reads-truth and the order alone.
 use Prim.Native.Nat.{ℕ, _-_}

@@ -1,12 +1,12 @@
 -- A tree is read exactly if it has no more levels than are allowed, else refused with 4. What is read is good within these levels (GoodWords.antt), and a
 -- good tree is good within any number of levels that it does not exceed.
 use Prim.Native.Nat.{ℕ, _-_, _≤_, _<_}
-use mathlib.Core.Path.{_≡_, sym, ap, _∙_}
+use mathlib.Core.Path.{_≡_, ap, _∙_}
 use mathlib.Core.List.{List}
 use native.Mathlib.Omega.{arith}
 use lib.ListN.{length}
 use Rattle.refusal.specs.declared.Refusal.the-variants.{TooDeep}
-use Rattle.tree.specs.Tree.{Tree, Trees, null, unbounded, bool, num, str, date, timestamp, spatial, id, monadic, dyadic, function, array, interval, none, _then_, encode, Bytes}
+use Rattle.tree.specs.Tree.{Tree, Trees, null, unbounded, bool, num, str, date, timestamp, spatial, id, monadic, dyadic, function, array, interval, none, _then_, Bytes}
 use Rattle.tree.specs.Parse.{refused, got, parse}
 use Rattle.tree.specs.ParseLaws.{parse-sound, parse-good}
 use Rattle.tree.specs.EncodeLaws.{sizeLimit, encode-parse}

@@ -7,7 +7,8 @@ pub mod Levels
 pub mod Parse
 pub mod Placed
 pub mod Accepted
--- Words of private contracts.
+-- Words of inner contracts.
+pub mod LimitWords
 pub mod WalkWords
 pub mod GoodWords
 -- Laws.

@@ -1,14 +1,13 @@
 -- What other limits change in the reading of a tree: nothing, but for a 2 or a 4 (document 02, slip 7). Along the recursion of the definitions: each
 -- step with fewer levels decides the same, or stops with a 4.
-use Prim.Native.Nat.{ℕ, zero, suc, _≤_}
+use Prim.Native.Nat.{ℕ, zero, suc, _≤_, min}
 use mathlib.Core.Path.{_≡_, refl, sym, ap, subst, _∙_}
 use mathlib.Core.Bool.{Bool, true, false, false≢true}
 use mathlib.Core.List.{List, [], _∷_}
-use mathlib.Core.Logic.{_⊎_, inl, inr, ⊎-elim}
 use native.Mathlib.Omega.{arith}
-use lib.ListN.{length, getD, drop}
+use lib.ListN.{length, drop}
 use lib.Dec.{ltb, eqb}
-use borrow.Author.Tests.{ltb-true, ltb-false, le-ltb}
+use borrow.Author.Tests.{ltb-true, ltb-false}
 use Rattle.prelude.specs.Choice.{pick, either}
 use Rattle.refusal.specs.declared.Refusal.{Refusal}
 use Rattle.refusal.specs.declared.Refusal.the-variants.{BadSettings, TreeTooLong, BadFrame, TooDeep, BadKindOrOperator, BadField, BadOperand, TextTooLong, BufferTooShort, InputTooLong, BadRow, BadText, MissingColumn}
@@ -16,20 +15,29 @@ use Rattle.refusal.specs.Number.{numberOf}
 use Rattle.record.specs.declared.Frame.{Frame}
 use Rattle.record.specs.declared.Frame.the-variants.{Broken, Whole}
 use Rattle.record.specs.Record.{frame, le16}
-use Rattle.charset.specs.Named.{nameAt, past, namedAt}
+use Rattle.charset.specs.Named.{past, namedAt}
 use Rattle.op.specs.declared.Op.{Op}
 use Rattle.op.specs.declared.Named.{Named}
 use Rattle.op.specs.declared.Named.the-variants.{Is, NoOp}
 use Rattle.op.specs.Op.{opOf}
 use Rattle.tree.specs.declared.Limits.{Limits}
-use Rattle.tree.specs.Limits.{NoGreater}
+use Rattle.tree.specs.Limits.{NoGreater, planner}
+use Rattle.tree.specs.LimitWords.{upToPlanner}
 use Rattle.tree.specs.Tests.{first, second}
-use Rattle.tree.specs.Tree.{Tree, Trees, Settings, monadic, dyadic, function, array, interval}
-use Rattle.tree.specs.Parse.{Read, refused, got, also, Body, cons, end, exactly, many, items, takesOne, takesTwo, allowed, operated, readFunction, choose, kinds, node, parse}
+use Rattle.tree.specs.Tree.{Tree, Trees, Settings, monadic, dyadic}
+use Rattle.tree.specs.Parse.{Read, refused, got, also, Body, cons, exactly, many, items, takesOne, takesTwo, allowed, operated, readFunction, choose, kinds, node, parse}
 use Rattle.tree.specs.Placed.{placed}
 use Rattle.tree.specs.Accepted.{settings, accepted}
 use Rattle.tree.specs.AcceptedLaws.{accepted-is, accepted-of}
 use Rattle.tree.specs.ParseLaws.{not-got}
+
+-- Limits that are no greater than the planner's are taken as they are.
+pub own-limits : (a : Limits) → NoGreater a planner → upToPlanner a ≡ a
+own-limits a h =
+    let x : min (a .tree) (planner .tree) ≡ a .tree = omega (arith, h .tree) in
+    let y : min (a .depth) (planner .depth) ≡ a .depth = omega (arith, h .depth) in
+    let z : min (a .text) (planner .text) ≡ a .text = omega (arith, h .text) in
+    simp (x, y, z) refl
 
 -- a refusal stands in a list of them
 abbrev pub isOf : List Refusal → Refusal → Bool
@@ -102,6 +110,7 @@ module _ (rs : List Refusal) where
         (pick-else (eqb k 13) _ _ _ _ (also-else (exactly body 2 s) (exactly other 2 s) _ _ (exactly-else 2 s) (λ ts. alike refl))
         (alike refl))))))))))))))
 
+-- the refusal of a tree by its levels
 abbrev pub deeper : List Refusal
 deeper = TooDeep ∷ []
 

@@ -14,6 +14,7 @@ pub record NoGreater (a b : Limits) : Type 0 where
   pub depth : a .depth ≤ b .depth
   pub text : a .text ≤ b .text
 
+-- the planner's, by name: no caller's is greater
 abbrev pub treeLimit : ℕ
 treeLimit = planner .tree
 

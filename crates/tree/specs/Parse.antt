@@ -179,6 +179,6 @@ unfoldable pub node : ℕ → ℕ → List ℕ → Read Tree
 node zero k s = refused TooDeep
 node (suc levels) k s = readKind (λ j b. node levels j b) k s
 
--- a tree is exactly one record
+-- a tree is exactly one record, of at most so many levels
 unfoldable pub parse : ℕ → List ℕ → Read Tree
 parse levels s = also (exactly (node levels) 1 s) (λ ts. got (first ts))

@@ -1,11 +1,12 @@
 ghost use mathlib.Core.Path.{_≡_};
 ghost use mathlib.Core.Bool.{true};
-ghost use Prim.Native.Nat.{_+_, _-_, _<_};
+ghost use Prim.Native.Nat.{_+_, _-_, _<_, min};
 ghost use lib.IntN.{natAbs};
 ghost use lib.Dec.{leb};
 ghost use Rattle.prelude.specs.Choice.{pick, both};
 ghost use Rattle.record.specs.Record.{signed};
 ghost use Rattle.tree.specs.Limits.{mantissaLimit};
+ghost use Rattle.tree.specs.LimitWords.{upToPlanner};
 ghost use Rattle.tree.specs.Parse.{boolBody, numBody, strBody, dateBody, timestampBody, spatialBody, takesOne, takesTwo, readMonadic, readDyadic, readFunction, node, exactly, items};
 ghost use Rattle.tree.specs.Placed.{isBetween};
 ghost use Rattle.tree.specs.Accepted.{accepted, verdict, said, heard};
@@ -526,6 +527,23 @@ fn check_many(s: &[u8], levels: usize) -> Items
         }
     }
     Items::ItemsAre { plain, count }
+}
+
+fn least(a: usize, b: usize) -> usize
+    ensures { λ r. ⌜ r ≡ min a b ⌝ }
+{
+    if a < b { a } else { b }
+}
+
+// A caller's limits as far as the planner's reach: so far the walks over a tree are proved.
+pub fn up_to_planner(limits: Limits) -> Limits
+    ensures { λ r. ⌜ r ≡ upToPlanner limits ⌝ }
+{
+    Limits {
+        tree: least(limits.tree, PLANNER.tree),
+        depth: least(limits.depth, PLANNER.depth),
+        text: least(limits.text, PLANNER.text),
+    }
 }
 
 // Whether the settings and the tree are accepted within a caller's limits; else the refusal that comes first.
