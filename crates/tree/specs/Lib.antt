@@ -3,6 +3,7 @@ pub mod Limits
 pub mod Kinds
 pub mod Tree
 pub mod Tests
+pub mod Levels
 pub mod Parse
 pub mod Placed
 pub mod Accepted
@@ -16,3 +17,4 @@ pub mod ParseLaws
 pub mod EncodeLaws
 pub mod AcceptedLaws
 pub mod LimitLaws
+pub mod LevelLaws

@@ -2,7 +2,7 @@
 -- step with fewer levels decides the same, or stops with a 4.
 use Prim.Native.Nat.{ℕ, zero, suc, _≤_}
 use mathlib.Core.Path.{_≡_, refl, sym, ap, subst, _∙_}
-use mathlib.Core.Bool.{Bool, true, false}
+use mathlib.Core.Bool.{Bool, true, false, false≢true}
 use mathlib.Core.List.{List, [], _∷_}
 use mathlib.Core.Logic.{_⊎_, inl, inr, ⊎-elim}
 use native.Mathlib.Omega.{arith}
@@ -11,7 +11,7 @@ use lib.Dec.{ltb, eqb}
 use borrow.Author.Tests.{ltb-true, ltb-false, le-ltb}
 use Rattle.prelude.specs.Choice.{pick, either}
 use Rattle.refusal.specs.declared.Refusal.{Refusal}
-use Rattle.refusal.specs.declared.Refusal.the-variants.{TreeTooLong, TooDeep, BadOperand}
+use Rattle.refusal.specs.declared.Refusal.the-variants.{BadSettings, TreeTooLong, BadFrame, TooDeep, BadKindOrOperator, BadField, BadOperand, TextTooLong, BufferTooShort, InputTooLong, BadRow, BadText, MissingColumn}
 use Rattle.refusal.specs.Number.{numberOf}
 use Rattle.record.specs.declared.Frame.{Frame}
 use Rattle.record.specs.declared.Frame.the-variants.{Broken, Whole}
@@ -102,8 +102,23 @@ module _ (rs : List Refusal) where
         (pick-else (eqb k 13) _ _ _ _ (also-else (exactly body 2 s) (exactly other 2 s) _ _ (exactly-else 2 s) (λ ts. alike refl))
         (alike refl))))))))))))))
 
-abbrev deeper : List Refusal
+abbrev pub deeper : List Refusal
 deeper = TooDeep ∷ []
+
+pub deeper-is : (n : Refusal) → isOf deeper n ≡ true → n ≡ TooDeep
+deeper-is BadSettings i = absurd (false≢true i)
+deeper-is TreeTooLong i = absurd (false≢true i)
+deeper-is BadFrame i = absurd (false≢true i)
+deeper-is TooDeep i = refl
+deeper-is BadKindOrOperator i = absurd (false≢true i)
+deeper-is BadField i = absurd (false≢true i)
+deeper-is BadOperand i = absurd (false≢true i)
+deeper-is TextTooLong i = absurd (false≢true i)
+deeper-is BufferTooShort i = absurd (false≢true i)
+deeper-is InputTooLong i = absurd (false≢true i)
+deeper-is BadRow i = absurd (false≢true i)
+deeper-is BadText i = absurd (false≢true i)
+deeper-is MissingColumn i = absurd (false≢true i)
 
 node-else : (n m k : ℕ) (s : List ℕ) → n ≤ m → Else deeper (node n k s) (node m k s)
 unfolding node
@@ -125,7 +140,7 @@ parse-more n m s t h e = go (parse-else n m s h)
     go (stops k i q) = not-got k t (sym q ∙ e)
 
 -- and with any other levels alike, or refused with 4
-parse-other : (n m : ℕ) (s : List ℕ) (t : Tree) → parse m s ≡ got t → Else deeper (parse n s) (got t)
+pub parse-other : (n m : ℕ) (s : List ℕ) (t : Tree) → parse m s ≡ got t → Else deeper (parse n s) (got t)
 parse-other n m s t e = go (ltb m n) refl
   where
     fewer : Else deeper (parse n s) (parse m s) → Else deeper (parse n s) (got t)
