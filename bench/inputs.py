@@ -156,7 +156,8 @@ def growth():
 def worst():
     """Label and input."""
     huge = filled(lambda x: ('array', x), [ITEM], PLANNER.tree - 100)
-    doubled = nested('TDisjoint', 29, name('a'), span(name('b'), name('c')))
+    side = span(name('b'), name('c'))
+    doubled = nested('TDisjoint', 29, name('a'), side)
     down = names(2970, 'down')
     mixed = [n for n, _ in names(2970, 'mixed')] * 5
     asked = ' OR '.join('%s=%s' % pair for pair in zip(mixed[::2], mixed[1::2]))[:SQL].rsplit(' OR ', 1)[0]
@@ -184,7 +185,10 @@ def worst():
         ('the same against a value of 64', reading(['%s=mark' % quoted("'" * 32764)], MARKED, False)),
         ('1,110 tests of 24 apostrophes', reading([repeated('mark>' + quoted("'" * 24), ' OR ', SQL)], MARKED, False)),
         ('one quoted text of 64 KB, four-byte characters', reading(["'%s'=mass" % ('🔩' * ((SQL - 7) // 4))], CELLS, False)),
-        ('row of 420 values of 64 bytes, four-byte characters', reading(['TRUE'], [(n, '🔩' * (VALUE // 4)) for n, _ in names(420, 'mixed')], False))]
+        ('row of 420 values of 64 bytes, four-byte characters', reading(['TRUE'], [(n, '🔩' * (VALUE // 4)) for n, _ in names(420, 'mixed')], False)),
+        ('controller, 6 TDisjoint about 270 empty arrays', lowering([nested('TDisjoint', 6, ('array', [('array', [])] * 270), side)], 'l')),
+        ('controller, 5 TEquals about 5 long numbers', lowering([nested('TEquals', 5, ('array', [num(1 - 10 ** 15, 9)] * 5), side)], 'l')),
+        ('controller, 199 names, each sought in the keywords', lowering([('array', [name('temr')] * 199)], 'l'))]
 
 
 MARKS = word("'" * STR)

@@ -1,10 +1,10 @@
 /* How much stack a call of the library takes: each is made on a stack of its own that is full of one byte, and what is another byte afterwards was
    used.
 
-   stack CASES PREFIX     a line for each case and function: the answer, and the bytes of stack from the place where the caller's ended, the return
-                          address among them. CASES: settings and tree, each after its length in four bytes. PREFIX is planner or controller.
+   stack CASES     a line for each case, and in it for each function the answer, and the bytes of stack from the place where the caller's ended, the
+                   return address among them. CASES: settings and tree, each after its length in four bytes.
 
-   For x86-64 alone. */
+   The functions are the controller's if CONTROLLER is defined, else the planner's. For x86-64 alone. */
 #include "inputs.h"
 #include <string.h>
 #include <sys/mman.h>
@@ -19,10 +19,13 @@ static uint8_t *stacks[FILLS], fillings[FILLS][PAGE], out[65536];
 static const uint8_t fills[FILLS] = {0xa3, 0x5c};
 
 /* A preview takes the size as its fifth argument, where a call that writes has the buffer. */
-static const struct { function *call; int previews; } calls[2][CALLS] = {
-    {{wenduulig_to_sql, 0}, {wenduulig_to_geopackage_sql, 0}, {(function *)wenduulig_preview_sql, 1}, {(function *)wenduulig_preview_geopackage_sql, 1}},
-    {{wenduulig_controller_to_sql, 0}, {wenduulig_controller_to_geopackage_sql, 0}, {(function *)wenduulig_controller_preview_sql, 1},
-     {(function *)wenduulig_controller_preview_geopackage_sql, 1}}};
+static const struct { function *call; int previews; } calls[CALLS] = {
+#ifdef CONTROLLER
+    {wenduulig_controller_to_sql, 0}, {wenduulig_controller_to_geopackage_sql, 0}, {(function *)wenduulig_controller_preview_sql, 1},
+    {(function *)wenduulig_controller_preview_geopackage_sql, 1}};
+#else
+    {wenduulig_to_sql, 0}, {wenduulig_to_geopackage_sql, 0}, {(function *)wenduulig_preview_sql, 1}, {(function *)wenduulig_preview_geopackage_sql, 1}};
+#endif
 
 /* Makes the call with the stack's end in the place of the caller's. */
 static int64_t on_stack(uint8_t *end, function *call, const struct bytes *s, const struct bytes *t, uint64_t fifth, uint64_t sixth)
@@ -52,13 +55,13 @@ static size_t used(int which)
     return SIZE - low;
 }
 
-static size_t measured(int caller, int k, const struct bytes *s, const struct bytes *t, int64_t *answer)
+static size_t measured(int k, const struct bytes *s, const struct bytes *t, int64_t *answer)
 {
-    function *call = calls[caller][k].call;
+    function *call = calls[k].call;
     size_t most = 0;
     for (int which = 0; which < FILLS; which++) {
         uint8_t *end = stacks[which] + SIZE;
-        *answer = calls[caller][k].previews ? on_stack(end, call, s, t, sizeof out, 0) : on_stack(end, call, s, t, (uint64_t)(uintptr_t)out, sizeof out);
+        *answer = calls[k].previews ? on_stack(end, call, s, t, sizeof out, 0) : on_stack(end, call, s, t, (uint64_t)(uintptr_t)out, sizeof out);
         size_t n = used(which);
         most = n > most ? n : most;
     }
@@ -80,17 +83,16 @@ static void make_stacks(void)
 
 int main(int argc, char **argv)
 {
-    FILE *f = argc == 3 ? fopen(argv[1], "rb") : NULL;
+    FILE *f = argc == 2 ? fopen(argv[1], "rb") : NULL;
     if (!f)
-        fail("usage: stack CASES planner|controller");
-    const int caller = !strcmp(argv[2], "controller");
+        fail("usage: stack CASES");
     make_stacks();
     for (int c; (c = fgetc(f)) != EOF;) {
         ungetc(c, f);
         struct bytes s = part(f), t = part(f);
         for (int k = 0; k < CALLS; k++) {
             int64_t answer;
-            size_t n = measured(caller, k, &s, &t, &answer);
+            size_t n = measured(k, &s, &t, &answer);
             printf("%lld %zu%c", (long long)answer, n, k + 1 < CALLS ? ' ' : '\n');
         }
         free(s.at);

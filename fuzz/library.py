@@ -47,11 +47,13 @@ class Lent:
 
 
 class Library:
-    def __init__(self, path):
-        c = ctypes.CDLL(path)
+    """The functions of a shared object; those of the controller may be of another."""
+
+    def __init__(self, path, controllers=None):
+        c, d = ctypes.CDLL(path), ctypes.CDLL(controllers or path)
         slice_ = [ctypes.c_void_p, ctypes.c_size_t]
         both = [(limit, writing, name + '%s_' + call) for limit, name in CALLERS.items() for writing, call in CALLS.items()]
-        self.writers, self.previews = ({(limit, writing): c['wenduulig_' + name % word] for limit, writing, name in both} for word in ('to', 'preview'))
+        self.writers, self.previews = ({(limit, writing): (c if limit == PLANNER else d)['wenduulig_' + name % word] for limit, writing, name in both} for word in ('to', 'preview'))
         self.reader = c.wenduulig_read
         for writer in self.writers.values():
             writer.argtypes, writer.restype = slice_ * 3, ctypes.c_int64
