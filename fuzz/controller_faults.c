@@ -2,7 +2,7 @@
 #include <string.h>
 #include <wenduulig.h>
 
-enum { TREE = WENDUULIG_CONTROLLER_TREE_MAX, LEVELS = 8, TEXT = WENDUULIG_CONTROLLER_TEXT_MAX, PLANNER_LEVELS = 32 };
+enum { TREE = WENDUULIG_CONTROLLER_TREE_MAX, LEVELS = WENDUULIG_CONTROLLER_DEPTH_MAX, TEXT = WENDUULIG_CONTROLLER_TEXT_MAX, PLANNER_LEVELS = WENDUULIG_DEPTH_MAX };
 
 typedef int64_t writer(const uint8_t *, size_t, const uint8_t *, size_t, uint8_t *, size_t);
 typedef int64_t previewer(const uint8_t *, size_t, const uint8_t *, size_t, size_t);

@@ -30,9 +30,9 @@
  * length of the text, or the refusal. With SIZE_MAX, or any size from WENDUULIG_TEXT_MAX on, 9 does not occur: the answer is
  * the length to reserve, or a refusal of 1 to 8. It costs what the call that writes does before it writes.
  *
- * The camera's controller has the same four with wenduulig_controller_ before their names, and smaller limits: trees of 2,000
- * bytes, 8 levels, texts of 4,000 bytes. 2, 4 and 8 mean these limits there; all else is the same. Where both callers accept,
- * their texts are equal; what the planner's functions accept, the controller's refuse by 2, 4, 8 or 9 alone.
+ * The camera's controller has the same four with wenduulig_controller_ in the place of wenduulig_, and smaller limits: trees
+ * of 2,000 bytes, 8 levels, texts of 4,000 bytes. 2, 4 and 8 mean these limits there; all else is the same. Where both
+ * callers accept, their texts are equal; what the planner's functions accept, the controller's refuse by 2, 4, 8 or 9 alone.
  *
  * Records. Length, 4 bytes; kind, 2 bytes; body. Numbers are little-endian; the length counts kind and body.
  *    0 Null, 1 Unbounded (..)   empty
@@ -126,12 +126,14 @@
 extern "C" {
 #endif
 
-/* The limits, in bytes. A buffer of WENDUULIG_TEXT_MAX bytes, and a preview of that size, is never refused by 9; by the
+/* The limits, in bytes and levels. A buffer of WENDUULIG_TEXT_MAX bytes, and a preview of that size, is never refused by 9; by the
  * controller's functions one of WENDUULIG_CONTROLLER_TEXT_MAX. */
 #define WENDUULIG_TREE_MAX 32768
+#define WENDUULIG_DEPTH_MAX 32
 #define WENDUULIG_TEXT_MAX 65535
 #define WENDUULIG_ROW_MAX 32768
 #define WENDUULIG_CONTROLLER_TREE_MAX 2000
+#define WENDUULIG_CONTROLLER_DEPTH_MAX 8
 #define WENDUULIG_CONTROLLER_TEXT_MAX 4000
 
 /* The kinds of records. */

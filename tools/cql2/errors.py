@@ -46,7 +46,7 @@ def guarded(name, work, enough=0):
     except (BadInput, sqlite3.Error) as e:
         return told(name, e, 2)
     except RecursionError:
-        return told(name, Refused(4, 'the filter lies deeper than 32 levels'), 1)
+        return told(name, Refused(4, "the filter lies deeper than any caller's levels"), 1)
     except UnicodeEncodeError:
         return told(name, 'an argument is not UTF-8 text', 2)
     except MemoryError:

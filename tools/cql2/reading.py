@@ -53,7 +53,7 @@ def read_filter(data, name='the filter'):
             raise BadInput('%s is CQL2-Text, and CQL2-JSON is due, as {"op": "=", "args": [{"property": "label"}, "cup"]}' % name)
         raise BadInput('%s is not JSON: %s at line %d, column %d' % (name, e.msg.removesuffix(' starting at'), e.lineno, e.colno))
     except RecursionError:
-        raise Refused(4, '%s lies deeper than 32 levels' % name)
+        raise Refused(4, '%s lies deeper than any caller\'s levels' % name)
 
 
 TEXT_WORDS = re.compile(r'''^(?=\s*[("\w])[^{]*?(\w["')]?\s*[=<>]|\s(and|or|is|in|like|between)\s|^\s*not\s|\b(casei|accenti|[sta]_\w+)\s*\()''', re.I | re.S)

@@ -238,7 +238,7 @@ class Errors(unittest.TestCase):
 
     def test_too_deep_to_be_read(self):
         for data in ('[' * 5000, nested(450)):
-            self.assertEqual(self.line(run('-', data=data.encode()), 1), 'refused (4): the filter lies deeper than 32 levels')
+            self.assertEqual(self.line(run('-', data=data.encode()), 1), "refused (4): the filter lies deeper than any caller's levels")
 
     def test_bytes_that_are_no_text(self):
         self.assertEqual(self.line(run('-', data=b'"\xff"'), 2), 'the filter is not UTF-8 text (byte 1)')

@@ -89,7 +89,7 @@ pub use refusal::Refusal;
 pub use row::Row;
 pub use settings::Settings;
 
-/// The length of the longest text, in bytes.
+/// The length of the planner's longest text, in bytes; [`controller::TEXT_MAX`] is the controller's.
 pub const TEXT_MAX: usize = 65_535;
 
 /// The bytes that are tried first for a tree of no more; for a longer tree [`TIMES_TREE`] times its own. Most texts are shorter,

@@ -147,13 +147,13 @@ fn reading() {
 fn words() {
     let named = [
         "not exactly one record of kind 100 with a precision of 0 to 15",
-        "32,768",
+        "for the controller 2,000",
         "a record is missing where one is due, a length is below 2 or passes the end around it, or bytes are left over",
-        "32 levels",
+        "for the controller 8",
         "kind is above 13, an operator's number above 52, or an operator stands at the wrong number of operands: of one",
         "times from 00:00:00 to 23:59:59; numbers",
         "BETWEEN and NOT BETWEEN need an Array of exactly two",
-        "65,535",
+        "for the controller 4,000",
         "larger",
         "65,535",
         "two equal in any letter case",
