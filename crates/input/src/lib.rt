@@ -1,5 +1,6 @@
 // The parts of a case as programs read them, each after its length in four bytes, little-endian. No contract of the kit says which bytes a call
 // of C's reads. So what is read and what it is stand apart: `read_part` fills the buffers and counts, and `part_of` says what was read.
+#![tactic(auto)]
 ghost use Rattle.std.specs.Prelude.{◌≡◌, ◌+◌, ◌≤◌, take};
 ghost use Rattle.record.specs.Record.{le32};
 ghost use Rattle.input.specs.Part.{part_of};

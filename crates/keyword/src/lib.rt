@@ -1,4 +1,5 @@
 // The words that no name may be.
+#![tactic(auto)]
 ghost use Rattle.std.specs.Prelude.{◌≡◌};
 ghost use Rattle.keyword.specs.Reserved.{reserved};
 

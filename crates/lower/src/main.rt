@@ -1,6 +1,7 @@
 // Lowers filters as `gpkg::to_sql` does, or with the argument `geopackage` as `gpkg::to_geopackage_sql`; with the argument `controller` before it as
 // these of crate controller; with the argument `reduce` before all others what `reduce::reduce` makes of each tree. Standard input: cases to its end, each a settings record and then a tree, each of these after its length in four bytes,
 // little-endian. Standard output: a line for each case, the SQL text or `refused N`; `incomplete` if the input ends inside a case.
+#![tactic(auto)]
 ghost use Rattle.std.specs.Prelude.{◌≤◌};
 
 use gpkg::Lowered;

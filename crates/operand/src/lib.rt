@@ -1,10 +1,11 @@
 // The operands of a temporal operator and their four ends (src/ds/sql.rs).
+#![tactic(auto)]
 ghost use Rattle.std.specs.Prelude.{◌≡◌};
 ghost use Rattle.operand.specs.Ends.{is_column, start_of, stop_of, unfold_expressions};
 
 // An end of an operand: the record that holds it lies from the first offset to the second, counted from the start of the operator's own record
 // in the tree, which has at most 32,768 bytes.
-#[derive(Drop)]
+#[derive(Clone, Copy)]
 pub enum End {
     Column(u16, u16),
     // A date or a timestamp.
@@ -17,7 +18,7 @@ pub enum End {
 }
 
 // An operand of a temporal operator.
-#[derive(Drop)]
+#[derive(Clone, Copy)]
 pub enum Operand {
     Single(End),
     Interval(End, End),

@@ -1,5 +1,6 @@
 // Replays the stored cases of data/, a file for each kind, and compares the proved code's answers with the stored ones. A line for each file
 // counts the cases whose answer is as stored; a line more for each case with another answer, and for a file that is broken.
+#![tactic(auto)]
 ghost use Rattle.std.specs.Prelude.{◌≡◌, ◌<◌};
 ghost use Rattle.replay.specs.TallyWords.{tallied};
 

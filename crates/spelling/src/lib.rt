@@ -1,4 +1,5 @@
 // How each operator is spelt in SQL.
+#![tactic(auto)]
 ghost use Rattle.std.specs.Prelude.{◌≡◌, ◌<◌};
 ghost use Rattle.spelling.specs.SpellingTable.{Lies, Spells, place_in};
 

@@ -109,7 +109,7 @@ pub exactly_one_reads : {writing : Writing} {a b c d : Tree} {row : List ℕ} {c
     → is_operand (interval a b) ≡ true → is_operand (interval c d) ≡ true → IsRow row cs
     → proper writing cs a b ≡ true → proper writing cs c d ≡ true → ExactlyOne SaysTrue SaysFalse (λ o. reading_of (x o) row)
 exactly_one_reads {writing} {a} {b} {c} {d} {row} {cs} x L p q R s t =
-    laws.carried answered True False (λ o. temporal_truth writing cs o (interval a b) (interval c d)) (λ o. reading_of (x o) row) reads (laws.exactly-one writing cs a b c d s t)
+    laws.carried answered True False (λ o. temporal_truth writing cs o (interval a b) (interval c d)) (λ o. reading_of (x o) row) reads (laws.exactly_one writing cs a b c d s t)
   where
     reads : (o : Op) → one_of o thirteen ≡ true → reading_of (x o) row ≡ answered (temporal_truth writing cs o (interval a b) (interval c d))
     reads o m =

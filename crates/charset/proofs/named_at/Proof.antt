@@ -37,10 +37,10 @@ returns : tie.Need-returns
 returns c = c.is_name.ensures ∙ laws.named_in c.before.before.before.before.before.before.before.args.s.now _ _ c.before.before.before.wide.ensures.0 (omega arith)
 
 returns-2 : tie.Need-returns-2
-returns-2 c = sym (laws.named-out c.before.before.before.before.before.args.s.now c.before.before.before.before.before.args.i (omega arith))
+returns-2 c = sym (laws.named_out c.before.before.before.before.before.args.s.now c.before.before.before.before.before.args.i (omega arith))
 
 returns-3 : tie.Need-returns-3
-returns-3 c = sym (laws.named-out c.before.before.args.s.now c.before.before.args.i (omega arith))
+returns-3 c = sym (laws.named_out c.before.before.args.s.now c.before.before.args.i (omega arith))
 
 pub named-at-spec : {M : Type 1} → statement M
 named-at-spec =

@@ -11,13 +11,13 @@ within-requires : tie.Need-within-requires
 within-requires c κs = search rules
 
 returns : tie.Need-returns
-returns c = simp (laws.comparison-range, ← c.before.before.op-number.ensures, ← c.before.within.ensures, c.if1.true)
+returns c = simp (laws.comparison_range, ← c.before.before.op-number.ensures, ← c.before.within.ensures, c.if1.true)
 
 within-requires-2 : tie.Need-within-requires-2
 within-requires-2 c κs = search rules
 
 returns-2 : tie.Need-returns-2
-returns-2 c = simp (laws.comparison-range, ← c.before.before.before.op-number.ensures, ← c.before.before.within.ensures, c.before.if1.false, c.within2.ensures)
+returns-2 c = simp (laws.comparison_range, ← c.before.before.before.op-number.ensures, ← c.before.before.within.ensures, c.before.if1.false, c.within2.ensures)
 
 pub comparison-spec : {M : Type 1} → statement M
 comparison-spec = tie.close (tie.spec op-number-requires within-requires returns within-requires-2 returns-2)

@@ -11,7 +11,7 @@ within-requires : tie.Need-within-requires
 within-requires c κs = search rules
 
 returns : tie.Need-returns
-returns c = simp (c.within.ensures, c.before.op-number.ensures, laws.nullable-range)
+returns c = simp (c.within.ensures, c.before.op-number.ensures, laws.nullable_range)
 
 pub nullable-spec : {M : Type 1} → statement M
 nullable-spec = tie.close (tie.spec op-number-requires within-requires returns)

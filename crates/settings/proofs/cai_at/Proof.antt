@@ -18,7 +18,7 @@ add-result-2 : tie.Need-overflow-add-result-2
 add-result-2 c = search rules
 
 returns : tie.Need-returns
-returns c = (laws.cai-is c.before.before.before.args.s.now _ _ c.before.ai-at.ensures.0 c.byte_at.ensures.0, omega (arith, c.before.ai-at.ensures.1, c.byte_at.ensures.1))
+returns c = (laws.cai_is c.before.before.before.args.s.now _ _ c.before.ai-at.ensures.0 c.byte_at.ensures.0, omega (arith, c.before.ai-at.ensures.1, c.byte_at.ensures.1))
 
 pub cai-at-spec : {M : Type 1} → statement M
 cai-at-spec = tie.close (tie.spec ai-at-requires add-result byte-at-requires add-result-2 returns)

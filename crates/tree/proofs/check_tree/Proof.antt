@@ -19,7 +19,7 @@ heard_too : {A : Type 0} {r : Checked} (x : Read A) → r ≡ verdict x → (r �
 heard_too x e = (e, ap heard e ∙ heard-verdict x)
 
 returns : tie.Need-returns
-returns c = heard_too _ (sym (walk.accepted-long _ c.before.before.before.args.tree.now c.if1.true))
+returns c = heard_too _ (sym (walk.accepted_long _ c.before.before.before.args.tree.now c.if1.true))
 
 check-one-requires : tie.Need-check-one-requires
 check-one-requires c κs = search rules
@@ -34,13 +34,13 @@ plain-shape-requires : tie.Need-plain-shape-requires
 plain-shape-requires c κs = search rules
 
 returns-2 : tie.Need-returns-2
-returns-2 c = heard_too _ (sym (walk.accepted-walk _ c.before.before.before.before.before.before.before.args.tree.now _ c.before.before.before.before.if1.false c.before.before.before.check-one.ensures ∙ ap concluded c.before.e.given.1))
+returns-2 c = heard_too _ (sym (walk.accepted_walk _ c.before.before.before.before.before.before.before.args.tree.now _ c.before.before.before.before.if1.false c.before.before.before.check-one.ensures ∙ ap concluded c.before.e.given.1))
 
 returns-3 : tie.Need-returns-3
-returns-3 c = heard_too _ (sym (walk.accepted-walk _ c.before.before.before.before.before.before.before.before.before.args.tree.now _ c.before.before.before.before.before.before.if1.false c.before.before.before.before.before.check-one.ensures ∙ ap concluded c.before.before.before.a.given.1 ∙ ap (λ (b : Bool). pick b Valid (Refused BadOperand)) (sym c.before.plain-shape.ensures ∙ c.if2.true)))
+returns-3 c = heard_too _ (sym (walk.accepted_walk _ c.before.before.before.before.before.before.before.before.before.args.tree.now _ c.before.before.before.before.before.before.if1.false c.before.before.before.before.before.check-one.ensures ∙ ap concluded c.before.before.before.a.given.1 ∙ ap (λ (b : Bool). pick b Valid (Refused BadOperand)) (sym c.before.plain-shape.ensures ∙ c.if2.true)))
 
 returns-4 : tie.Need-returns-4
-returns-4 c = heard_too _ (sym (walk.accepted-walk _ c.before.before.before.before.before.before.before.before.before.args.tree.now _ c.before.before.before.before.before.before.if1.false c.before.before.before.before.before.check-one.ensures ∙ ap concluded c.before.before.before.a.given.1 ∙ ap (λ (b : Bool). pick b Valid (Refused BadOperand)) (sym c.before.plain-shape.ensures ∙ c.if2.false)))
+returns-4 c = heard_too _ (sym (walk.accepted_walk _ c.before.before.before.before.before.before.before.before.before.args.tree.now _ c.before.before.before.before.before.before.if1.false c.before.before.before.before.before.check-one.ensures ∙ ap concluded c.before.before.before.a.given.1 ∙ ap (λ (b : Bool). pick b Valid (Refused BadOperand)) (sym c.before.plain-shape.ensures ∙ c.if2.false)))
 
 pub check-tree-spec : {M : Type 1} → statement M
 check-tree-spec =

@@ -7,13 +7,13 @@ use Rattle.tree.proofs.within_limit.Statement.{statement}
 use Rattle.tree.proofs.within_limit.Tie as tie
 
 returns : tie.Need-returns
-returns c = sym (laws.limit-low _ c.if1.true)
+returns c = sym (laws.limit_low _ c.if1.true)
 
 sub-result : tie.Need-overflow-sub-result
 sub-result c = search rules
 
 returns-2 : tie.Need-returns-2
-returns-2 c = laws.limit-high _ c.if1.false (omega arith)
+returns-2 c = laws.limit_high _ c.if1.false (omega arith)
 
 pub within-limit-spec : {M : Type 1} → statement M
 within-limit-spec = tie.close (tie.spec returns sub-result returns-2)

@@ -284,31 +284,31 @@ fold-dyadic-enum-known-end : (t : ℕ) → fold-dyadic-lts.Need-enum-known-end (
 fold-dyadic-enum-known-end t c = search rules
 
 fold-dyadic-fold-second-requires : (t : ℕ) → fold-dyadic-lts.Need-fold-second-requires (fold-dyadic-calls t) (fold-dyadic-at t) fold-dyadic.Post
-fold-dyadic-fold-second-requires t c κs = (let m = c.before.before.before.before.before.before.before.before.before.before.before.before.requires.0 in omega arith, step.second-of c.before.before.before.before.before.before.before.before.before.before.before.before.args.s.now c.before.before.before.before.before.before.before.before.before.before.before.before.args.at _ c.before.before.before.before.before.before.before.before.before.before.before.before.requires.1.0 c.before.before.before.before.before.before.before.before.before.before.before.before.requires.1.1 c.before.before.before.before.before.before.before.before.before.dword-at.ensures.0 c.before.before.before.before.before.before.fold.ensures c.before.before.end.given.1)
+fold-dyadic-fold-second-requires t c κs = (let m = c.before.before.before.before.before.before.before.before.before.before.before.before.requires.0 in omega arith, step.second_of c.before.before.before.before.before.before.before.before.before.before.before.before.args.s.now c.before.before.before.before.before.before.before.before.before.before.before.before.args.at _ c.before.before.before.before.before.before.before.before.before.before.before.before.requires.1.0 c.before.before.before.before.before.before.before.before.before.before.before.before.requires.1.1 c.before.before.before.before.before.before.before.before.before.dword-at.ensures.0 c.before.before.before.before.before.before.fold.ensures c.before.before.end.given.1)
 
 fold-dyadic-same-length : (t : ℕ) → fold-dyadic-lts.Need-same-length (fold-dyadic-calls t) (fold-dyadic-at t) fold-dyadic.Post
 fold-dyadic-same-length t c = search rules
 
 fold-dyadic-returns : (t : ℕ) → fold-dyadic-lts.Need-returns (fold-dyadic-calls t) (fold-dyadic-at t) fold-dyadic.Post
-fold-dyadic-returns t c = step.dyadic-fails c.before.before.before.before.before.before.before.before.before.before.args.s.now c.before.before.before.before.before.before.before.before.before.before.args.at _ c.before.before.before.before.before.before.before.before.before.before.requires.1.0 c.before.before.before.before.before.before.before.before.before.before.requires.1.1 c.before.before.before.before.before.before.before.dword-at.ensures.0 c.before.before.before.before.fold.ensures c.enum_told.given.1
+fold-dyadic-returns t c = step.dyadic_fails c.before.before.before.before.before.before.before.before.before.before.args.s.now c.before.before.before.before.before.before.before.before.before.before.args.at _ c.before.before.before.before.before.before.before.before.before.before.requires.1.0 c.before.before.before.before.before.before.before.before.before.before.requires.1.1 c.before.before.before.before.before.before.before.dword-at.ensures.0 c.before.before.before.before.fold.ensures c.enum_told.given.1
 
 fold-dyadic-same-length-2 : (t : ℕ) → fold-dyadic-lts.Need-same-length-2 (fold-dyadic-calls t) (fold-dyadic-at t) fold-dyadic.Post
 fold-dyadic-same-length-2 t c = search rules
 
 fold-dyadic-returns-2 : (t : ℕ) → fold-dyadic-lts.Need-returns-2 (fold-dyadic-calls t) (fold-dyadic-at t) fold-dyadic.Post
-fold-dyadic-returns-2 t c = step.dyadic-second c.before.before.before.before.before.before.before.before.before.before.before.before.before.before.before.args.s.now c.before.before.before.before.before.before.before.before.before.before.before.before.before.before.before.args.at _ c.before.before.before.before.before.before.before.before.before.before.before.before.before.before.before.requires.1.0 c.before.before.before.before.before.before.before.before.before.before.before.before.before.before.before.requires.1.1 c.before.before.before.before.before.before.before.before.before.before.before.before.dword-at.ensures.0 c.before.before.before.before.before.before.before.before.before.fold.ensures c.before.before.before.before.before.end.given.1 c.before.before.fold-second.ensures
+fold-dyadic-returns-2 t c = step.dyadic_second c.before.before.before.before.before.before.before.before.before.before.before.before.before.before.before.args.s.now c.before.before.before.before.before.before.before.before.before.before.before.before.before.before.before.args.at _ c.before.before.before.before.before.before.before.before.before.before.before.before.before.before.before.requires.1.0 c.before.before.before.before.before.before.before.before.before.before.before.before.before.before.before.requires.1.1 c.before.before.before.before.before.before.before.before.before.before.before.before.dword-at.ensures.0 c.before.before.before.before.before.before.before.before.before.fold.ensures c.before.before.before.before.before.end.given.1 c.before.before.fold-second.ensures
 
 fold-items-items-at-requires : (t : ℕ) → fold-items-lts.Need-items-at-requires (fold-items-calls t) (fold-items-at t) fold-items.Post
 fold-items-items-at-requires t c κs = search rules
 
 fold-items-sub-put : (t : ℕ) → fold-items-lts.Need-overflow-sub-put (fold-items-calls t) (fold-items-at t) fold-items.Post
-fold-items-sub-put t c = let q = item.items-start c.before.before.before.args.s.now c.before.before.before.args.at c.before.before.before.args.kind _ c.before.before.before.args.room.now c.items_at.ensures c.before.before.before.requires.1.1 c.before.before.before.requires.1.2 c.before.before.before.requires.1.0 in omega (arith, q.0)
+fold-items-sub-put t c = let q = item.items_start c.before.before.before.args.s.now c.before.before.before.args.at c.before.before.before.args.kind _ c.before.before.before.args.room.now c.items_at.ensures c.before.before.before.requires.1.1 c.before.before.before.requires.1.2 c.before.before.before.requires.1.0 in omega (arith, q.0)
 
 fold-items-part-put-start : (t : ℕ) → fold-items-lts.Need-slice-bounds-put-start (fold-items-calls t) (fold-items-at t) fold-items.Post
-fold-items-part-put-start t c = let q = item.items-start c.before.before.before.args.s.now c.before.before.before.args.at c.before.before.before.args.kind _ c.before.before.before.args.room.now c.items_at.ensures c.before.before.before.requires.1.1 c.before.before.before.requires.1.2 c.before.before.before.requires.1.0 in omega (arith, q.0)
+fold-items-part-put-start t c = let q = item.items_start c.before.before.before.args.s.now c.before.before.before.args.at c.before.before.before.args.kind _ c.before.before.before.args.room.now c.items_at.ensures c.before.before.before.requires.1.1 c.before.before.before.requires.1.2 c.before.before.before.requires.1.0 in omega (arith, q.0)
 
 fold-items-part-put-end : (t : ℕ) → fold-items-lts.Need-slice-bounds-put-end (fold-items-calls t) (fold-items-at t) fold-items.Post
-fold-items-part-put-end t c = let q = item.items-start c.before.before.before.args.s.now c.before.before.before.args.at c.before.before.before.args.kind _ c.before.before.before.args.room.now c.items_at.ensures c.before.before.before.requires.1.1 c.before.before.before.requires.1.2 c.before.before.before.requires.1.0 in omega (arith, q.1)
+fold-items-part-put-end t c = let q = item.items_start c.before.before.before.args.s.now c.before.before.before.args.at c.before.before.before.args.kind _ c.before.before.before.args.room.now c.items_at.ensures c.before.before.before.requires.1.1 c.before.before.before.requires.1.2 c.before.before.before.requires.1.0 in omega (arith, q.1)
 
 fold-items-add-put : (t : ℕ) → fold-items-lts.Need-overflow-add-put (fold-items-calls t) (fold-items-at t) fold-items.Post
 fold-items-add-put t c = omega (arith, c.before.before.before.before.before.requires.1.0.fits, c.before.before.before.before.before.requires.1.0.small)
@@ -317,16 +317,16 @@ fold-items-put-requires : (t : ℕ) → fold-items-lts.Need-put-requires (fold-i
 fold-items-put-requires t c κs = (item.name-room c.before.before.before.before.before.args.s.now c.before.before.before.before.before.args.at c.before.before.before.before.before.args.kind _ c.before.before.before.before.before.args.room.now c.before.before.items_at.ensures c.before.before.before.before.before.requires.1.1 c.before.before.before.before.before.requires.1.2 c.before.before.before.before.before.requires.1.0, c.before.before.before.before.before.requires.1.0.small)
 
 fold-items-sub-fold-list : (t : ℕ) → fold-items-lts.Need-overflow-sub-fold-list (fold-items-calls t) (fold-items-at t) fold-items.Post
-fold-items-sub-fold-list t c = let q = item.items-start c.before.before.before.before.before.before.before.before.args.s.now c.before.before.before.before.before.before.before.before.args.at c.before.before.before.before.before.before.before.before.args.kind _ c.before.before.before.before.before.before.before.before.args.room.now c.before.before.before.before.before.items_at.ensures c.before.before.before.before.before.before.before.before.requires.1.1 c.before.before.before.before.before.before.before.before.requires.1.2 c.before.before.before.before.before.before.before.before.requires.1.0 in omega (arith, q.1)
+fold-items-sub-fold-list t c = let q = item.items_start c.before.before.before.before.before.before.before.before.args.s.now c.before.before.before.before.before.before.before.before.args.at c.before.before.before.before.before.before.before.before.args.kind _ c.before.before.before.before.before.before.before.before.args.room.now c.before.before.before.before.before.items_at.ensures c.before.before.before.before.before.before.before.before.requires.1.1 c.before.before.before.before.before.before.before.before.requires.1.2 c.before.before.before.before.before.before.before.before.requires.1.0 in omega (arith, q.1)
 
 fold-items-part-fold-list-start : (t : ℕ) → fold-items-lts.Need-slice-bounds-fold-list-start (fold-items-calls t) (fold-items-at t) fold-items.Post
-fold-items-part-fold-list-start t c = let q = item.items-start c.before.before.before.before.before.before.before.before.args.s.now c.before.before.before.before.before.before.before.before.args.at c.before.before.before.before.before.before.before.before.args.kind _ c.before.before.before.before.before.before.before.before.args.room.now c.before.before.before.before.before.items_at.ensures c.before.before.before.before.before.before.before.before.requires.1.1 c.before.before.before.before.before.before.before.before.requires.1.2 c.before.before.before.before.before.before.before.before.requires.1.0 in omega (arith, q.1)
+fold-items-part-fold-list-start t c = let q = item.items_start c.before.before.before.before.before.before.before.before.args.s.now c.before.before.before.before.before.before.before.before.args.at c.before.before.before.before.before.before.before.before.args.kind _ c.before.before.before.before.before.before.before.before.args.room.now c.before.before.before.before.before.items_at.ensures c.before.before.before.before.before.before.before.before.requires.1.1 c.before.before.before.before.before.before.before.before.requires.1.2 c.before.before.before.before.before.before.before.before.requires.1.0 in omega (arith, q.1)
 
 fold-items-part-fold-list-end : (t : ℕ) → fold-items-lts.Need-slice-bounds-fold-list-end (fold-items-calls t) (fold-items-at t) fold-items.Post
 fold-items-part-fold-list-end t c = omega arith
 
 fold-items-fold-list-requires : (t : ℕ) → fold-items-lts.Need-fold-list-requires (fold-items-calls t) (fold-items-at t) fold-items.Post
-fold-items-fold-list-requires t c κs = (let q = item.items-start c.before.before.before.before.before.before.before.before.before.before.args.s.now c.before.before.before.before.before.before.before.before.before.before.args.at c.before.before.before.before.before.before.before.before.before.before.args.kind _ c.before.before.before.before.before.before.before.before.before.before.args.room.now c.before.before.before.before.before.before.before.items_at.ensures c.before.before.before.before.before.before.before.before.before.before.requires.1.1 c.before.before.before.before.before.before.before.before.before.before.requires.1.2 c.before.before.before.before.before.before.before.before.before.before.requires.1.0 in let m = c.before.before.before.before.before.before.before.before.before.before.requires.0 in let h = part_length c.before.before.before.before.before.before.before.before.before.before.args.s.now c.before.before.before.before.before.before.before.items_at.result (length c.before.before.before.before.before.before.before.before.before.before.args.s.now) (omega (arith, q.1)) (omega arith) in omega (arith, q.0, q.1), item.items-row c.before.before.before.before.before.before.before.before.before.before.args.s.now c.before.before.before.before.before.before.before.before.before.before.args.at c.before.before.before.before.before.before.before.before.before.before.args.kind _ c.before.before.before.before.before.before.before.before.before.before.args.room.now c.before.before.before.before.before.before.before.items_at.ensures c.before.before.before.before.before.before.before.before.before.before.requires.1.1 c.before.before.before.before.before.before.before.before.before.before.requires.1.2 c.before.before.before.before.before.before.before.before.before.before.requires.1.0 c.before.before.before.before.put.ensures.0 c.before.before.before.before.put.ensures.1)
+fold-items-fold-list-requires t c κs = (let q = item.items_start c.before.before.before.before.before.before.before.before.before.before.args.s.now c.before.before.before.before.before.before.before.before.before.before.args.at c.before.before.before.before.before.before.before.before.before.before.args.kind _ c.before.before.before.before.before.before.before.before.before.before.args.room.now c.before.before.before.before.before.before.before.items_at.ensures c.before.before.before.before.before.before.before.before.before.before.requires.1.1 c.before.before.before.before.before.before.before.before.before.before.requires.1.2 c.before.before.before.before.before.before.before.before.before.before.requires.1.0 in let m = c.before.before.before.before.before.before.before.before.before.before.requires.0 in let h = part_length c.before.before.before.before.before.before.before.before.before.before.args.s.now c.before.before.before.before.before.before.before.items_at.result (length c.before.before.before.before.before.before.before.before.before.before.args.s.now) (omega (arith, q.1)) (omega arith) in omega (arith, q.0, q.1), item.items-row c.before.before.before.before.before.before.before.before.before.before.args.s.now c.before.before.before.before.before.before.before.before.before.before.args.at c.before.before.before.before.before.before.before.before.before.before.args.kind _ c.before.before.before.before.before.before.before.before.before.before.args.room.now c.before.before.before.before.before.before.before.items_at.ensures c.before.before.before.before.before.before.before.before.before.before.requires.1.1 c.before.before.before.before.before.before.before.before.before.before.requires.1.2 c.before.before.before.before.before.before.before.before.before.before.requires.1.0 c.before.before.before.before.put.ensures.0 c.before.before.before.before.put.ensures.1)
 
 fold-items-enum-told : (t : ℕ) → fold-items-lts.Need-enum-told (fold-items-calls t) (fold-items-at t) fold-items.Post
 fold-items-enum-told t c = search rules
@@ -347,13 +347,13 @@ fold-items-same-length : (t : ℕ) → fold-items-lts.Need-same-length (fold-ite
 fold-items-same-length t c = search rules
 
 fold-items-returns : (t : ℕ) → fold-items-lts.Need-returns (fold-items-calls t) (fold-items-at t) fold-items.Post
-fold-items-returns t c = item.items-fail c.before.before.before.before.before.before.before.before.before.before.before.before.before.before.before.args.s.now c.before.before.before.before.before.before.before.before.before.before.before.before.before.before.before.args.at c.before.before.before.before.before.before.before.before.before.before.before.before.before.before.before.args.kind _ c.before.before.before.before.before.before.before.before.before.before.before.before.before.before.before.args.room.now c.before.before.before.before.before.before.before.before.before.before.before.before.items_at.ensures c.before.before.before.before.before.before.before.before.before.before.before.before.before.before.before.requires.1.1 c.before.before.before.before.before.before.before.before.before.before.before.before.before.before.before.requires.1.2 c.before.before.before.before.before.before.before.before.before.before.before.before.before.before.before.requires.1.0 c.before.before.before.before.before.before.before.before.before.put.ensures.0 c.before.before.before.before.before.before.before.before.before.put.ensures.1 c.before.before.before.before.fold-list.ensures c.enum_told.given.1
+fold-items-returns t c = item.items_fail c.before.before.before.before.before.before.before.before.before.before.before.before.before.before.before.args.s.now c.before.before.before.before.before.before.before.before.before.before.before.before.before.before.before.args.at c.before.before.before.before.before.before.before.before.before.before.before.before.before.before.before.args.kind _ c.before.before.before.before.before.before.before.before.before.before.before.before.before.before.before.args.room.now c.before.before.before.before.before.before.before.before.before.before.before.before.items_at.ensures c.before.before.before.before.before.before.before.before.before.before.before.before.before.before.before.requires.1.1 c.before.before.before.before.before.before.before.before.before.before.before.before.before.before.before.requires.1.2 c.before.before.before.before.before.before.before.before.before.before.before.before.before.before.before.requires.1.0 c.before.before.before.before.before.before.before.before.before.put.ensures.0 c.before.before.before.before.before.before.before.before.before.put.ensures.1 c.before.before.before.before.fold-list.ensures c.enum_told.given.1
 
 fold-items-same-length-2 : (t : ℕ) → fold-items-lts.Need-same-length-2 (fold-items-calls t) (fold-items-at t) fold-items.Post
 fold-items-same-length-2 t c = search rules
 
 fold-items-returns-2 : (t : ℕ) → fold-items-lts.Need-returns-2 (fold-items-calls t) (fold-items-at t) fold-items.Post
-fold-items-returns-2 t c = item.items-done c.before.before.before.before.before.before.before.before.before.before.before.before.before.before.before.before.before.before.before.before.args.s.now c.before.before.before.before.before.before.before.before.before.before.before.before.before.before.before.before.before.before.before.before.args.at c.before.before.before.before.before.before.before.before.before.before.before.before.before.before.before.before.before.before.before.before.args.kind _ c.before.before.before.before.before.before.before.before.before.before.before.before.before.before.before.before.before.before.before.before.args.room.now c.before.before.before.before.before.before.before.before.before.before.before.before.before.before.before.before.before.items_at.ensures c.before.before.before.before.before.before.before.before.before.before.before.before.before.before.before.before.before.before.before.before.requires.1.1 c.before.before.before.before.before.before.before.before.before.before.before.before.before.before.before.before.before.before.before.before.requires.1.2 c.before.before.before.before.before.before.before.before.before.before.before.before.before.before.before.before.before.before.before.before.requires.1.0 c.before.before.before.before.before.before.before.before.before.before.before.before.before.before.put.ensures.0 c.before.before.before.before.before.before.before.before.before.before.before.before.before.before.put.ensures.1 c.before.before.before.before.before.before.before.before.before.fold-list.ensures c.before.before.before.before.before.end.given.1 c.before.before.put-frame.ensures
+fold-items-returns-2 t c = item.items_done c.before.before.before.before.before.before.before.before.before.before.before.before.before.before.before.before.before.before.before.before.args.s.now c.before.before.before.before.before.before.before.before.before.before.before.before.before.before.before.before.before.before.before.before.args.at c.before.before.before.before.before.before.before.before.before.before.before.before.before.before.before.before.before.before.before.before.args.kind _ c.before.before.before.before.before.before.before.before.before.before.before.before.before.before.before.before.before.before.before.before.args.room.now c.before.before.before.before.before.before.before.before.before.before.before.before.before.before.before.before.before.items_at.ensures c.before.before.before.before.before.before.before.before.before.before.before.before.before.before.before.before.before.before.before.before.requires.1.1 c.before.before.before.before.before.before.before.before.before.before.before.before.before.before.before.before.before.before.before.before.requires.1.2 c.before.before.before.before.before.before.before.before.before.before.before.before.before.before.before.before.before.before.before.before.requires.1.0 c.before.before.before.before.before.before.before.before.before.before.before.before.before.before.put.ensures.0 c.before.before.before.before.before.before.before.before.before.before.before.before.before.before.put.ensures.1 c.before.before.before.before.before.before.before.before.before.fold-list.ensures c.before.before.before.before.before.end.given.1 c.before.before.put-frame.ensures
 
 abbrev fold-list-Inv-loop : fold-list-lts.invariant-loop
 fold-list-Inv-loop s room₀ at here₀ p₀ room here p = (length room ≡ length room₀) × item.Loop s at p here room₀ room
@@ -362,28 +362,28 @@ abbrev fold-list-μ-loop : fold-list-lts.decreases-loop
 fold-list-μ-loop s room₀ at here₀ p₀ room here p = length s - p
 
 fold-list-loop-holds : (t : ℕ) → fold-list-lts.Need-loop-init (fold-list-calls t) (fold-list-at t) fold-list.Post fold-list-Inv-loop fold-list-μ-loop
-fold-list-loop-holds t c = (refl, item.so-start c.before.before.args.s.now c.before.before.args.at c.before.before.args.room.now c.before.before.requires.1)
+fold-list-loop-holds t c = (refl, item.so_start c.before.before.args.s.now c.before.before.args.at c.before.before.args.room.now c.before.before.requires.1)
 
 fold-list-add-z : (t : ℕ) → fold-list-lts.Need-overflow-add-z (fold-list-calls t) (fold-list-at t) fold-list.Post fold-list-Inv-loop fold-list-μ-loop
-fold-list-add-z t c = let q = item.so-inside c.before.before.before.before.args.s.now c.before.before.before.before.args.at _ _ c.before.before.before.before.args.room.now _ c.before.before.before.before.requires.1 c.before.loop.invariant.1 in omega (arith, c.before.before.before.before.requires.1.fits, c.before.before.before.before.requires.1.small)
+fold-list-add-z t c = let q = item.so_inside c.before.before.before.before.args.s.now c.before.before.before.before.args.at _ _ c.before.before.before.before.args.room.now _ c.before.before.before.before.requires.1 c.before.loop.invariant.1 in omega (arith, c.before.before.before.before.requires.1.fits, c.before.before.before.before.requires.1.small)
 
 fold-list-dword-at-requires : (t : ℕ) → fold-list-lts.Need-dword-at-requires (fold-list-calls t) (fold-list-at t) fold-list.Post fold-list-Inv-loop fold-list-μ-loop
 fold-list-dword-at-requires t c κs = search rules
 
 fold-list-add-z-2 : (t : ℕ) → fold-list-lts.Need-overflow-add-z-2 (fold-list-calls t) (fold-list-at t) fold-list.Post fold-list-Inv-loop fold-list-μ-loop
-fold-list-add-z-2 t c = let q = item.item-ends c.before.before.before.before.before.args.s.now c.before.before.before.before.before.args.at _ _ c.before.before.before.before.before.args.room.now _ c.before.before.before.before.before.requires.1 c.before.before.loop.invariant.1 _ c.before.loop-test.true c.dword-at.ensures.0 in omega (arith, q.2, c.before.before.before.before.before.requires.1.fits, c.before.before.before.before.before.requires.1.small)
+fold-list-add-z-2 t c = let q = item.item_ends c.before.before.before.before.before.args.s.now c.before.before.before.before.before.args.at _ _ c.before.before.before.before.before.args.room.now _ c.before.before.before.before.before.requires.1 c.before.before.loop.invariant.1 _ c.before.loop-test.true c.dword-at.ensures.0 in omega (arith, q.2, c.before.before.before.before.before.requires.1.fits, c.before.before.before.before.before.requires.1.small)
 
 fold-list-sub-fold : (t : ℕ) → fold-list-lts.Need-overflow-sub-fold (fold-list-calls t) (fold-list-at t) fold-list.Post fold-list-Inv-loop fold-list-μ-loop
-fold-list-sub-fold t c = let q = item.item-ends c.before.before.before.before.before.args.s.now c.before.before.before.before.before.args.at _ _ c.before.before.before.before.before.args.room.now _ c.before.before.before.before.before.requires.1 c.before.before.loop.invariant.1 _ c.before.loop-test.true c.dword-at.ensures.0 in omega (arith, q.1)
+fold-list-sub-fold t c = let q = item.item_ends c.before.before.before.before.before.args.s.now c.before.before.before.before.before.args.at _ _ c.before.before.before.before.before.args.room.now _ c.before.before.before.before.before.requires.1 c.before.before.loop.invariant.1 _ c.before.loop-test.true c.dword-at.ensures.0 in omega (arith, q.1)
 
 fold-list-part-fold-start : (t : ℕ) → fold-list-lts.Need-slice-bounds-fold-start (fold-list-calls t) (fold-list-at t) fold-list.Post fold-list-Inv-loop fold-list-μ-loop
-fold-list-part-fold-start t c = let q = item.item-ends c.before.before.before.before.before.args.s.now c.before.before.before.before.before.args.at _ _ c.before.before.before.before.before.args.room.now _ c.before.before.before.before.before.requires.1 c.before.before.loop.invariant.1 _ c.before.loop-test.true c.dword-at.ensures.0 in omega (arith, q.1)
+fold-list-part-fold-start t c = let q = item.item_ends c.before.before.before.before.before.args.s.now c.before.before.before.before.before.args.at _ _ c.before.before.before.before.before.args.room.now _ c.before.before.before.before.before.requires.1 c.before.before.loop.invariant.1 _ c.before.loop-test.true c.dword-at.ensures.0 in omega (arith, q.1)
 
 fold-list-part-fold-end : (t : ℕ) → fold-list-lts.Need-slice-bounds-fold-end (fold-list-calls t) (fold-list-at t) fold-list.Post fold-list-Inv-loop fold-list-μ-loop
-fold-list-part-fold-end t c = let q = item.item-ends c.before.before.before.before.before.args.s.now c.before.before.before.before.before.args.at _ _ c.before.before.before.before.before.args.room.now _ c.before.before.before.before.before.requires.1 c.before.before.loop.invariant.1 _ c.before.loop-test.true c.dword-at.ensures.0 in omega (arith, q.2)
+fold-list-part-fold-end t c = let q = item.item_ends c.before.before.before.before.before.args.s.now c.before.before.before.before.before.args.at _ _ c.before.before.before.before.before.args.room.now _ c.before.before.before.before.before.requires.1 c.before.before.loop.invariant.1 _ c.before.loop-test.true c.dword-at.ensures.0 in omega (arith, q.2)
 
 fold-list-fold-requires : (t : ℕ) → fold-list-lts.Need-fold-requires (fold-list-calls t) (fold-list-at t) fold-list.Post fold-list-Inv-loop fold-list-μ-loop
-fold-list-fold-requires t c κs = (let m = c.before.before.before.before.before.before.before.requires.0 in let h = item.item-length c.before.before.before.before.before.before.before.args.s.now c.before.before.before.before.before.before.before.args.at _ _ c.before.before.before.before.before.before.before.args.room.now _ c.before.before.before.before.before.before.before.requires.1 c.before.before.before.before.loop.invariant.1 _ c.before.before.before.loop-test.true c.before.before.dword-at.ensures.0 in omega arith, item.item-placed c.before.before.before.before.before.before.before.args.s.now c.before.before.before.before.before.before.before.args.at _ _ c.before.before.before.before.before.before.before.args.room.now _ c.before.before.before.before.before.before.before.requires.1 c.before.before.before.before.loop.invariant.1 _ c.before.before.before.loop-test.true c.before.before.dword-at.ensures.0)
+fold-list-fold-requires t c κs = (let m = c.before.before.before.before.before.before.before.requires.0 in let h = item.item_length c.before.before.before.before.before.before.before.args.s.now c.before.before.before.before.before.before.before.args.at _ _ c.before.before.before.before.before.before.before.args.room.now _ c.before.before.before.before.before.before.before.requires.1 c.before.before.before.before.loop.invariant.1 _ c.before.before.before.loop-test.true c.before.before.dword-at.ensures.0 in omega arith, item.item_placed c.before.before.before.before.before.before.before.args.s.now c.before.before.before.before.before.before.before.args.at _ _ c.before.before.before.before.before.before.before.args.room.now _ c.before.before.before.before.before.before.before.requires.1 c.before.before.before.before.loop.invariant.1 _ c.before.before.before.loop-test.true c.before.before.dword-at.ensures.0)
 
 fold-list-enum-told : (t : ℕ) → fold-list-lts.Need-enum-told (fold-list-calls t) (fold-list-at t) fold-list.Post fold-list-Inv-loop fold-list-μ-loop
 fold-list-enum-told t c = search rules
@@ -392,22 +392,22 @@ fold-list-same-length : (t : ℕ) → fold-list-lts.Need-same-length (fold-list-
 fold-list-same-length t c = search rules
 
 fold-list-returns : (t : ℕ) → fold-list-lts.Need-returns (fold-list-calls t) (fold-list-at t) fold-list.Post fold-list-Inv-loop fold-list-μ-loop
-fold-list-returns t c = item.item-fails c.before.before.before.before.before.before.before.before.before.before.before.before.args.s.now c.before.before.before.before.before.before.before.before.before.before.before.before.args.at _ _ c.before.before.before.before.before.before.before.before.before.before.before.before.args.room.now _ c.before.before.before.before.before.before.before.before.before.before.before.before.requires.1 c.before.before.before.before.before.before.before.before.before.loop.invariant.1 c.before.before.before.before.before.before.before.before.loop-test.true c.before.before.before.before.before.before.before.dword-at.ensures.0 c.before.before.before.before.fold.ensures c.enum_told.given.1
+fold-list-returns t c = item.item_fails c.before.before.before.before.before.before.before.before.before.before.before.before.args.s.now c.before.before.before.before.before.before.before.before.before.before.before.before.args.at _ _ c.before.before.before.before.before.before.before.before.before.before.before.before.args.room.now _ c.before.before.before.before.before.before.before.before.before.before.before.before.requires.1 c.before.before.before.before.before.before.before.before.before.loop.invariant.1 c.before.before.before.before.before.before.before.before.loop-test.true c.before.before.before.before.before.before.before.dword-at.ensures.0 c.before.before.before.before.fold.ensures c.enum_told.given.1
 
 fold-list-enum-known-end : (t : ℕ) → fold-list-lts.Need-enum-known-end (fold-list-calls t) (fold-list-at t) fold-list.Post fold-list-Inv-loop fold-list-μ-loop
 fold-list-enum-known-end t c = search rules
 
 fold-list-loop-less : (t : ℕ) → fold-list-lts.Need-loop-smaller (fold-list-calls t) (fold-list-at t) fold-list.Post fold-list-Inv-loop fold-list-μ-loop
-fold-list-loop-less t c = let q = item.item-ends c.before.before.before.before.before.before.before.before.before.before.before.before.before.args.s.now c.before.before.before.before.before.before.before.before.before.before.before.before.before.args.at _ _ c.before.before.before.before.before.before.before.before.before.before.before.before.before.args.room.now _ c.before.before.before.before.before.before.before.before.before.before.before.before.before.requires.1 c.before.before.before.before.before.before.before.before.before.before.loop.invariant.1 _ c.before.before.before.before.before.before.before.before.before.loop-test.true c.before.before.before.before.before.before.before.before.dword-at.ensures.0 in omega (arith, q.1, q.2)
+fold-list-loop-less t c = let q = item.item_ends c.before.before.before.before.before.before.before.before.before.before.before.before.before.args.s.now c.before.before.before.before.before.before.before.before.before.before.before.before.before.args.at _ _ c.before.before.before.before.before.before.before.before.before.before.before.before.before.args.room.now _ c.before.before.before.before.before.before.before.before.before.before.before.before.before.requires.1 c.before.before.before.before.before.before.before.before.before.before.loop.invariant.1 _ c.before.before.before.before.before.before.before.before.before.loop-test.true c.before.before.before.before.before.before.before.before.dword-at.ensures.0 in omega (arith, q.1, q.2)
 
 fold-list-loop-again : (t : ℕ) → fold-list-lts.Need-loop-preserved (fold-list-calls t) (fold-list-at t) fold-list.Post fold-list-Inv-loop fold-list-μ-loop
-fold-list-loop-again t c = (c.before.before.before.before.before.fold.auto.1.0 ∙ c.before.before.before.before.before.before.before.before.before.before.loop.invariant.0, item.item-next c.before.before.before.before.before.before.before.before.before.before.before.before.before.args.s.now c.before.before.before.before.before.before.before.before.before.before.before.before.before.args.at _ _ c.before.before.before.before.before.before.before.before.before.before.before.before.before.args.room.now _ c.before.before.before.before.before.before.before.before.before.before.before.before.before.requires.1 c.before.before.before.before.before.before.before.before.before.before.loop.invariant.1 c.before.before.before.before.before.before.before.before.before.loop-test.true c.before.before.before.before.before.before.before.before.dword-at.ensures.0 c.before.before.before.before.before.fold.ensures c.before.end.given.1)
+fold-list-loop-again t c = (c.before.before.before.before.before.fold.auto.1.0 ∙ c.before.before.before.before.before.before.before.before.before.before.loop.invariant.0, item.item_next c.before.before.before.before.before.before.before.before.before.before.before.before.before.args.s.now c.before.before.before.before.before.before.before.before.before.before.before.before.before.args.at _ _ c.before.before.before.before.before.before.before.before.before.before.before.before.before.args.room.now _ c.before.before.before.before.before.before.before.before.before.before.before.before.before.requires.1 c.before.before.before.before.before.before.before.before.before.before.loop.invariant.1 c.before.before.before.before.before.before.before.before.before.loop-test.true c.before.before.before.before.before.before.before.before.dword-at.ensures.0 c.before.before.before.before.before.fold.ensures c.before.end.given.1)
 
 fold-list-same-length-2 : (t : ℕ) → fold-list-lts.Need-same-length-2 (fold-list-calls t) (fold-list-at t) fold-list.Post fold-list-Inv-loop fold-list-μ-loop
 fold-list-same-length-2 t c = search rules
 
 fold-list-returns-2 : (t : ℕ) → fold-list-lts.Need-returns-2 (fold-list-calls t) (fold-list-at t) fold-list.Post fold-list-Inv-loop fold-list-μ-loop
-fold-list-returns-2 t c = item.list-ends c.before.before.before.before.args.s.now c.before.before.before.before.args.at _ _ c.before.before.before.before.args.room.now _ c.before.before.before.before.requires.1 c.before.loop.invariant.1 (omega arith)
+fold-list-returns-2 t c = item.list_ends c.before.before.before.before.args.s.now c.before.before.before.before.args.at _ _ c.before.before.before.before.args.room.now _ c.before.before.before.before.requires.1 c.before.loop.invariant.1 (omega arith)
 
 fold-monadic-chain-requires : (t : ℕ) → fold-monadic-lts.Need-chain-requires (fold-monadic-calls t) (fold-monadic-at t) fold-monadic.Post
 fold-monadic-chain-requires t c κs = c.before.before.requires.1.0.of
@@ -416,7 +416,7 @@ fold-monadic-enum-known-n : (t : ℕ) → fold-monadic-lts.Need-enum-known-n (fo
 fold-monadic-enum-known-n t c = search rules
 
 fold-monadic-sub-put-str : (t : ℕ) → fold-monadic-lts.Need-overflow-sub-put-str (fold-monadic-calls t) (fold-monadic-at t) fold-monadic.Post
-fold-monadic-sub-put-str t c = let q = step.text-room c.before.before.before.before.before.before.args.s.now c.before.before.before.before.before.before.args.at _ _ c.before.before.before.before.before.before.args.room.now c.before.before.before.before.before.before.requires.1.0 c.before.before.before.before.before.before.requires.1.1 c.before.before.before.chain.ensures c.before.n.given.1 in omega (arith, q.0)
+fold-monadic-sub-put-str t c = let q = step.text_room c.before.before.before.before.before.before.args.s.now c.before.before.before.before.before.before.args.at _ _ c.before.before.before.before.before.before.args.room.now c.before.before.before.before.before.before.requires.1.0 c.before.before.before.before.before.before.requires.1.1 c.before.before.before.chain.ensures c.before.n.given.1 in omega (arith, q.0)
 
 fold-monadic-sub-put-str-2 : (t : ℕ) → fold-monadic-lts.Need-overflow-sub-put-str-2 (fold-monadic-calls t) (fold-monadic-at t) fold-monadic.Post
 fold-monadic-sub-put-str-2 t c = omega arith
@@ -428,7 +428,7 @@ fold-monadic-part-put-str-end : (t : ℕ) → fold-monadic-lts.Need-slice-bounds
 fold-monadic-part-put-str-end t c = omega arith
 
 fold-monadic-put-str-requires : (t : ℕ) → fold-monadic-lts.Need-put-str-requires (fold-monadic-calls t) (fold-monadic-at t) fold-monadic.Post
-fold-monadic-put-str-requires t c κs = let q = step.text-room c.before.before.before.before.before.before.before.before.args.s.now c.before.before.before.before.before.before.before.before.args.at _ _ c.before.before.before.before.before.before.before.before.args.room.now c.before.before.before.before.before.before.before.before.requires.1.0 c.before.before.before.before.before.before.before.before.requires.1.1 c.before.before.before.before.before.chain.ensures c.before.before.before.n.given.1 in (q.1, q.2, c.before.before.before.before.before.before.before.before.requires.1.0.small)
+fold-monadic-put-str-requires t c κs = let q = step.text_room c.before.before.before.before.before.before.before.before.args.s.now c.before.before.before.before.before.before.before.before.args.at _ _ c.before.before.before.before.before.before.before.before.args.room.now c.before.before.before.before.before.before.before.before.requires.1.0 c.before.before.before.before.before.before.before.before.requires.1.1 c.before.before.before.before.before.chain.ensures c.before.before.before.n.given.1 in (q.1, q.2, c.before.before.before.before.before.before.before.before.requires.1.0.small)
 
 fold-monadic-enum-told : (t : ℕ) → fold-monadic-lts.Need-enum-told (fold-monadic-calls t) (fold-monadic-at t) fold-monadic.Post
 fold-monadic-enum-told t c = search rules
@@ -455,13 +455,13 @@ fold-monadic-same-length : (t : ℕ) → fold-monadic-lts.Need-same-length (fold
 fold-monadic-same-length t c = search rules
 
 fold-monadic-returns : (t : ℕ) → fold-monadic-lts.Need-returns (fold-monadic-calls t) (fold-monadic-at t) fold-monadic.Post
-fold-monadic-returns t c = step.text-way c.before.before.before.before.before.before.before.before.before.before.before.args.s.now c.before.before.before.before.before.before.before.before.before.before.before.args.at _ _ c.before.before.before.before.before.before.before.before.before.before.before.requires.1.0 c.before.before.before.before.before.before.before.before.before.before.before.requires.1.1 c.before.before.before.before.before.before.before.before.chain.ensures c.before.before.before.before.before.before.n.given.1 c.before.before.put-str.ensures
+fold-monadic-returns t c = step.text_way c.before.before.before.before.before.before.before.before.before.before.before.args.s.now c.before.before.before.before.before.before.before.before.before.before.before.args.at _ _ c.before.before.before.before.before.before.before.before.before.before.before.requires.1.0 c.before.before.before.before.before.before.before.before.before.before.before.requires.1.1 c.before.before.before.before.before.before.before.before.chain.ensures c.before.before.before.before.before.before.n.given.1 c.before.before.put-str.ensures
 
 fold-monadic-same-length-2 : (t : ℕ) → fold-monadic-lts.Need-same-length-2 (fold-monadic-calls t) (fold-monadic-at t) fold-monadic.Post
 fold-monadic-same-length-2 t c = search rules
 
 fold-monadic-returns-2 : (t : ℕ) → fold-monadic-lts.Need-returns-2 (fold-monadic-calls t) (fold-monadic-at t) fold-monadic.Post
-fold-monadic-returns-2 t c = step.twin-way c.before.before.before.before.before.before.before.before.before.before.args.s.now c.before.before.before.before.before.before.before.before.before.before.args.at c.before.before.before.before.before.before.before.before.before.before.requires.1.1 c.before.before.before.before.before.before.before.chain.ensures c.before.before.before.before.before.enum_told.given.1 c.before.before.fold.ensures
+fold-monadic-returns-2 t c = step.twin_way c.before.before.before.before.before.before.before.before.before.before.args.s.now c.before.before.before.before.before.before.before.before.before.before.args.at c.before.before.before.before.before.before.before.before.before.before.requires.1.1 c.before.before.before.before.before.before.before.chain.ensures c.before.before.before.before.before.enum_told.given.1 c.before.before.fold.ensures
 
 fold-monadic-same-length-3 : (t : ℕ) → fold-monadic-lts.Need-same-length-3 (fold-monadic-calls t) (fold-monadic-at t) fold-monadic.Post
 fold-monadic-same-length-3 t c = search rules
@@ -485,7 +485,7 @@ fold-operand-add-fold : (t : ℕ) → fold-operand-lts.Need-overflow-add-fold (f
 fold-operand-add-fold t c = omega (arith, c.before.before.before.before.before.requires.1.0.fits, c.before.before.before.before.before.requires.1.0.small)
 
 fold-operand-fold-requires : (t : ℕ) → fold-operand-lts.Need-fold-requires (fold-operand-calls t) (fold-operand-at t) fold-operand.Post
-fold-operand-fold-requires t c κs = (let h = below_length c.before.before.before.before.before.args.s.now c.before.before.before.before.before.requires.1.0.of c.before.before.before.before.before.requires.1.1 in let m = c.before.before.before.before.before.requires.0 in let k = part_length c.before.before.before.before.before.args.s.now 8 (length c.before.before.before.before.before.args.s.now) (omega arith) (omega arith) in omega arith, step.operand-placed c.before.before.before.before.before.args.s.now c.before.before.before.before.before.args.at c.before.before.before.before.before.args.room.now c.before.before.before.before.before.requires.1.0 c.before.before.before.before.before.requires.1.1)
+fold-operand-fold-requires t c κs = (let h = below_length c.before.before.before.before.before.args.s.now c.before.before.before.before.before.requires.1.0.of c.before.before.before.before.before.requires.1.1 in let m = c.before.before.before.before.before.requires.0 in let k = part_length c.before.before.before.before.before.args.s.now 8 (length c.before.before.before.before.before.args.s.now) (omega arith) (omega arith) in omega arith, step.operand_placed c.before.before.before.before.before.args.s.now c.before.before.before.before.before.args.at c.before.before.before.before.before.args.room.now c.before.before.before.before.before.requires.1.0 c.before.before.before.before.before.requires.1.1)
 
 fold-operand-enum-told : (t : ℕ) → fold-operand-lts.Need-enum-told (fold-operand-calls t) (fold-operand-at t) fold-operand.Post
 fold-operand-enum-told t c = search rules
@@ -497,34 +497,34 @@ fold-operand-turn-of-requires : (t : ℕ) → fold-operand-lts.Need-turn-of-requ
 fold-operand-turn-of-requires t c κs = search rules
 
 fold-operand-put-turn-requires : (t : ℕ) → fold-operand-lts.Need-put-turn-requires (fold-operand-calls t) (fold-operand-at t) fold-operand.Post
-fold-operand-put-turn-requires t c κs = step.operand-room c.before.before.before.before.before.before.before.before.before.before.before.before.before.args.s.now c.before.before.before.before.before.before.before.before.before.before.before.before.before.args.at _ _ c.before.before.before.before.before.before.before.before.before.before.before.before.before.requires.1.0 c.before.before.before.before.before.before.before.before.before.before.before.before.before.requires.1.1 c.before.before.before.before.before.before.before.fold.ensures c.before.before.before.end.given.1 c.before.turn-of.ensures
+fold-operand-put-turn-requires t c κs = step.operand_room c.before.before.before.before.before.before.before.before.before.before.before.before.before.args.s.now c.before.before.before.before.before.before.before.before.before.before.before.before.before.args.at _ _ c.before.before.before.before.before.before.before.before.before.before.before.before.before.requires.1.0 c.before.before.before.before.before.before.before.before.before.before.before.before.before.requires.1.1 c.before.before.before.before.before.before.before.fold.ensures c.before.before.before.end.given.1 c.before.turn-of.ensures
 
 fold-operand-same-length : (t : ℕ) → fold-operand-lts.Need-same-length (fold-operand-calls t) (fold-operand-at t) fold-operand.Post
 fold-operand-same-length t c = search rules
 
 fold-operand-returns : (t : ℕ) → fold-operand-lts.Need-returns (fold-operand-calls t) (fold-operand-at t) fold-operand.Post
-fold-operand-returns t c = step.operand-fails-any c.before.before.before.before.before.before.before.before.before.before.args.s.now c.before.before.before.before.before.before.before.before.before.before.args.at c.before.before.before.before.fold.ensures c.enum_told.given.1
+fold-operand-returns t c = step.operand_fails_any c.before.before.before.before.before.before.before.before.before.before.args.s.now c.before.before.before.before.before.before.before.before.before.before.args.at c.before.before.before.before.fold.ensures c.enum_told.given.1
 
 fold-operand-same-length-2 : (t : ℕ) → fold-operand-lts.Need-same-length-2 (fold-operand-calls t) (fold-operand-at t) fold-operand.Post
 fold-operand-same-length-2 t c = search rules
 
 fold-operand-returns-2 : (t : ℕ) → fold-operand-lts.Need-returns-2 (fold-operand-calls t) (fold-operand-at t) fold-operand.Post
-fold-operand-returns-2 t c = step.operand-turns c.before.before.before.before.before.before.before.before.before.before.before.before.before.before.before.before.args.s.now c.before.before.before.before.before.before.before.before.before.before.before.before.before.before.before.before.args.at _ c.before.before.before.before.before.before.before.before.before.before.fold.ensures c.before.before.before.before.before.before.end.given.1 c.before.before.before.before.before.before.before.before.before.before.before.before.before.word_at.ensures.0 c.before.before.before.before.turn-of.ensures c.before.before.put-turn.ensures
+fold-operand-returns-2 t c = step.operand_turns c.before.before.before.before.before.before.before.before.before.before.before.before.before.before.before.before.args.s.now c.before.before.before.before.before.before.before.before.before.before.before.before.before.before.before.before.args.at _ c.before.before.before.before.before.before.before.before.before.before.fold.ensures c.before.before.before.before.before.before.end.given.1 c.before.before.before.before.before.before.before.before.before.before.before.before.before.word_at.ensures.0 c.before.before.before.before.turn-of.ensures c.before.before.put-turn.ensures
 
 fold-second-word-at-requires : (t : ℕ) → fold-second-lts.Need-word-at-requires (fold-second-calls t) (fold-second-at t) fold-second.Post
 fold-second-word-at-requires t c κs = search rules
 
 fold-second-sub-fold : (t : ℕ) → fold-second-lts.Need-overflow-sub-fold (fold-second-calls t) (fold-second-at t) fold-second.Post
-fold-second-sub-fold t c = let q = step.second-start c.before.before.before.args.s.now c.before.before.before.args.m c.before.before.before.args.at c.before.before.before.args.from c.before.before.before.args.room.now c.before.before.before.requires.1 in omega (arith, q.1)
+fold-second-sub-fold t c = let q = step.second_start c.before.before.before.args.s.now c.before.before.before.args.m c.before.before.before.args.at c.before.before.before.args.from c.before.before.before.args.room.now c.before.before.before.requires.1 in omega (arith, q.1)
 
 fold-second-part-fold-start : (t : ℕ) → fold-second-lts.Need-slice-bounds-fold-start (fold-second-calls t) (fold-second-at t) fold-second.Post
-fold-second-part-fold-start t c = let q = step.second-start c.before.before.before.args.s.now c.before.before.before.args.m c.before.before.before.args.at c.before.before.before.args.from c.before.before.before.args.room.now c.before.before.before.requires.1 in omega (arith, q.1)
+fold-second-part-fold-start t c = let q = step.second_start c.before.before.before.args.s.now c.before.before.before.args.m c.before.before.before.args.at c.before.before.before.args.from c.before.before.before.args.room.now c.before.before.before.requires.1 in omega (arith, q.1)
 
 fold-second-part-fold-end : (t : ℕ) → fold-second-lts.Need-slice-bounds-fold-end (fold-second-calls t) (fold-second-at t) fold-second.Post
 fold-second-part-fold-end t c = omega arith
 
 fold-second-fold-requires : (t : ℕ) → fold-second-lts.Need-fold-requires (fold-second-calls t) (fold-second-at t) fold-second.Post
-fold-second-fold-requires t c κs = (let q = step.second-start c.before.before.before.before.before.args.s.now c.before.before.before.before.before.args.m c.before.before.before.before.before.args.at c.before.before.before.before.before.args.from c.before.before.before.before.before.args.room.now c.before.before.before.before.before.requires.1 in let m = c.before.before.before.before.before.requires.0 in let h = part_length c.before.before.before.before.before.args.s.now c.before.before.before.before.before.args.m (length c.before.before.before.before.before.args.s.now) (omega (arith, q.1)) (omega arith) in omega (arith, q.0, q.1), step.second-placed c.before.before.before.before.before.args.s.now c.before.before.before.before.before.args.m c.before.before.before.before.before.args.at c.before.before.before.before.before.args.from c.before.before.before.before.before.args.room.now c.before.before.before.before.before.requires.1)
+fold-second-fold-requires t c κs = (let q = step.second_start c.before.before.before.before.before.args.s.now c.before.before.before.before.before.args.m c.before.before.before.before.before.args.at c.before.before.before.before.before.args.from c.before.before.before.before.before.args.room.now c.before.before.before.before.before.requires.1 in let m = c.before.before.before.before.before.requires.0 in let h = part_length c.before.before.before.before.before.args.s.now c.before.before.before.before.before.args.m (length c.before.before.before.before.before.args.s.now) (omega (arith, q.1)) (omega arith) in omega (arith, q.0, q.1), step.second-placed c.before.before.before.before.before.args.s.now c.before.before.before.before.before.args.m c.before.before.before.before.before.args.at c.before.before.before.before.before.args.from c.before.before.before.before.before.args.room.now c.before.before.before.before.before.requires.1)
 
 fold-second-enum-told : (t : ℕ) → fold-second-lts.Need-enum-told (fold-second-calls t) (fold-second-at t) fold-second.Post
 fold-second-enum-told t c = search rules
@@ -542,7 +542,7 @@ fold-second-same-length : (t : ℕ) → fold-second-lts.Need-same-length (fold-s
 fold-second-same-length t c = search rules
 
 fold-second-returns : (t : ℕ) → fold-second-lts.Need-returns (fold-second-calls t) (fold-second-at t) fold-second.Post
-fold-second-returns t c = step.second-refused c.before.before.before.before.before.before.before.before.before.before.args.s.now c.before.before.before.before.before.before.before.before.before.before.args.m c.before.before.before.before.before.before.before.before.before.before.args.sort c.before.before.before.before.before.before.before.before.before.before.args.key c.before.before.before.before.before.before.before.before.before.before.args.at c.before.before.before.before.before.before.before.before.before.before.args.from c.before.before.before.before.fold.ensures c.enum_told.given.1
+fold-second-returns t c = step.second_refused c.before.before.before.before.before.before.before.before.before.before.args.s.now c.before.before.before.before.before.before.before.before.before.before.args.m c.before.before.before.before.before.before.before.before.before.before.args.sort c.before.before.before.before.before.before.before.before.before.before.args.key c.before.before.before.before.before.before.before.before.before.before.args.at c.before.before.before.before.before.before.before.before.before.before.args.from c.before.before.before.before.fold.ensures c.enum_told.given.1
 
 fold-second-same-length-2 : (t : ℕ) → fold-second-lts.Need-same-length-2 (fold-second-calls t) (fold-second-at t) fold-second.Post
 fold-second-same-length-2 t c = search rules
