@@ -236,6 +236,7 @@ pub fn op_number(op: Op) -> usize
 }
 
 // The operator at a place of the enum.
+#[tactic(auto, using(crate::proofs::Laws::past_all), unfolding(crate::specs::Op::op_at))]
 pub fn op_of(n: usize) -> Named
     ensures { result ≡ op_of n }
 {

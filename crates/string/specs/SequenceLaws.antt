@@ -66,7 +66,7 @@ module _ (s : List ℕ) (i : ℕ) (h : i < length s) where
   pub later_fails : (r : Range) (d : List Range) → within r (get_or s i 0) ≡ true → (j : ℕ) → j ≡ i + 1 → Fails s j d → Fails s i (r ∷ d)
   unfolding goes_on
   later_fails r d e j q f zero = refl
-  later_fails r d e j q f (suc m) = rw (at_place, e, ← q) (f m)
+  later_fails r d e j q f (suc m) = rw (at_place, e) (subst (λ (k : ℕ). goes_on d (take m (drop k s)) ≡ false) q (f m))
 
   -- a byte that is due is no apostrophe
   pub due_open : (r : Range) → within r (get_or s i 0) ≡ true → apostrophe < r.0 → Open s i 1

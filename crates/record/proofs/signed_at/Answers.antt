@@ -9,4 +9,4 @@ use Rattle.record.specs.Record.{signed}
 use Rattle.record.proofs.signed_at.Goals as goal
 
 pub returns : goal.returns
-returns c = to_z-of_z (subst (λ (z : ℤ). SFits w64 z) (sym c.Signed-of.ensures) (laws.signed-fits _ c.qword_at.ensures.1)) ∙ c.Signed-of.ensures ∙ ap signed c.qword_at.ensures.0
+returns c = to_z-of_z (subst (λ (z : ℤ). SFits w64 z) (sym c.signed_of.ensures) (laws.signed-fits _ c.qword_at.ensures.1)) ∙ c.signed_of.ensures ∙ ap signed c.qword_at.ensures.0

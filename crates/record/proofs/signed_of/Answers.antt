@@ -5,10 +5,10 @@ use Rattle.record.proofs.Laws as laws
 use Rattle.record.proofs.signed_of.Goals as goal
 
 pub overflow_sub-result-else-n-lt9223372036854775808 : goal.overflow_sub-result-else-n-lt9223372036854775808
-overflow_sub-result-else-n-lt9223372036854775808 c = laws.signed_neg-fits _ c.if-n-lt9223372036854775808.false c.ranges.n.fits
+overflow_sub-result-else-n-lt9223372036854775808 c = laws.signed_neg_fits _ c.if-n-lt9223372036854775808.false c.ranges.n.fits
 
 pub returns-then-n-lt9223372036854775808 : goal.returns-then-n-lt9223372036854775808
 returns-then-n-lt9223372036854775808 c = laws.signed_pos _ c.if-n-lt9223372036854775808.true
 
 pub returns-else-n-lt9223372036854775808 : goal.returns-else-n-lt9223372036854775808
-returns-else-n-lt9223372036854775808 c = to_z-of_z (laws.signed_neg-fits _ c.if-n-lt9223372036854775808.false c.ranges.n.fits) ∙ laws.signed_neg _ c.if-n-lt9223372036854775808.false c.ranges.n.fits
+returns-else-n-lt9223372036854775808 c = to_z-of_z (laws.signed_neg_fits _ c.if-n-lt9223372036854775808.false c.ranges.n.fits) ∙ laws.signed_neg _ c.if-n-lt9223372036854775808.false c.ranges.n.fits

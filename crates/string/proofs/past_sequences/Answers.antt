@@ -21,31 +21,31 @@ pub is_doubled-requires : goal.is_doubled-requires
 is_doubled-requires c = c.loop-i-test.true
 
 pub returns-then-not-is_doubled : goal.returns-then-not-is_doubled
-returns-then-not-is_doubled c = closed_told c.loop-i.invariant (marks_quoted _ _ (sym c.is_simple.ensures ∙ c.if-is_simple.false) c.if-b-eq39.true) c.loop-i-test.true c.if-b-eq39.true (eqb-false _ _ (sym c.is_doubled.ensures ∙ not-true _ c.if-not-is_doubled.true))
+returns-then-not-is_doubled c = closed_told c.loop-i.invariant (marks_quoted _ _ (sym c.is_simple.ensures ∙ c.if-is_simple.false) c.if-b-eq39.true) c.loop-i-test.true c.if-b-eq39.true (eqb-false _ _ (sym c.is_doubled.ensures ∙ c.if-not-is_doubled.true))
 
 pub overflow_add-i-then-b-eq39 : goal.overflow_add-i-then-b-eq39
-overflow_add-i-then-b-eq39 c = let e : eqb (get_or c.args.s.now (c.loop-i.i + 1) 0) apostrophe ≡ true = sym c.is_doubled.ensures ∙ not-false _ c.if-not-is_doubled.false in let p = mark_inside c.args.s.now (c.loop-i.i + 1) e in omega (arith, p)
+overflow_add-i-then-b-eq39 c = let e : eqb (get_or c.args.s.now (c.loop-i.i + 1) 0) apostrophe ≡ true = sym c.is_doubled.ensures ∙ c.if-not-is_doubled.false in let p = mark_inside c.args.s.now (c.loop-i.i + 1) e in omega (arith, p)
 
 pub loop-i-smaller-then-b-eq39 : goal.loop-i-smaller-then-b-eq39
-loop-i-smaller-then-b-eq39 c = let e : eqb (get_or c.args.s.now (c.loop-i.i + 1) 0) apostrophe ≡ true = sym c.is_doubled.ensures ∙ not-false _ c.if-not-is_doubled.false in let p = mark_inside c.args.s.now (c.loop-i.i + 1) e in omega (arith, p)
+loop-i-smaller-then-b-eq39 c = let e : eqb (get_or c.args.s.now (c.loop-i.i + 1) 0) apostrophe ≡ true = sym c.is_doubled.ensures ∙ c.if-not-is_doubled.false in let p = mark_inside c.args.s.now (c.loop-i.i + 1) e in omega (arith, p)
 
 pub loop-i-preserved-then-b-eq39 : goal.loop-i-preserved-then-b-eq39
-loop-i-preserved-then-b-eq39 c = let e : eqb (get_or c.args.s.now (c.loop-i.i + 1) 0) apostrophe ≡ true = sym c.is_doubled.ensures ∙ not-false _ c.if-not-is_doubled.false in let p = mark_inside c.args.s.now (c.loop-i.i + 1) e in let q = pair_passes c.args.s.now c.loop-i.i p c.if-b-eq39.true (eqb-true _ _ e) in reaches_then c.loop-i.invariant q.0 (λ z. q.1)
+loop-i-preserved-then-b-eq39 c = let e : eqb (get_or c.args.s.now (c.loop-i.i + 1) 0) apostrophe ≡ true = sym c.is_doubled.ensures ∙ c.if-not-is_doubled.false in let p = mark_inside c.args.s.now (c.loop-i.i + 1) e in let q = pair_passes c.args.s.now c.loop-i.i p c.if-b-eq39.true (eqb-true _ _ e) in reaches_then c.loop-i.invariant q.0 (λ z. q.1)
 
 pub sequence_at-n-requires : goal.sequence_at-n-requires
 sequence_at-n-requires c = (c.loop-i-test.true, other_bytes _ c.args.quoted (sym c.is_simple.ensures ∙ c.if-is_simple.false) c.if-b-eq39.false)
 
 pub returns-then-n-eq0 : goal.returns-then-n-eq0
-returns-then-n-eq0 c = bad_told c.loop-i.invariant (heads_none _ _ c.sequence_at-n.ensures c.if-n-eq0.true) c.loop-i-test.true (other_bytes _ c.args.quoted (sym c.is_simple.ensures ∙ c.if-is_simple.false) c.if-b-eq39.false)
+returns-then-n-eq0 c = bad_told c.loop-i.invariant (heads_none c.args.s.now c.loop-i.i c.sequence_at-n.ensures c.if-n-eq0.true) c.loop-i-test.true (other_bytes _ c.args.quoted (sym c.is_simple.ensures ∙ c.if-is_simple.false) c.if-b-eq39.false)
 
 pub overflow_add-i-else-b-eq39 : goal.overflow_add-i-else-b-eq39
-overflow_add-i-else-b-eq39 c = let h = heads_some _ _ _ c.sequence_at-n.ensures c.if-n-eq0.false in omega (arith, h.0.inside)
+overflow_add-i-else-b-eq39 c = let h = heads_some c.args.s.now c.loop-i.i _ c.sequence_at-n.ensures c.if-n-eq0.false in omega (arith, h.0.inside)
 
 pub loop-i-smaller : goal.loop-i-smaller
-loop-i-smaller c = let h = heads_some _ _ _ c.sequence_at-n.ensures c.if-n-eq0.false in omega (arith, h.0.inside)
+loop-i-smaller c = let h = heads_some c.args.s.now c.loop-i.i _ c.sequence_at-n.ensures c.if-n-eq0.false in omega (arith, h.0.inside)
 
 pub loop-i-preserved : goal.loop-i-preserved
-loop-i-preserved c = let h = heads_some _ _ _ c.sequence_at-n.ensures c.if-n-eq0.false in reaches_then c.loop-i.invariant h.0 (λ q. h.1)
+loop-i-preserved c = let h = heads_some c.args.s.now c.loop-i.i _ c.sequence_at-n.ensures c.if-n-eq0.false in reaches_then c.loop-i.invariant h.0 (λ q. h.1)
 
 pub returns-then-quoted : goal.returns-then-quoted
 returns-then-quoted c = end-told c.loop-i.invariant c.if-quoted.true c.loop-i-test.false

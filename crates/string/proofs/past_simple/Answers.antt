@@ -12,7 +12,7 @@ pub returns-then-not-is_simple : goal.returns-then-not-is_simple
 returns-then-not-is_simple c = c.loop-i.invariant
 
 pub loop-i-preserved : goal.loop-i-preserved
-loop-i-preserved c = let p = simple_passes _ _ c.loop-i-test.true _ (sym c.is_simple.ensures ∙ not-false _ c.if-not-is_simple.false) in reaches_then c.loop-i.invariant p.0 p.1
+loop-i-preserved c = let p = simple_passes _ _ c.loop-i-test.true _ (sym c.is_simple.ensures ∙ c.if-not-is_simple.false) in reaches_then c.loop-i.invariant p.0 p.1
 
 pub returns : goal.returns
 returns c = c.loop-i.invariant

@@ -9,4 +9,4 @@ pub returns-then-i-s : goal.returns-then-i-s
 returns-then-i-s c = sym (end-quoted c.past_simple-i.ensures refl (omega arith))
 
 pub returns-then-not-is_doubled : goal.returns-then-not-is_doubled
-returns-then-not-is_doubled c = sym (closed_quoted c.past_simple-i.ensures refl (omega arith) c.if-s-i-eq39.true (eqb-false _ _ (sym c.is_doubled.ensures ∙ not-true _ c.if-not-is_doubled.true)))
+returns-then-not-is_doubled c = sym (closed_quoted c.past_simple-i.ensures refl (omega arith) c.if-s-i-eq39.true (eqb-false _ _ (sym c.is_doubled.ensures ∙ c.if-not-is_doubled.true)))

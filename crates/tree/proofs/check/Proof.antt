@@ -23,7 +23,7 @@ returns : tie.Need-returns
 returns c =
     heard_too _
     (c.check-tree.ensures.0
-    ∙ sym (walk.accepted-by_tree _ c.before.before.before.before.before.args.settings.now _ (sym c.before.before.is-settings.ensures ∙ c.before.if1.true)))
+    ∙ sym (walk.accepted_by_tree _ c.before.before.before.before.before.args.settings.now _ (sym c.before.before.is-settings.ensures ∙ c.before.if1.true)))
 
 returns-2 : tie.Need-returns-2
 returns-2 c = heard_too _ (sym (walk.accepted-settings _ c.before.before.before.before.args.settings.now _ (sym c.before.is-settings.ensures ∙ c.if1.false)))
