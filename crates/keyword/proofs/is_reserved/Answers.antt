@@ -1,0 +1,20 @@
+-- `keyword::is_reserved` meets its contract: a word that is too short, too long, or unlike every word of its first letter is no reserved one.
+use mathlib.Core.Path.{refl, sym}
+use lib.Dec.{ltb}
+use borrow.Author.Tests.{lt-ltb}
+use Rattle.prelude.specs.Choice.{some}
+use Rattle.keyword.specs.Keywords.{keyword_texts, keywords}
+use Rattle.keyword.specs.Reserved.{reserved_words}
+use Rattle.keyword.proofs.TableLaws.{other_length}
+use Rattle.keyword.proofs.is_reserved.Goals as goal
+
+pub returns-then-s-lt2 : goal.returns-then-s-lt2
+unfolding some reserved_words keywords keyword_texts
+returns-then-s-lt2 c = sym (other_length (λ n. ltb n 2) refl _ (lt-ltb _ 2 c.if-s-lt2.true))
+
+pub returns-then-s-gt-LONGEST : goal.returns-then-s-gt-LONGEST
+unfolding some reserved_words keywords keyword_texts
+returns-then-s-gt-LONGEST c = sym (other_length (λ n. ltb 17 n) refl _ (lt-ltb 17 _ c.if-s-gt-LONGEST.true))
+
+pub returns : goal.returns
+returns c = sym (c.may_be_reserved.ensures c.if-may_be_reserved.false)

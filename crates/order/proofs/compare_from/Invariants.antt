@@ -1,0 +1,11 @@
+-- `order::compare_from` meets its contract: the loop keeps that the values from i and j on compare as the whole values do.
+use Prim.Native.Nat.{◌-◌}
+use lib.ListN.{length}
+use Rattle.order.specs.ValueWords.{Alike}
+use Rattle.order.proofs.compare_from.Given as goal
+
+abbrev pub invariant-loop-i : goal.invariant-loop-i
+invariant-loop-i l = Alike l.a_written l.b_written l.a l.b l.i l.j
+
+abbrev pub decreases-loop-i : goal.decreases-loop-i
+decreases-loop-i l = length l.a - l.i
