@@ -23,7 +23,7 @@ pub after-j-requires : goal.after-j-requires
 after-j-requires c = let x = c.loop-i.invariant in omega (arith, x.right)
 
 pub loop-i-smaller : goal.loop-i-smaller
-loop-i-smaller c = let n = next_onward c.args.a-written c.args.a.now c.loop-i.i in omega (arith, n, c.after-i.ensures)
+loop-i-smaller c = let n = next_onward c.args.a_written c.args.a.now c.loop-i.i in omega (arith, n, c.after-i.ensures)
 
 pub loop-i-preserved : goal.loop-i-preserved
 loop-i-preserved c = let x = c.loop-i.invariant in alike_next x (omega arith) (omega (arith, x.right)) (omega arith) c.after-i.ensures c.after-j.ensures

@@ -1,4 +1,5 @@
 -- `order::unequal` meets its contract: of two bytes that differ one is smaller.
+use mathlib.Core.List.{[]}
 use mathlib.Core.Path.{sym}
 use native.Mathlib.Omega.{arith}
 use Rattle.order.specs.OrderLaws.{less, more}

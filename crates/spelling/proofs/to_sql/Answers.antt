@@ -18,14 +18,14 @@ somewhere table n from to h e f q = simp (le-ltb 52 n h, sym e, sym f, lt-leb to
 
 pub returns-then-n-gt-IS_NOT_NULL : goal.returns-then-n-gt-IS_NOT_NULL
 unfolding place_in Lies
-returns-then-n-gt-IS_NOT_NULL c = (simp (lt-ltb 52 c.args.n c.if-n-gt-IS_NOT_NULL.true), tt)
+returns-then-n-gt-IS_NOT_NULL c = record { says = simp (lt-ltb 52 c.args.n c.if-n-gt-IS_NOT_NULL.true); lies = tt }
 
 pub returns-then-to-from : goal.returns-then-to-from
 unfolding Lies
 returns-then-to-from c =
-    (nowhere c.args.table.now _ _ _ c.if-n-gt-IS_NOT_NULL.false c.wide-from.ensures.0 c.wide-to.ensures.0 c.if-to-from.true, tt)
+    record { says = nowhere c.args.table.now _ _ _ c.if-n-gt-IS_NOT_NULL.false c.wide-from.ensures.0 c.wide-to.ensures.0 c.if-to-from.true; lies = tt }
 
 pub returns : goal.returns
 unfolding Lies
 returns c =
-    (somewhere c.args.table.now _ _ _ c.if-n-gt-IS_NOT_NULL.false c.wide-from.ensures.0 c.wide-to.ensures.0 c.if-to-from.false, (c.if-to-from.false, c.wide-to.ensures.1))
+    record { says = somewhere c.args.table.now _ _ _ c.if-n-gt-IS_NOT_NULL.false c.wide-from.ensures.0 c.wide-to.ensures.0 c.if-to-from.false; lies = (c.if-to-from.false, c.wide-to.ensures.1) }

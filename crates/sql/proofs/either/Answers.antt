@@ -45,8 +45,8 @@ pub returns : goal.returns
 unfolding either_text spelt part_of parts
 returns c =
     let i = c.args in
-    let h : length i.t.codes ≡ 24 = search (rules, c.well-formed) in
-    let g : length i.u.codes ≡ 24 = search (rules, c.well-formed) in
+    let h : length i.t.codes ≡ 24 = search (rules, c.well_formed) in
+    let g : length i.u.codes ≡ 24 = search (rules, c.well_formed) in
     let k = length-take-le i.t.len i.t.codes (omega arith) in
     let l = length-take-le i.u.len i.u.codes (omega arith) in
     (then _ c.push-3.ensures.0 (then _ c.push-2.ensures.0 (then _ c.push-x.ensures.0 (then _ c.push.ensures.0 c.sql.ensures.0))) ∙ simp append_assoc, omega (arith, c.push-3.ensures.1, c.push-2.ensures.1, c.push-x.ensures.1, c.push.ensures.1, c.sql.ensures.1))
