@@ -9,7 +9,7 @@ ghost use Rattle.charset.specs.ClassWords.{class_byte};
 const NAME_LIMIT: usize = 64;
 
 // The classes of bytes that runs of a text are made of.
-#[derive(Drop)]
+#[derive(Clone, Copy)]
 pub enum Class {
     Space,
     Name,

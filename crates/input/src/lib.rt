@@ -8,7 +8,7 @@ ghost use Rattle.input.specs.Part.{part_of};
 // How many bytes hold a part's length.
 const LENGTH_SIZE: usize = 4;
 
-#[derive(Drop)]
+#[derive(Clone, Copy)]
 pub enum Part {
     // The input ended before the part began.
     End,

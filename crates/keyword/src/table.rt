@@ -240,7 +240,7 @@ fn has(set: u64, k: usize) -> bool
 }
 
 // What the words that begin with one letter have: the set of their lengths, and that of their marks.
-#[derive(Drop)]
+#[derive(Clone, Copy)]
 struct Family(u64, u64);
 
 // Those of the letter of that number, A being 1.

@@ -16,7 +16,7 @@ const QUOTES: usize = 2;
 const COLLATE: usize = 9;
 
 // How timestamps and an Interval's open second end are written: as the Rust does, or for DATETIME columns as GeoPackage stores them.
-#[derive(Drop)]
+#[derive(Clone, Copy)]
 pub enum Writing {
     Rust,
     GeoPackage,

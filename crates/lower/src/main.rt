@@ -11,7 +11,7 @@ use reduce::Reduced;
 use refusal::Refusal;
 
 // The calls of crate gpkg, and those of crate controller.
-#[derive(Drop)]
+#[derive(Clone, Copy)]
 enum Call {
     Sql,
     GeoPackageSql,
@@ -29,7 +29,7 @@ fn lower(call: Call, settings: &[u8], tree: &[u8], out: &mut [u8]) -> Lowered {
 }
 
 // What is done with a case.
-#[derive(Drop)]
+#[derive(Clone, Copy)]
 struct Way {
     call: Call,
     reduces: bool,

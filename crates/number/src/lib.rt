@@ -83,7 +83,7 @@ fn put_sign(m: i64, out: &mut [u8], at: usize) -> usize
 }
 
 // A number n ÷ 10^s.
-#[derive(Drop)]
+#[derive(Clone, Copy)]
 struct Scaled {
     n: usize,
     s: usize,

@@ -3,7 +3,7 @@ ghost use Rattle.std.specs.Prelude.{◌≡◌};
 ghost use Rattle.op.specs.Op.{op_number, op_of};
 
 // The operators of src/op.rs, in its order.
-#[derive(Drop)]
+#[derive(Clone, Copy)]
 pub enum Op {
     Plus,
     Minus,
@@ -61,7 +61,7 @@ pub enum Op {
 }
 
 // What a number names: an operator, or none where it is above 52.
-#[derive(Drop)]
+#[derive(Clone, Copy)]
 pub enum Named {
     Is(Op),
     NoOp,

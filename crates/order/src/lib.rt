@@ -6,7 +6,7 @@ ghost use Rattle.order.specs.Order.{order, is_equal};
 ghost use Rattle.order.specs.ValueWords.{Alike, next_at};
 
 // How one string stands to another.
-#[derive(Drop)]
+#[derive(Clone, Copy)]
 pub enum Ordering {
     Less,
     Equal,

@@ -16,7 +16,7 @@ use sql::{
 pub const ENDS: u8 = 4;
 
 // A piece that is written without its record.
-#[derive(Drop)]
+#[derive(Clone, Copy)]
 pub enum Flat {
     // The words of a code.
     Words(u8),
@@ -27,7 +27,7 @@ pub enum Flat {
 }
 
 // A piece of a temporal condition's text.
-#[derive(Drop)]
+#[derive(Clone, Copy)]
 pub enum Piece {
     Plain(Flat),
     // The text of the record from a first offset to an end.

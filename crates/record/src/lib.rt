@@ -8,7 +8,7 @@ pub const KIND: usize = 4;
 pub const BODY: usize = 6;
 
 // What stands at the front of some bytes where a record is due.
-#[derive(Drop)]
+#[derive(Clone, Copy)]
 pub enum Frame {
     // Fewer than 6 bytes, a length below 2, or one that passes the end.
     Broken,

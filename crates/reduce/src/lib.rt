@@ -25,7 +25,7 @@ mod walk;
 const SMALL: usize = 1024;
 
 // What a Monadic becomes, its operand being reduced.
-#[derive(Drop)]
+#[derive(Clone, Copy)]
 enum Turn {
     Keep,
     ToNull,
@@ -40,7 +40,7 @@ enum Turn {
 }
 
 // What a Dyadic becomes, its operands being reduced.
-#[derive(Drop)]
+#[derive(Clone, Copy)]
 enum Meet {
     Keeps,
     MeetNull,
@@ -50,14 +50,14 @@ enum Meet {
 }
 
 // What a record became: 14, or where what was written of it ends, its sort, and its place in time.
-#[derive(Drop)]
+#[derive(Clone, Copy)]
 enum Folded {
     Fails,
     Done(usize, usize, usize),
 }
 
 // What stands below a Monadic, looked at before anything is written.
-#[derive(Drop)]
+#[derive(Clone, Copy)]
 enum Chain {
     // Only CaseI and AccentI down to a Str, whose record has so many bytes; and its flags, joined with theirs.
     Text(usize, usize),
@@ -66,7 +66,7 @@ enum Chain {
     Other,
 }
 
-#[derive(Drop)]
+#[derive(Clone, Copy)]
 pub enum Reduced {
     // A tree of this length, at the buffer's front.
     Tree(usize),

@@ -3,7 +3,7 @@ ghost use Rattle.std.specs.Prelude.{◌≡◌};
 ghost use Rattle.refusal.specs.Number.{number_of};
 
 // The refusals of document 01, "What a caller hears", in its order, and that of document 02, slip 8.
-#[derive(Drop)]
+#[derive(Clone, Copy)]
 pub enum Refusal {
     // 1: the settings are not exactly one settings record.
     BadSettings,

@@ -5,7 +5,7 @@ ghost use Rattle.prelude.specs.Choice.{all};
 use input::Part;
 
 // What a case shows.
-#[derive(Drop)]
+#[derive(Clone, Copy)]
 pub(crate) enum Turn {
     // No case is left.
     End,
@@ -16,7 +16,7 @@ pub(crate) enum Turn {
 }
 
 // How much of a case is there.
-#[derive(Drop)]
+#[derive(Clone, Copy)]
 pub(crate) enum Read {
     Nothing,
     Cut,

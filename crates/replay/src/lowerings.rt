@@ -21,7 +21,7 @@ const OTHER_CALLER: u8 = 103;
 const LENGTH_LIMIT: usize = 65535;
 
 // The calls of crate gpkg, and those of crate controller.
-#[derive(Drop)]
+#[derive(Clone, Copy)]
 pub(crate) enum Call {
     Sql,
     GeoPackageSql,

@@ -20,7 +20,7 @@ mod reductions;
 mod trees;
 
 // What the cases of a file are about.
-#[derive(Drop)]
+#[derive(Clone, Copy)]
 enum Kind {
     Operators,
     Trees,

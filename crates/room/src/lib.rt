@@ -6,7 +6,7 @@ ghost use Rattle.room.specs.Room.{sized};
 
 use refusal::Refusal;
 
-#[derive(Drop)]
+#[derive(Clone, Copy)]
 pub enum Room {
     Enough,
     Refused(Refusal),

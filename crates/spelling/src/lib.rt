@@ -53,7 +53,7 @@ const SPELLINGS: [u8; 256] = *b"\
     29 bytes that no place names.";
 
 // Where an operator's spelling stands in the table: from the first place to the second.
-#[derive(Drop)]
+#[derive(Clone, Copy)]
 pub enum Spelled {
     NoSpelling,
     At(usize, usize),

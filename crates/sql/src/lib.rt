@@ -12,7 +12,7 @@ use op::{
 use operand::End;
 
 // A text in parts, each by its code (specs/Template.antt has them): 0 to 3 are the ends.
-#[derive(Drop)]
+#[derive(Clone, Copy)]
 pub struct Template {
     pub codes: [u8; 24],
     pub len: usize,

@@ -55,7 +55,7 @@ const FLAGS_LIMIT: usize = CAI;
 const TEXT_LIMIT: usize = 4096;
 
 // What a caller allows: the bytes of a tree, its levels, the root being 1, and the bytes of the SQL text.
-#[derive(Drop)]
+#[derive(Clone, Copy)]
 pub struct Limits {
     pub tree: usize,
     pub depth: usize,
@@ -70,7 +70,7 @@ pub const PLANNER: Limits = Limits {
 };
 
 // What checking settings and a tree answers.
-#[derive(Drop)]
+#[derive(Clone, Copy)]
 pub enum Checked {
     Valid,
     Refused(Refusal),
@@ -78,7 +78,7 @@ pub enum Checked {
 
 // What the record above has to know of a tree to decide refusal 7: an Interval, an Array of exactly two, any other tree,
 // or a tree with something out of its place in it.
-#[derive(Drop)]
+#[derive(Clone, Copy)]
 enum Shape {
     Interval,
     Pair,
@@ -86,34 +86,34 @@ enum Shape {
     Misplaced,
 }
 
-#[derive(Drop)]
+#[derive(Clone, Copy)]
 enum One {
     OneBad(Refusal),
     OneIs(Shape),
 }
 
-#[derive(Drop)]
+#[derive(Clone, Copy)]
 enum Two {
     TwoBad(Refusal),
     TwoAre(Shape, Shape),
 }
 
 // Records to the end: whether each may stand where no Interval may, and how many there are.
-#[derive(Drop)]
+#[derive(Clone, Copy)]
 enum Items {
     ItemsBad(Refusal),
     ItemsAre { plain: bool, count: usize },
 }
 
 // The record at the front of some bytes: where it ends.
-#[derive(Drop)]
+#[derive(Clone, Copy)]
 enum First {
     Stop(Refusal),
     Next(usize, Shape),
 }
 
 // The operator at the front of a body.
-#[derive(Drop)]
+#[derive(Clone, Copy)]
 enum Taken {
     Takes(Op),
     Refuses(Refusal),

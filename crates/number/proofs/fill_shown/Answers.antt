@@ -19,7 +19,7 @@ pub returns-then-s-eq0 : goal.returns-then-s-eq0
 returns-then-s-eq0 c =
     let a = c.args in
     let e : shown a.n a.s ≡ decimal a.n = ap (λ (x : ℕ). shown a.n x) c.if-s-eq0.true ∙ shown-whole a.n in
-    c.fill_low.ensures.0 ∙ ap (λ (x : ℕ). low x a.n) (c.requires ∙ ap length e) ∙ sym (decimal-low a.n) ∙ sym e
+    c.fill_low.ensures.text ∙ ap (λ (x : ℕ). low x a.n) (c.requires ∙ ap length e) ∙ sym (decimal-low a.n) ∙ sym e
 
 pub overflow_sub-from : goal.overflow_sub-from
 overflow_sub-from c =
@@ -40,8 +40,8 @@ bounds-part-point c =
     let l = long a.n a.s p c.if-s-eq0.false c.requires in
     let k = decimal-some (a.n / 10 ^ a.s) in
     let from = length p - a.s in
-    let y = c.fill_low-whole.new.1.0 in
-    let e = fraction p y a.n a.s from (omega arith) refl c.fill_low-whole.ensures.0 in
+    let y = c.fill_low-whole.new.part in
+    let e = fraction p y a.n a.s from (omega arith) refl c.fill_low-whole.ensures.text in
     let h : from + length y ≡ length p = omega (arith, ap length e, length-low a.s a.n) in
     let f = put_length p y from h in
     omega arith
@@ -53,8 +53,8 @@ slice_bounds-fill_low-end-2 c =
     let l = long a.n a.s p c.if-s-eq0.false c.requires in
     let k = decimal-some (a.n / 10 ^ a.s) in
     let from = length p - a.s in
-    let y = c.fill_low-whole.new.1.0 in
-    let e = fraction p y a.n a.s from (omega arith) refl c.fill_low-whole.ensures.0 in
+    let y = c.fill_low-whole.new.part in
+    let e = fraction p y a.n a.s from (omega arith) refl c.fill_low-whole.ensures.text in
     let h : from + length y ≡ length p = omega (arith, ap length e, length-low a.s a.n) in
     let f = put_length p y from h in
     let point = from - 1 in
@@ -69,17 +69,17 @@ shape_of-part c =
     let l = long a.n a.s p c.if-s-eq0.false c.requires in
     let k = decimal-some (a.n / 10 ^ a.s) in
     let from = length p - a.s in
-    let y = c.fill_low-whole.new.1.0 in
-    let e = fraction p y a.n a.s from (omega arith) refl c.fill_low-whole.ensures.0 in
+    let y = c.fill_low-whole.new.part in
+    let e = fraction p y a.n a.s from (omega arith) refl c.fill_low-whole.ensures.text in
     let h : from + length y ≡ length p = omega (arith, ap length e, length-low a.s a.n) in
     let f = put_length p y from h in
     let point = from - 1 in
     let l2 = set (put_mid from (length p - from) p y) point 46 in
     let g = length-set (put_mid from (length p - from) p y) point 46 in
-    let x = c.fill_low-2.new.1.0 in
+    let x = c.fill_low-2.new.part in
     let q = c.fill_low-whole.result in
-    let r : q ≡ a.n / 10 ^ a.s = c.fill_low-whole.ensures.1 ∙ ap (λ (w : ℕ). a.n / 10 ^ w) (sym (length-low (length (take (length p - from) (drop from p))) a.n) ∙ ap length (sym c.fill_low-whole.ensures.0 ∙ e) ∙ length-low a.s a.n) in
-    let v = whole_part l2 x q point (omega arith) (omega (arith, ap (λ (w : ℕ). length (decimal w)) r)) c.fill_low-2.ensures.0 in
+    let r : q ≡ a.n / 10 ^ a.s = c.fill_low-whole.ensures.rest ∙ ap (λ (w : ℕ). a.n / 10 ^ w) (sym (length-low (length (take (length p - from) (drop from p))) a.n) ∙ ap length (sym c.fill_low-whole.ensures.text ∙ e) ∙ length-low a.s a.n) in
+    let v = whole_part l2 x q point (omega arith) (omega (arith, ap (λ (w : ℕ). length (decimal w)) r)) c.fill_low-2.ensures.text in
     ap length (filled p x y from point h (omega arith)) ∙ length-append x (bytes "." ++ y) ∙ omega (arith, ap length v, ap (λ (w : ℕ). length (decimal w)) r)
 
 pub returns : goal.returns
@@ -90,17 +90,17 @@ returns c =
     let l = long a.n a.s p c.if-s-eq0.false c.requires in
     let k = decimal-some (a.n / 10 ^ a.s) in
     let from = length p - a.s in
-    let y = c.fill_low-whole.new.1.0 in
-    let e = fraction p y a.n a.s from (omega arith) refl c.fill_low-whole.ensures.0 in
+    let y = c.fill_low-whole.new.part in
+    let e = fraction p y a.n a.s from (omega arith) refl c.fill_low-whole.ensures.text in
     let h : from + length y ≡ length p = omega (arith, ap length e, length-low a.s a.n) in
     let f = put_length p y from h in
     let point = from - 1 in
     let l2 = set (put_mid from (length p - from) p y) point 46 in
     let g = length-set (put_mid from (length p - from) p y) point 46 in
-    let x = c.fill_low-2.new.1.0 in
+    let x = c.fill_low-2.new.part in
     let q = c.fill_low-whole.result in
-    let r : q ≡ a.n / 10 ^ a.s = c.fill_low-whole.ensures.1 ∙ ap (λ (w : ℕ). a.n / 10 ^ w) (sym (length-low (length (take (length p - from) (drop from p))) a.n) ∙ ap length (sym c.fill_low-whole.ensures.0 ∙ e) ∙ length-low a.s a.n) in
-    let v = whole_part l2 x q point (omega arith) (omega (arith, ap (λ (w : ℕ). length (decimal w)) r)) c.fill_low-2.ensures.0 in
+    let r : q ≡ a.n / 10 ^ a.s = c.fill_low-whole.ensures.rest ∙ ap (λ (w : ℕ). a.n / 10 ^ w) (sym (length-low (length (take (length p - from) (drop from p))) a.n) ∙ ap length (sym c.fill_low-whole.ensures.text ∙ e) ∙ length-low a.s a.n) in
+    let v = whole_part l2 x q point (omega arith) (omega (arith, ap (λ (w : ℕ). length (decimal w)) r)) c.fill_low-2.ensures.text in
     filled p x y from point h (omega arith)
     ∙ ap (λ (w : List ℕ). w ++ (bytes "." ++ y)) (v ∙ ap decimal r)
     ∙ ap (λ (w : List ℕ). decimal (a.n / 10 ^ a.s) ++ (bytes "." ++ w)) e

@@ -39,10 +39,10 @@ returns c =
     let g = room i.out.now i.at (decimal i.n) c.decimal_len-w.ensures.0 c.lacks_room.ensures c.if-lacks_room.false in
     let h : e ≤ length out = omega (arith, w.ensures.0) in
     let l = mid_length out i.at e (omega arith) h in
-    let t = c.fill_low.ensures.0 in
+    let t = c.fill_low.ensures.text in
     let n : length (take (e - i.at) (drop i.at out)) ≡ length (decimal i.n) = omega (arith, w.ensures.0) in
     let y = t ∙ ap (λ (x : ℕ). low x i.n) n ∙ sym (decimal-low i.n) in record {
-      laid = mid_sets out c.fill_low.new.1.0 i.at e h (omega (arith, ap length y, w.ensures.0))
+      laid = mid_sets out c.fill_low.new.part i.at e h (omega (arith, ap length y, w.ensures.0))
           ∙ ap (λ (x : List ℕ). sets out i.at x) y
           ∙ sym (placed-fits out i.at (decimal i.n) g);
       end = ap (λ (x : ℕ). i.at + x) w.ensures.0 ∙ (let z : i.at + length (decimal i.n) ≡ ended count_limit i.at (length (decimal i.n)) = omega arith in z);

@@ -35,7 +35,7 @@ overflow_add-end c =
     let one =
     wrote {t = sign i.m} (front _ g (omega arith)) (puts_of (ap sign b) p.ensures) in
     let y : p.result ≡ i.at + length (sign i.m) = one.end in
-    let x : length p.new.1.0 ≡ length i.out.now = ap length one.laid ∙ length-sets i.out.now i.at (sign i.m) in
+    let x : length p.new.out ≡ length i.out.now = ap length one.laid ∙ length-sets i.out.now i.at (sign i.m) in
     omega (arith, c.shown_len-k.ensures.0)
 
 pub slice_bounds-fill_shown-end : goal.slice_bounds-fill_shown-end
@@ -50,7 +50,7 @@ slice_bounds-fill_shown-end c =
     let one =
     wrote {t = sign i.m} (front _ g (omega arith)) (puts_of (ap sign b) p.ensures) in
     let y : p.result ≡ i.at + length (sign i.m) = one.end in
-    let x : length p.new.1.0 ≡ length i.out.now = ap length one.laid ∙ length-sets i.out.now i.at (sign i.m) in
+    let x : length p.new.out ≡ length i.out.now = ap length one.laid ∙ length-sets i.out.now i.at (sign i.m) in
     omega (arith, c.shown_len-k.ensures.0)
 
 pub returns : goal.returns
@@ -65,8 +65,8 @@ returns c =
     let one =
     wrote {t = sign i.m} (front _ g (omega arith)) (puts_of (ap sign b) p.ensures) in
     let y : p.result ≡ i.at + length (sign i.m) = one.end in
-    let x : length p.new.1.0 ≡ length i.out.now = ap length one.laid ∙ length-sets i.out.now i.at (sign i.m) in
-    let u = c.fill_shown.new.1.1.0 in
+    let x : length p.new.out ≡ length i.out.now = ap length one.laid ∙ length-sets i.out.now i.at (sign i.m) in
+    let u = c.fill_shown.new.part in
     let k = c.shown_len-k in
     let v = c.fill_shown.ensures in
     let j : length u ≡ k.result = ap length v ∙ sym k.ensures.0 in

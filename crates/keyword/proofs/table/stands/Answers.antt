@@ -15,4 +15,4 @@ returns-then-table-at c =
 pub returns : goal.returns
 returns c =
     let a = c.args in
-    c.is_IsWord.ensures ∙ ap (same (uppers a.s.now)) (part a.at (length a.s.now) a.table.now)
+    c.is_word.ensures ∙ ap (same (uppers a.s.now)) (part a.at (length a.s.now) a.table.now)
