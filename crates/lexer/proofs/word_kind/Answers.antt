@@ -7,19 +7,19 @@ use Rattle.lexer.proofs.word_kind.Goals as goal
 
 pub returns-then-is_word : goal.returns-then-is_word
 unfolding word_kind
-returns-then-is_word c = taken _ _ _ (sym c.is_IsWord.ensures ∙ c.if-is_word.true)
+returns-then-is_word c = taken _ _ _ (sym c.is_word.ensures ∙ c.if-is_word.true)
 
 pub returns-then-is_word-2 : goal.returns-then-is_word-2
 unfolding word_kind
-returns-then-is_word-2 c = taken _ _ _ (sym c.is_word-2.ensures ∙ c.if-is_word-2.true) ∙ passed _ _ _ (sym c.is_IsWord.ensures ∙ c.if-is_word.false)
+returns-then-is_word-2 c = taken _ _ _ (sym c.is_word-2.ensures ∙ c.if-is_word-2.true) ∙ passed _ _ _ (sym c.is_word.ensures ∙ c.if-is_word.false)
 
 pub returns-then-is_word-3 : goal.returns-then-is_word-3
 unfolding word_kind
-returns-then-is_word-3 c = taken _ _ _ (sym c.is_word-3.ensures ∙ c.if-is_word-3.true) ∙ passed _ _ _ (sym c.is_word-2.ensures ∙ c.if-is_word-2.false) ∙ passed _ _ _ (sym c.is_IsWord.ensures ∙ c.if-is_word.false)
+returns-then-is_word-3 c = taken _ _ _ (sym c.is_word-3.ensures ∙ c.if-is_word-3.true) ∙ passed _ _ _ (sym c.is_word-2.ensures ∙ c.if-is_word-2.false) ∙ passed _ _ _ (sym c.is_word.ensures ∙ c.if-is_word.false)
 
 pub returns-then-is_word-4 : goal.returns-then-is_word-4
 unfolding word_kind
-returns-then-is_word-4 c = taken _ _ _ (sym c.is_word-4.ensures ∙ c.if-is_word-4.true) ∙ passed _ _ _ (sym c.is_word-3.ensures ∙ c.if-is_word-3.false) ∙ passed _ _ _ (sym c.is_word-2.ensures ∙ c.if-is_word-2.false) ∙ passed _ _ _ (sym c.is_IsWord.ensures ∙ c.if-is_word.false)
+returns-then-is_word-4 c = taken _ _ _ (sym c.is_word-4.ensures ∙ c.if-is_word-4.true) ∙ passed _ _ _ (sym c.is_word-3.ensures ∙ c.if-is_word-3.false) ∙ passed _ _ _ (sym c.is_word-2.ensures ∙ c.if-is_word-2.false) ∙ passed _ _ _ (sym c.is_word.ensures ∙ c.if-is_word.false)
 
 pub returns-then-is_word-5 : goal.returns-then-is_word-5
 unfolding word_kind

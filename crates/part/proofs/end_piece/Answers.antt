@@ -5,13 +5,13 @@ use Rattle.part.specs.PieceWords.{end_piece}
 use Rattle.part.proofs.end_piece.Goals as goal
 
 pub returns-in-Column : goal.returns-in-Column
-returns-in-Column c = sym (ap (end_piece _) c.e-1.given.1)
+returns-in-Column c = sym (ap (end_piece _) c.in-Column.is)
 
 pub returns-in-Instant : goal.returns-in-Instant
-returns-in-Instant c = sym (ap (end_piece _) c.e-in-Instant-1.given.1)
+returns-in-Instant c = sym (ap (end_piece _) c.in-Instant.is)
 
 pub returns-in-Other : goal.returns-in-Other
-returns-in-Other c = sym (ap (end_piece _) c.e-in-Other-1.given.1)
+returns-in-Other c = sym (ap (end_piece _) c.in-Other.is)
 
 pub returns-in-Open : goal.returns-in-Open
 returns-in-Open c = sym (ap (end_piece _) c.in-Open.is)

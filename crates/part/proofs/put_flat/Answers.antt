@@ -6,11 +6,11 @@ use Rattle.part.proofs.put_flat.Goals as goal
 
 pub returns-in-Words : goal.returns-in-Words
 unfolding flat_text
-returns-in-Words c = puts_of (ap (flat_text _) (sym c.flat-1.given.1)) c.put_part.ensures
+returns-in-Words c = puts_of (ap (flat_text _) (sym c.in-Words.is)) c.put_part.ensures
 
 pub returns-in-Opened : goal.returns-in-Opened
 unfolding flat_text
-returns-in-Opened c = puts_of (ap (flat_text _) (sym c.flat-in-Opened-1.given.1)) c.put_unbounded.ensures
+returns-in-Opened c = puts_of (ap (flat_text _) (sym c.in-Opened.is)) c.put_unbounded.ensures
 
 pub returns-in-Nothing : goal.returns-in-Nothing
 unfolding flat_text

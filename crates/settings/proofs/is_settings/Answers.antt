@@ -5,7 +5,7 @@ use Rattle.settings.proofs.is_settings.Goals as goal
 
 pub returns-then-end-s : goal.returns-then-end-s
 unfolding is_settings is_frame
-returns-then-end-s c = simp (← c.frame_at.ensures, c.kind-1.given.1, eq-eqb _ _ c.if-kind-eq-SETTINGS_KIND.true, eq-eqb _ _ c.if-end-s.true, c.settings_body.ensures)
+returns-then-end-s c = simp (← c.frame_at.ensures, c.in-Whole.is, eq-eqb _ _ c.if-kind-eq-SETTINGS_KIND.true, eq-eqb _ _ c.if-end-s.true, c.settings_body.ensures)
 
 pub returns-in-Broken : goal.returns-in-Broken
 unfolding is_settings is_frame
@@ -13,8 +13,8 @@ returns-in-Broken c = simp (← c.frame_at.ensures, c.in-Broken.is)
 
 pub returns-else-end-s : goal.returns-else-end-s
 unfolding is_settings is_frame
-returns-else-end-s c = simp (← c.frame_at.ensures, c.kind-1.given.1, eq-eqb _ _ c.if-kind-eq-SETTINGS_KIND.true, ne_eqb _ _ c.if-end-s.false)
+returns-else-end-s c = simp (← c.frame_at.ensures, c.in-Whole.is, eq-eqb _ _ c.if-kind-eq-SETTINGS_KIND.true, ne_eqb _ _ c.if-end-s.false)
 
 pub returns-else-kind-eq-SETTINGS_KIND : goal.returns-else-kind-eq-SETTINGS_KIND
 unfolding is_settings is_frame
-returns-else-kind-eq-SETTINGS_KIND c = simp (← c.frame_at.ensures, c.kind-1.given.1, ne_eqb _ _ c.if-kind-eq-SETTINGS_KIND.false)
+returns-else-kind-eq-SETTINGS_KIND c = simp (← c.frame_at.ensures, c.in-Whole.is, ne_eqb _ _ c.if-kind-eq-SETTINGS_KIND.false)
