@@ -22,6 +22,13 @@ pub enum Part {
     Whole(usize),
 }
 
+// 65,536 zeros: room for each part that is within the limits.
+pub fn large_buffer() -> [u8; 65536]
+    ensures { 65536 ≡ length result }
+{
+    [0; 65536]
+}
+
 // Reads until the buffer is full or the input ends, as it does where a read fails: how many bytes there were.
 fn read_full<R: Read>(file: &mut R, buffer: &mut [u8]) -> usize
     ensures { result ≤ length buffer.new }
