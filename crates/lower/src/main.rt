@@ -195,11 +195,12 @@ fn is_there(answer: Result<usize, FillError>) -> bool {
 
 // How many arguments there are, the program's name among them.
 fn arg_count(rt: &impl Env) -> usize {
-    let mut n = 0;
-    while n < usize::MAX && is_there(rt.arg(n, &mut [])) {
-        n += 1;
+    for n in 0..usize::MAX {
+        if !is_there(rt.arg(n, &mut [])) {
+            return n;
+        }
     }
-    n
+    usize::MAX
 }
 
 // Whether the argument at this place is the word.
