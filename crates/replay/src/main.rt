@@ -125,6 +125,7 @@ fn say_other(rt: &impl Print, name: &str, place: u64, want: u8, found: u8) -> io
 }
 
 // Counts the case at its answer; where another answer is found, a line says so.
+#[tactic(auto, unfolding(crate::specs::TallyWords::tallied))]
 fn count(
     rt: &impl Print,
     name: &str,
