@@ -109,15 +109,15 @@ computed w =
 pub reducing_instance : (w : Writing) → reading_of (sql w part) row_d ≡ SaysTrue
 reducing_instance w =
     let k = computed w in
-    sym (reducing-reads room k.lowers k.part-lowers k.reduces k.filter k.no-null k.dates is-row_d)
-    ∙ reads_as k.lowers k.filter is-row_d ∙ k.holds-there
+    sym (reducing-reads room k.lowers k.part_lowers k.reduces k.filter k.no_null k.dates is-row_d)
+    ∙ reads_as k.lowers k.filter is-row_d ∙ k.holds_there
 
 -- and in the second call with timestamps
 pub geopackage_reducing_instance : reading_of (sql GeoPackage stamped_part) row_timestamp ≡ SaysTrue
 geopackage_reducing_instance =
     let k = computed GeoPackage in
-    sym (reducing-reads room k.stamped-lowers k.stampedPart-lowers k.stamped-reduces k.stamped-filter k.stamped-no-null k.timestamps is-row_timestamp)
-    ∙ reads_as k.stamped-lowers k.stamped-filter is-row_timestamp ∙ k.stamped-there
+    sym (reducing-reads room k.stamped_lowers k.stamped_part_lowers k.stamped-reduces k.stamped-filter k.stamped_no_null k.timestamps is-row_timestamp)
+    ∙ reads_as k.stamped_lowers k.stamped-filter is-row_timestamp ∙ k.stamped_there
 
 -- Outside the hypotheses.
 record Apart (w : Writing) : Type 0 where
@@ -165,14 +165,14 @@ apart GeoPackage =
 pub lone_null_reads : (w : Writing) → (reading_of (sql w lone_null) row_null ≡ SaysFalse) × (reading_of (sql w null) row_null ≡ SaysUnknown)
 lone_null_reads w =
     let k = apart w in (
-      reads_as k.null-lowers k.null-filters.0 is-row_null ∙ k.null-truths.0,
-      reads_as k.nothing-lowers k.null-filters.1 is-row_null ∙ k.null-truths.1,
+      reads_as k.null_lowers k.null_filters.0 is-row_null ∙ k.null_truths.0,
+      reads_as k.nothing_lowers k.null_filters.1 is-row_null ∙ k.null_truths.1,
     )
 
 -- mixed-widths: reducing gives true, and the texts read false and true
 pub mixed_widths_read : (w : Writing) → (reading_of (sql w mixed) row_null ≡ SaysFalse) × (reading_of (sql w (bool true)) row_null ≡ SaysTrue)
 mixed_widths_read w =
     let k = apart w in (
-      reads_as k.mixed-lowers k.mixed-filters.0 is-row_null ∙ k.mixed-truths.0,
-      reads_as k.true-lowers k.mixed-filters.1 is-row_null ∙ k.mixed-truths.1,
+      reads_as k.mixed_lowers k.mixed_filters.0 is-row_null ∙ k.mixed_truths.0,
+      reads_as k.true_lowers k.mixed_filters.1 is-row_null ∙ k.mixed_truths.1,
     )

@@ -256,54 +256,54 @@ computed w =
     }
 
 pub is-row_null : IsRow row_null columns_null
-is-row_null = record { short = omega arith; reads = (computed Rust).rowNull-is }
+is-row_null = record { short = omega arith; reads = (computed Rust).row_null-is }
 
 pub is-row_d : IsRow row_d columns_d
-is-row_d = record { short = omega arith; reads = (computed Rust).rowD-is }
+is-row_d = record { short = omega arith; reads = (computed Rust).row_d-is }
 
 -- reads-truth: sheet J's filter on the row with a NULL is unknown
 pub reads_truth_instance : (w : Writing) → reading_of (sql w apart) row_null ≡ SaysUnknown
-reads_truth_instance w = (reads_truth (computed w).apart-lowers (computed w).apart-filter is-row_null (computed w).held_null).0 ∙ (computed w).unknown
+reads_truth_instance w = (reads_truth (computed w).apart_lowers (computed w).apart-filter is-row_null (computed w).held_null).0 ∙ (computed w).unknown
 
 -- converse-reads: the operands exchanged
 pub converse_instance : (w : Writing) → Alike SaysTrue SaysFalse SaysUnknown (reading_of (sql w apart) row_null) (reading_of (sql w turned) row_null)
 unfolding time-converse.converse prelude-choice.some
 converse_instance w =
-    converse-reads (turn TDisjoint a (interval b c) (computed w).temporal) (computed w).apart-lowers (computed w).turned-lowers (computed w).apart-filter is-row_null (computed w).held_null
+    converse-reads (turn TDisjoint a (interval b c) (computed w).temporal) (computed w).apart_lowers (computed w).turned_lowers (computed w).apart-filter is-row_null (computed w).held_null
 
 -- complement-reads: on a row without NULL
 pub complement_instance : (w : Writing) → Opposite SaysTrue SaysFalse SaysUnknown (reading_of (sql w apart) row_d) (reading_of (sql w meeting) row_d)
 complement_instance w =
-    complement_reads (computed w).apart-lowers (computed w).meeting-lowers (computed w).instant (computed w).operands.0 is-row_d
-    (computed w).no-null.0 (computed w).no-null.1
+    complement_reads (computed w).apart_lowers (computed w).meeting_lowers (computed w).instant (computed w).operands.0 is-row_d
+    (computed w).no_null.0 (computed w).no_null.1
 
 -- agrees-with-ogc: a lies before the interval from b to c, so they are disjoint
 pub ogc_instance : reading_of (sql Rust apart) row_d ≡ SaysTrue
 ogc_instance =
-    agrees_with_ogc ten (computed Rust).apart-lowers (computed Rust).temporal is-row_d (computed Rust).held_d.0 (computed Rust).held_d.1 (computed Rust).dates.0 (computed Rust).dates.1 (computed Rust).dates.2
-    ∙ (computed Rust).holds-there
+    agrees_with_ogc ten (computed Rust).apart_lowers (computed Rust).temporal is-row_d (computed Rust).held_d.0 (computed Rust).held_d.1 (computed Rust).dates.0 (computed Rust).dates.1 (computed Rust).dates.2
+    ∙ (computed Rust).holds_there
 
 -- exactly-one-reads: [a, c] and [b, d]
 pub exactly_one_instance : (w : Writing) → ExactlyOne SaysTrue SaysFalse (λ o. reading_of (sql w (pair o)) row_d)
 exactly_one_instance w =
-    exactly_one_reads (λ o. sql w (pair o)) (among (λ o. Lowers w (pair o) (sql w (pair o))) (computed w).pairs-lower) (computed w).operands.1 (computed w).operands.2 is-row_d
+    exactly_one_reads (λ o. sql w (pair o)) (among (λ o. Lowers w (pair o) (sql w (pair o))) (computed w).pairs_lower) (computed w).operands.1 (computed w).operands.2 is-row_d
     (computed w).below.0 (computed w).below.1
 
 -- in the second call
 pub is-row_timestamp : IsRow row_timestamp columns_timestamp
-is-row_timestamp = record { short = omega arith; reads = (computed Rust).rowTimestamp-is }
+is-row_timestamp = record { short = omega arith; reads = (computed Rust).row_timestamp-is }
 
 pub geopackage_truth_instance : reading_of (sql GeoPackage (after 2)) row_timestamp ≡ SaysFalse
 geopackage_truth_instance =
-    (reads_truth (computed GeoPackage).later-lowers (computed GeoPackage).later-filter is-row_timestamp (computed GeoPackage).held_timestamp.2).0 ∙ (computed GeoPackage).not-later
+    (reads_truth (computed GeoPackage).later_lowers (computed GeoPackage).later-filter is-row_timestamp (computed GeoPackage).held_timestamp.2).0 ∙ (computed GeoPackage).not_later
 
 pub geopackage_ogc_instance : reading_of (sql GeoPackage (after 1)) row_timestamp ≡ SaysTrue
 geopackage_ogc_instance =
-    agrees_with_ogc twenty_four (computed GeoPackage).after-lowers (computed GeoPackage).after-temporal is-row_timestamp (computed GeoPackage).held_timestamp.0 (computed GeoPackage).held_timestamp.1 (computed GeoPackage).stamps.0 (computed GeoPackage).stamps.1 (computed GeoPackage).stamps.2
+    agrees_with_ogc twenty_four (computed GeoPackage).after_lowers (computed GeoPackage).after_temporal is-row_timestamp (computed GeoPackage).held_timestamp.0 (computed GeoPackage).held_timestamp.1 (computed GeoPackage).stamps.0 (computed GeoPackage).stamps.1 (computed GeoPackage).stamps.2
     ∙ (computed GeoPackage).later
 
 -- and with an open end
 pub open_end_instance : reading_of (sql GeoPackage staying) row_timestamp ≡ SaysTrue
 open_end_instance =
-    agrees_with_ogc twenty_four (computed GeoPackage).stay-lowers (computed GeoPackage).meets-temporal is-row_timestamp (computed GeoPackage).held_stay.0 (computed GeoPackage).held_stay.1 (computed GeoPackage).stamps.0 (computed GeoPackage).stays.0 (computed GeoPackage).stays.1
-    ∙ (computed GeoPackage).stays-there
+    agrees_with_ogc twenty_four (computed GeoPackage).stay_lowers (computed GeoPackage).meets_temporal is-row_timestamp (computed GeoPackage).held_stay.0 (computed GeoPackage).held_stay.1 (computed GeoPackage).stamps.0 (computed GeoPackage).stays.0 (computed GeoPackage).stays.1
+    ∙ (computed GeoPackage).stays_there
