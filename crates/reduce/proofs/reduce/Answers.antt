@@ -13,9 +13,12 @@ reduce_accepted-requires c =
     (recorded a, a.small)
 
 pub returns-in-Refused : goal.returns-in-Refused
-returns-in-Refused c = refused_answers c.args.tree.now c.args.out.now (sym c.in-Refused.is ∙ c.check_tree.ensures.says)
+returns-in-Refused c =
+    let q = refused_answers c.args.tree.now c.args.out.now (sym c.in-Refused.is ∙ c.check_tree.ensures.says) in
+    record { says = q.0; bytes = q.1.0; hears = q.1.1 }
 
 pub returns-in-Valid : goal.returns-in-Valid
 returns-in-Valid c =
     let a = taken c.args.tree.now (bytes_of c.args.tree.now (λ (i : ℕ). let v : get_or c.args.tree.now i 0 < 256 = omega (arith, c.shared_slice_known-1.given i) in v)) (sym c.in-Valid.is ∙ c.check_tree.ensures.says) in
-    taken_answers a (c.reduce_accepted.ensures a.t _ a.whole a.good)
+    let q = taken_answers a (c.reduce_accepted.ensures a.t _ a.whole a.good) in
+    record { says = q.0; bytes = q.1.0; hears = q.1.1 }

@@ -23,5 +23,5 @@ returns-in-Negate c = λ o v k l p g e t w. turned_negate o v k c.in-Negate.is p
 
 pub returns-in_default : goal.returns-in_default
 returns-in_default c =
-    λ o v k l p g e t w. turned_kept o v (kept_arm _ c.in_default.is w) p e c.kept_sort.ensures
+    λ o v k l p g e t w. turned_kept o v (kept_arm _ c.in_default.not-ToNull c.in_default.not-ToBool c.in_default.not-Negate w) p e c.kept_sort.ensures
     c.put_head.ensures
