@@ -8,11 +8,11 @@ ghost use Rattle.text.specs.Lowered.{lowering, lowering_within};
 ghost use Rattle.reduce.specs.Reducing.{reducing};
 ghost use Rattle.controller.specs.Controller.{controller};
 ghost use Rattle.truth.specs.Reading as reading;
-ghost use Rattle.capi.specs.Numbers.{written_number, reading_number};
+ghost use Rattle.capi.specs.Numbers.{lowering_number, reading_number};
 
 #[unsafe(no_mangle)]
 pub extern "C" fn wenduulig_to_sql(settings: &[u8], tree: &[u8], out: &mut [u8]) -> i64
-    ensures says { result ≡ written_number (said (lowering Rust settings.now tree.now (length out.old))) }
+    ensures says { result ≡ lowering_number (said (lowering Rust settings.now tree.now (length out.old))) }
     ensures bytes { out.new ≡ leaves out.old (lowering Rust settings.now tree.now (length out.old)) }
 {
     capi::wenduulig_to_sql(settings, tree, out)
@@ -20,7 +20,7 @@ pub extern "C" fn wenduulig_to_sql(settings: &[u8], tree: &[u8], out: &mut [u8])
 
 #[unsafe(no_mangle)]
 pub extern "C" fn wenduulig_to_geopackage_sql(settings: &[u8], tree: &[u8], out: &mut [u8]) -> i64
-    ensures says { result ≡ written_number (said (lowering GeoPackage settings.now tree.now (length out.old))) }
+    ensures says { result ≡ lowering_number (said (lowering GeoPackage settings.now tree.now (length out.old))) }
     ensures bytes { out.new ≡ leaves out.old (lowering GeoPackage settings.now tree.now (length out.old)) }
 {
     capi::wenduulig_to_geopackage_sql(settings, tree, out)
@@ -28,21 +28,21 @@ pub extern "C" fn wenduulig_to_geopackage_sql(settings: &[u8], tree: &[u8], out:
 
 #[unsafe(no_mangle)]
 pub extern "C" fn wenduulig_preview_sql(settings: &[u8], tree: &[u8], size: usize) -> i64
-    ensures { result ≡ written_number (said (lowering Rust settings.now tree.now size)) }
+    ensures { result ≡ lowering_number (said (lowering Rust settings.now tree.now size)) }
 {
     capi::wenduulig_preview_sql(settings, tree, size)
 }
 
 #[unsafe(no_mangle)]
 pub extern "C" fn wenduulig_preview_geopackage_sql(settings: &[u8], tree: &[u8], size: usize) -> i64
-    ensures { result ≡ written_number (said (lowering GeoPackage settings.now tree.now size)) }
+    ensures { result ≡ lowering_number (said (lowering GeoPackage settings.now tree.now size)) }
 {
     capi::wenduulig_preview_geopackage_sql(settings, tree, size)
 }
 
 #[unsafe(no_mangle)]
 pub extern "C" fn wenduulig_controller_to_sql(settings: &[u8], tree: &[u8], out: &mut [u8]) -> i64
-    ensures says { result ≡ written_number (said (lowering_within controller Rust settings.now tree.now (length out.old))) }
+    ensures says { result ≡ lowering_number (said (lowering_within controller Rust settings.now tree.now (length out.old))) }
     ensures bytes { out.new ≡ leaves out.old (lowering_within controller Rust settings.now tree.now (length out.old)) }
 {
     capi::wenduulig_controller_to_sql(settings, tree, out)
@@ -54,7 +54,7 @@ pub extern "C" fn wenduulig_controller_to_geopackage_sql(
     tree: &[u8],
     out: &mut [u8],
 ) -> i64
-    ensures says { result ≡ written_number (said (lowering_within controller GeoPackage settings.now tree.now (length out.old))) }
+    ensures says { result ≡ lowering_number (said (lowering_within controller GeoPackage settings.now tree.now (length out.old))) }
     ensures bytes { out.new ≡ leaves out.old (lowering_within controller GeoPackage settings.now tree.now (length out.old)) }
 {
     capi::wenduulig_controller_to_geopackage_sql(settings, tree, out)
@@ -62,7 +62,7 @@ pub extern "C" fn wenduulig_controller_to_geopackage_sql(
 
 #[unsafe(no_mangle)]
 pub extern "C" fn wenduulig_controller_preview_sql(settings: &[u8], tree: &[u8], size: usize) -> i64
-    ensures { result ≡ written_number (said (lowering_within controller Rust settings.now tree.now size)) }
+    ensures { result ≡ lowering_number (said (lowering_within controller Rust settings.now tree.now size)) }
 {
     capi::wenduulig_controller_preview_sql(settings, tree, size)
 }
@@ -73,14 +73,14 @@ pub extern "C" fn wenduulig_controller_preview_geopackage_sql(
     tree: &[u8],
     size: usize,
 ) -> i64
-    ensures { result ≡ written_number (said (lowering_within controller GeoPackage settings.now tree.now size)) }
+    ensures { result ≡ lowering_number (said (lowering_within controller GeoPackage settings.now tree.now size)) }
 {
     capi::wenduulig_controller_preview_geopackage_sql(settings, tree, size)
 }
 
 #[unsafe(no_mangle)]
 pub extern "C" fn wenduulig_reduce(tree: &[u8], out: &mut [u8]) -> i64
-    ensures says { result ≡ written_number (said (reducing tree.now (length out.old))) }
+    ensures says { result ≡ lowering_number (said (reducing tree.now (length out.old))) }
     ensures bytes { out.new ≡ leaves out.old (reducing tree.now (length out.old)) }
 {
     capi::wenduulig_reduce(tree, out)

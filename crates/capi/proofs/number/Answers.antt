@@ -4,7 +4,7 @@ use Prim.Native.Nat.{◌≤◌}
 use Rattle.text.specs.declared.Lowered.{Lowered}
 use Rattle.text.specs.Lowered.{heard}
 use Rattle.capi.specs.LengthWords.{length_of}
-use Rattle.capi.specs.Numbers.{written_number}
+use Rattle.capi.specs.Numbers.{lowering_number}
 use Rattle.capi.proofs.Laws.{wide_fits, back64, length-fits, length_back}
 use Rattle.capi.proofs.number.Goals as goal
 
@@ -17,9 +17,9 @@ overflow_cast-result-in-Refused c = wide_fits c.negative.ensures.0 c.negative.en
 pub returns-in-Text : goal.returns-in-Text
 returns-in-Text c =
     length_back _ (subst (λ (l : Lowered). length_of l ≤ 65535) c.in-Text.is c.requires)
-    ∙ ap (λ (l : Lowered). written_number (heard l)) (sym c.in-Text.is)
+    ∙ ap (λ (l : Lowered). lowering_number (heard l)) (sym c.in-Text.is)
 
 pub returns-in-Refused : goal.returns-in-Refused
 returns-in-Refused c =
     back64 c.negative.ensures.0 c.negative.ensures.1
-    ∙ ap (λ (l : Lowered). written_number (heard l)) (sym c.in-Refused.is)
+    ∙ ap (λ (l : Lowered). lowering_number (heard l)) (sym c.in-Refused.is)
