@@ -10,7 +10,8 @@ use Rattle.prelude.specs.ChoiceLaws.{both_true}
 use Rattle.charset.specs.Charset.{letter, digit, name_start, name_byte, name}
 use Rattle.string.specs.Utf8.{valid}
 use Rattle.string.specs.Quote.{doubled, undoubled, closing, quoted_size}
-use Rattle.string.specs.QuoteLaws.{undoubled-doubled, closing-doubled, valid-doubled, unmarked, unmarked-valid, unmarked-doubled}
+use Rattle.string.specs.QuoteLaws.{undoubled-doubled, closing-doubled, unmarked, unmarked-doubled}
+use Rattle.string.proofs.ValidLaws.{valid-doubled, unmarked-valid}
 use Rattle.keyword.specs.Keywords.{keywords}
 use Rattle.word.specs.Case.{upper, uppers}
 use Rattle.keyword.specs.Reserved.{reserved, reserved_words}
