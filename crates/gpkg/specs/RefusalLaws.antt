@@ -36,16 +36,16 @@ module _ (limits : Limits) (w : Writing) (settings tree : List ℕ) (room : ℕ)
   unfolding fitted sized
   lowering_refuses z =
       refuses
-      _
+      (early ++ (TextTooLong ∷ BufferTooShort ∷ []))
       (lowering-gives
       (TextTooLong ∷ BufferTooShort ∷ [])
-      (λ x. pick_gives _ (ltb limits.text (length x)) (refused TextTooLong) _ refl (pick_gives _ (ltb room (length x)) (refused BufferTooShort) (got x) refl refl)))
+      (λ x. pick_gives (early ++ (TextTooLong ∷ BufferTooShort ∷ [])) (ltb limits.text (length x)) (refused TextTooLong) _ refl (pick_gives (early ++ (TextTooLong ∷ BufferTooShort ∷ [])) (ltb room (length x)) (refused BufferTooShort) (got x) refl refl)))
       z
 
   -- From the caller's limit of a text on it is one of 1 to 8.
   pub ample_refuses : limits.text ≤ room → lowering_within limits w settings tree room ≡ refused n → is_of (early ++ (TextTooLong ∷ [])) n ≡ true
   unfolding fitted
-  ample_refuses h z = refuses _ (lowering-gives (TextTooLong ∷ []) (λ x. go x (ltb limits.text (length x)) refl)) z
+  ample_refuses h z = refuses (early ++ (TextTooLong ∷ [])) (lowering-gives (TextTooLong ∷ []) (λ x. go x (ltb limits.text (length x)) refl)) z
     where
       go : (x : List ℕ) (b : Bool) → ltb limits.text (length x) ≡ b → gives (early ++ (TextTooLong ∷ [])) (fitted limits.text room x) ≡ true
       go x true q =

@@ -2,11 +2,8 @@
 use Prim.Native.Nat.{ℕ, ◌+◌, ◌-◌, ◌≤◌, ◌<◌}
 use mathlib.Core.Path.{◌≡◌, refl, sym, ap, ◌∙◌}
 use mathlib.Core.List.{List, [], ◌∷◌, ◌++◌}
-use mathlib.Core.Logic.{inl, inr}
 use mathlib.Core.Bool.{Bool, true, false, false≢true}
 use native.Mathlib.Omega.{arith}
-use denote.Enum.Declared.{tag_of}
-use types.Run.{OneOf}
 use lib.Dec.{eqb}
 use lib.IntN.{ℤ, nat_abs, neg_ℤ}
 use lib.ListN.{length, drop, get_or}
@@ -134,23 +131,14 @@ turned_negate {at} {end} {l} o v k e p g t f = rw e (f v k l p.holds g (negate_s
 
 -- What is kept.
 
-pub kept_arm : (c : Turn) → OneOf (0 ∷ 3 ∷ 5 ∷ 6 ∷ []) (tag_of the_type c) → written c ≡ true → c ≡ Keep
-kept_arm Keep h e = refl
-kept_arm ToNull (inl p) e = absurd (let v : ⊥ = omega (arith, p) in v)
-kept_arm ToNull (inr (inl p)) e = absurd (let v : ⊥ = omega (arith, p) in v)
-kept_arm ToNull (inr (inr (inl p))) e = absurd (let v : ⊥ = omega (arith, p) in v)
-kept_arm ToNull (inr (inr (inr p))) e = absurd (let v : ⊥ = omega (arith, p) in v)
-kept_arm (ToBool b) (inl p) e = absurd (let v : ⊥ = omega (arith, p) in v)
-kept_arm (ToBool b) (inr (inl p)) e = absurd (let v : ⊥ = omega (arith, p) in v)
-kept_arm (ToBool b) (inr (inr (inl p))) e = absurd (let v : ⊥ = omega (arith, p) in v)
-kept_arm (ToBool b) (inr (inr (inr p))) e = absurd (let v : ⊥ = omega (arith, p) in v)
-kept_arm Negate (inl p) e = absurd (let v : ⊥ = omega (arith, p) in v)
-kept_arm Negate (inr (inl p)) e = absurd (let v : ⊥ = omega (arith, p) in v)
-kept_arm Negate (inr (inr (inl p))) e = absurd (let v : ⊥ = omega (arith, p) in v)
-kept_arm Negate (inr (inr (inr p))) e = absurd (let v : ⊥ = omega (arith, p) in v)
-kept_arm Stay h e = absurd (false≢true e)
-kept_arm NoCase h e = absurd (false≢true e)
-kept_arm NoAccent h e = absurd (false≢true e)
+pub kept_arm : (c : Turn) → (c ≡ ToNull → ⊥) → ((b : Bool) → c ≡ ToBool b → ⊥) → (c ≡ Negate → ⊥) → written c ≡ true → c ≡ Keep
+kept_arm Keep f g h e = refl
+kept_arm ToNull f g h e = absurd (f refl)
+kept_arm (ToBool b) f g h e = absurd (g b refl)
+kept_arm Negate f g h e = absurd (h refl)
+kept_arm Stay f g h e = absurd (false≢true e)
+kept_arm NoCase f g h e = absurd (false≢true e)
+kept_arm NoAccent f g h e = absurd (false≢true e)
 
 plainly : (b : Bool) (x y : ℕ) → pick (pick b true false) x y ≡ pick b x y
 plainly true x y = refl

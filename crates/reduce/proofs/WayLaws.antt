@@ -120,7 +120,7 @@ plain_null t = plain t null (λ z. omega arith) (λ z. omega arith) (λ z. omega
 
 one_comes : (o : Op) (t w : Tree) {c : Turn} → TurnOf (op_number o) (sort_of w) c → Comes t w → Comes (monadic o t) (turned c o w)
 unfolding turned
-one_comes o t w keeps h = let k = kept_sort_lem o w in record { from_str = λ z. absurd (k.no-str z); from_case = λ z. ap suc (k.case z); from_accent = λ z. ap suc (k.accent z) }
+one_comes o t w keeps h = let k = kept_sort_lem o w in record { from_str = λ z. absurd (k.no_str z); from_case = λ z. ap suc (k.case z); from_accent = λ z. ap suc (k.accent z) }
 one_comes o t w nulls h = plain_null (monadic o t)
 one_comes o t w (bools b) h = plain (monadic o t) (bool b) (bool_sort b 5 (omega arith)) (bool_sort b 7 (omega arith)) (bool_sort b 8 (omega arith))
 one_comes o t w (case_stays n a) h = record { from_str = λ z. absurd (let v : ⊥ = omega arith in v); from_case = λ z. ap suc n; from_accent = λ z. absurd (let v : ⊥ = omega arith in v) }
@@ -129,14 +129,14 @@ one_comes o t w (negates a) h = let k = minus_sort w in plain (monadic o t) (min
 one_comes o t w (case_joins n a) h =
     let k = flagged_sort and_case w in
     record {
-      from_str = λ z. let p = h.from-str a in (p.0, and_case p.1, case_chain o t p.0 p.1 n p.2);
+      from_str = λ z. let p = h.from_str a in (p.0, and_case p.1, case_chain o t p.0 p.1 n p.2);
       from_case = λ z. absurd (let v : ⊥ = omega arith in v);
       from_accent = λ z. absurd (let v : ⊥ = omega arith in v);
     }
 one_comes o t w (accent_joins n a) h =
     let k = flagged_sort and_accent w in
     record {
-      from_str = λ z. let p = h.from-str a in (p.0, and_accent p.1, accent_chain o t p.0 p.1 n p.2);
+      from_str = λ z. let p = h.from_str a in (p.0, and_accent p.1, accent_chain o t p.0 p.1 n p.2);
       from_case = λ z. absurd (let v : ⊥ = omega arith in v);
       from_accent = λ z. absurd (let v : ⊥ = omega arith in v);
     }
@@ -204,12 +204,12 @@ other_written o t v w e keeps = refl
 other_written o t v w e nulls = refl
 other_written o t v w e (bools b) = refl
 other_written o t v w e (negates a) = refl
-other_written o t v w e (case_stays n a) = absurd (no_twin o t 16 n (omega arith) (omega arith) ((comes t v e).from-case a) (no_way o t w).0)
-other_written o t v w e (accent_stays n a) = absurd (no_twin o t 17 n (omega arith) (omega arith) ((comes t v e).from-accent a) (no_way o t w).0)
+other_written o t v w e (case_stays n a) = absurd (no_twin o t 16 n (omega arith) (omega arith) ((comes t v e).from_case a) (no_way o t w).0)
+other_written o t v w e (accent_stays n a) = absurd (no_twin o t 17 n (omega arith) (omega arith) ((comes t v e).from_accent a) (no_way o t w).0)
 other_written o t v w e (case_joins n a) =
-    let p = (comes t v e).from-str a in not_text p.0 (and_case p.1) (sym (case_chain o t p.0 p.1 n p.2) ∙ (no_way o t w).1)
+    let p = (comes t v e).from_str a in not_text p.0 (and_case p.1) (sym (case_chain o t p.0 p.1 n p.2) ∙ (no_way o t w).1)
 other_written o t v w e (accent_joins n a) =
-    let p = (comes t v e).from-str a in not_text p.0 (and_accent p.1) (sym (accent_chain o t p.0 p.1 n p.2) ∙ (no_way o t w).1)
+    let p = (comes t v e).from_str a in not_text p.0 (and_accent p.1) (sym (accent_chain o t p.0 p.1 n p.2) ∙ (no_way o t w).1)
 
 pub negate_sort : (n a : ℕ) {c : Turn} → TurnOf n a c → c ≡ Negate → a ≡ 4
 negate_sort n a keeps e = let z : ◌≡◌ {A = ℕ} 0 1 = cc in absurd (omega arith)

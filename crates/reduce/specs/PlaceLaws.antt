@@ -121,7 +121,7 @@ mutual
       let h = both_true (no_interval ts) (everywhere_in in_place ts) i in
       let k = reduceds_stand ts p.0 h.1 p.1 in
       stands_as {t = function r ts} (same_tree p.2) (record {
-        in_place_lem = both_of (no_interval p.0) (everywhere_in in_place p.0) (k.alikes ∙ h.0) k.in-places;
+        in_place_lem = both_of (no_interval p.0) (everywhere_in in_place p.0) (k.alikes ∙ h.0) k.in_places;
         alike = refl;
         pair = λ h. h;
       })
@@ -130,7 +130,7 @@ mutual
       let h = both_true (no_interval ts) (everywhere_in in_place ts) i in
       let k = reduceds_stand ts p.0 h.1 p.1 in
       stands_as {t = array ts} (same_tree p.2) (record {
-        in_place_lem = both_of (no_interval p.0) (everywhere_in in_place p.0) (k.alikes ∙ h.0) k.in-places;
+        in_place_lem = both_of (no_interval p.0) (everywhere_in in_place p.0) (k.alikes ∙ h.0) k.in_places;
         alike = refl;
         pair = λ h. ap (λ (n : ℕ). eqb n 2) k.as_many ∙ h;
       })
@@ -160,7 +160,7 @@ mutual
       let x = reduced_stands t p.0 k.0 p.1 in
       let r = reduceds_stand ts q.0 k.1 q.1 in
       subst (λ (x : Trees). Items (t then ts) x) (same_tree q.2) (record {
-        in_places = both_of (inner p.0) (everywhere_in in_place q.0) x.in_place_lem r.in-places;
+        in_places = both_of (inner p.0) (everywhere_in in_place q.0) x.in_place_lem r.in_places;
         alikes = ap (λ (b : Bool). both (negated b) (no_interval q.0)) x.alike ∙ ap (λ (b : Bool). both (negated (is_interval t)) b) r.alikes;
         as_many = ap suc r.as_many;
       })

@@ -31,7 +31,7 @@ fn fold_leaf(s: &[u8], kind: usize, room: &mut [u8], at: usize) -> Folded
 }
 
 // A Monadic whose operand decides.
-#[cycle(fold_fold_dyadic_fold_items_fold_list_fold_monadic_fold_operand_fold_second)]
+#[cycle(folds)]
 fn fold_operand(s: &[u8], room: &mut [u8], at: usize) -> Folded
     requires { Placed s.now at room.old × (le16 s.now 4 ≡ MONADIC) }
     ensures { (o : Op) (t : Tree) (n : ℕ) → s.now ≡ encode (monadic o t) → Good t n → way_of o t ≡ Other → Folds at (monadic o t) room.old room.new result }
@@ -43,7 +43,7 @@ fn fold_operand(s: &[u8], room: &mut [u8], at: usize) -> Folded
     }
 }
 
-#[cycle(fold_fold_dyadic_fold_items_fold_list_fold_monadic_fold_operand_fold_second)]
+#[cycle(folds)]
 fn fold_monadic(s: &[u8], room: &mut [u8], at: usize) -> Folded
     requires { Placed s.now at room.old × (le16 s.now 4 ≡ MONADIC) }
     ensures { (t : Tree) (n : ℕ) → s.now ≡ encode t → Good t n → Folds at t room.old room.new result }
@@ -56,7 +56,7 @@ fn fold_monadic(s: &[u8], room: &mut [u8], at: usize) -> Folded
 }
 
 // The second operand of a Dyadic, from m on, the first being of this sort and place in time and ending at `from`.
-#[cycle(fold_fold_dyadic_fold_items_fold_list_fold_monadic_fold_operand_fold_second)]
+#[cycle(folds)]
 fn fold_second(
     s: &[u8],
     m: usize,
@@ -76,7 +76,7 @@ fn fold_second(
     }
 }
 
-#[cycle(fold_fold_dyadic_fold_items_fold_list_fold_monadic_fold_operand_fold_second)]
+#[cycle(folds)]
 fn fold_dyadic(s: &[u8], room: &mut [u8], at: usize) -> Folded
     requires { Placed s.now at room.old × (le16 s.now 4 ≡ DYADIC) }
     ensures { (t : Tree) (n : ℕ) → s.now ≡ encode t → Good t n → Folds at t room.old room.new result }
@@ -99,7 +99,7 @@ fn items_at(s: &[u8], kind: usize) -> usize
 }
 
 // Records one after the other.
-#[cycle(fold_fold_dyadic_fold_items_fold_list_fold_monadic_fold_operand_fold_second)]
+#[cycle(folds)]
 fn fold_list(s: &[u8], room: &mut [u8], at: usize) -> Folded
     requires { Row s.now at room.old }
     ensures { (ts : Trees) (n : ℕ) → s.now ≡ encodes ts → AllGood ts n → Lists at (reduceds ts) room.old room.new result }
@@ -120,7 +120,7 @@ fn fold_list(s: &[u8], room: &mut [u8], at: usize) -> Folded
 }
 
 // A Function, Array or Interval: its items, and then its length and kind.
-#[cycle(fold_fold_dyadic_fold_items_fold_list_fold_monadic_fold_operand_fold_second)]
+#[cycle(folds)]
 fn fold_items(s: &[u8], kind: usize, room: &mut [u8], at: usize) -> Folded
     requires { Placed s.now at room.old × (kind ≡ le16 s.now 4) × (FUNCTION ≤ kind) }
     ensures { (t : Tree) (n : ℕ) → s.now ≡ encode t → Good t n → Folds at t room.old room.new result }
@@ -137,7 +137,7 @@ fn fold_items(s: &[u8], kind: usize, room: &mut [u8], at: usize) -> Folded
 }
 
 // Reduces the record s and writes what comes of it at `at`, unless that is refused.
-#[cycle(fold_fold_dyadic_fold_items_fold_list_fold_monadic_fold_operand_fold_second)]
+#[cycle(folds)]
 pub(crate) fn fold(s: &[u8], room: &mut [u8], at: usize) -> Folded
     requires { Placed s.now at room.old }
     ensures { (t : Tree) (n : ℕ) → s.now ≡ encode t → Good t n → Folds at t room.old room.new result }

@@ -33,7 +33,7 @@ use record::{BODY, KIND};
 use tree::{ARRAY, DATE, FUNCTION, ID, MONADIC};
 
 // The items of a list, one after the other, with a comma between.
-#[cycle(to_sql_impl_write_between_write_bound_write_end_write_infix_write_items_write_monadic_write_operands_write_others_write_spatial)]
+#[cycle(nodes)]
 fn write_items(
     s: &[u8],
     set: &[u8],
@@ -57,7 +57,7 @@ fn write_items(
 }
 
 // An operator between its sides, each in brackets unless it is bare.
-#[cycle(to_sql_impl_write_between_write_bound_write_end_write_infix_write_items_write_monadic_write_operands_write_others_write_spatial)]
+#[cycle(nodes)]
 fn write_infix(
     s: &[u8],
     op: usize,
@@ -81,7 +81,7 @@ fn write_infix(
 }
 
 // A node of one operand.
-#[cycle(to_sql_impl_write_between_write_bound_write_end_write_infix_write_items_write_monadic_write_operands_write_others_write_spatial)]
+#[cycle(nodes)]
 fn write_monadic(
     s: &[u8],
     op: usize,
@@ -107,7 +107,7 @@ fn write_monadic(
 }
 
 // A bound of BETWEEN, or NULL where there is none.
-#[cycle(to_sql_impl_write_between_write_bound_write_end_write_infix_write_items_write_monadic_write_operands_write_others_write_spatial)]
+#[cycle(nodes)]
 fn write_bound(
     s: &[u8],
     a: usize,
@@ -128,7 +128,7 @@ fn write_bound(
 }
 
 // BETWEEN, whose right side is an array of its bounds.
-#[cycle(to_sql_impl_write_between_write_bound_write_end_write_infix_write_items_write_monadic_write_operands_write_others_write_spatial)]
+#[cycle(nodes)]
 fn write_between(
     s: &[u8],
     op: usize,
@@ -153,7 +153,7 @@ fn write_between(
 }
 
 // A spatial operator: a call, of whose sides one may have its precision reduced.
-#[cycle(to_sql_impl_write_between_write_bound_write_end_write_infix_write_items_write_monadic_write_operands_write_others_write_spatial)]
+#[cycle(nodes)]
 fn write_spatial(
     s: &[u8],
     op: usize,
@@ -182,7 +182,7 @@ fn write_spatial(
 }
 
 // The text of a node with operands that is not temporal.
-#[cycle(to_sql_impl_write_between_write_bound_write_end_write_infix_write_items_write_monadic_write_operands_write_others_write_spatial)]
+#[cycle(nodes)]
 fn write_others(
     s: &[u8],
     kind: usize,
@@ -210,7 +210,7 @@ fn write_others(
 }
 
 // An end that is no column. Most are dates, which are written where they are met, without a visit to the node.
-#[cycle(to_sql_impl_write_between_write_bound_write_end_write_infix_write_items_write_monadic_write_operands_write_others_write_spatial)]
+#[cycle(nodes)]
 fn write_end(
     s: &[u8],
     set: &[u8],
@@ -229,7 +229,7 @@ fn write_end(
 }
 
 // The text of a node with operands: of a temporal one its template filled.
-#[cycle(to_sql_impl_write_between_write_bound_write_end_write_infix_write_items_write_monadic_write_operands_write_others_write_spatial)]
+#[cycle(nodes)]
 fn write_operands(
     s: &[u8],
     set: &[u8],
@@ -281,7 +281,7 @@ fn write_operands(
 }
 
 // The text of a tree. A node and the items of its list are written by turns, each inside the other.
-#[cycle(to_sql_impl_write_between_write_bound_write_end_write_infix_write_items_write_monadic_write_operands_write_others_write_spatial)]
+#[cycle(nodes)]
 pub(crate) fn to_sql_impl(
     s: &[u8],
     set: &[u8],

@@ -182,7 +182,7 @@ item_back d s x i = from_nots d 0 s x (λ k b n q. go k b n q)
     go k b zero q = absurd (omega arith)
     go k b (suc zero) q = absurd (omega arith)
     go k b (suc (suc n)) q =
-        not_pass (suc n) d (tokens (s ++ k)) (i.no-not k b) ∙ (test_pass n d (tokens (s ++ k)) (i.no-open k b) ∙ i.reads k b)
+        not_pass (suc n) d (tokens (s ++ k)) (i.no_not k b) ∙ (test_pass n d (tokens (s ++ k)) (i.no_open k b) ∙ i.reads k b)
 
 close-kind : (k : List ℕ) → kind (tokens (bytes ")" ++ k)) ≡ CLOSE
 unfolding kind

@@ -187,7 +187,7 @@ pub reads_as : {writing : Writing} {t : Tree} {x row : List ℕ} {cs : List Colu
 unfolding reading_of decided kind
 reads_as {writing} {t} {x} {row} {cs} L f R =
     let p = parts L in
-    let q : reading.parse x ≡ grammar.got (filter_ast writing t) [] = parses_back 3 x (filter_ast writing t) (omega arith) (rw p.text-is (up 30 (filter-shown writing p.with depth_limit t f p.good))) in
+    let q : reading.parse x ≡ grammar.got (filter_ast writing t) [] = parses_back 3 x (filter_ast writing t) (omega arith) (rw p.text_is (up 30 (filter-shown writing p.with depth_limit t f p.good))) in
     rw (le-ltb text_limit (length x) p.short, le-ltb row_limit (length row) R.short, R.reads, q) (ap answered (filter-eval writing cs t))
 
 -- on a row that holds its columns no name is missing, so that the answer is true, false or unknown

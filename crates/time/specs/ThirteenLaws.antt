@@ -243,9 +243,9 @@ pub carried : {A B : Type 0} (h : A → B) (good bad : A) (f : Op → A) (g : Op
     → ExactlyOne good bad f → ExactlyOne (h good) (h bad) g
 carried h good bad f g e x = record {
   which = x.which;
-  among_them = x.among-them;
-  is_true = e x.which x.among-them ∙ ap h x.is_true;
-  others_false = λ q m d. e q m ∙ ap h (x.others-false q m d);
+  among_them = x.among_them;
+  is_true = e x.which x.among_them ∙ ap h x.is_true;
+  others_false = λ q m d. e q m ∙ ap h (x.others_false q m d);
 }
 
 -- Two intervals whose four ends are non-null, each start below its end.

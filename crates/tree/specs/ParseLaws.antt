@@ -356,15 +356,15 @@ module _ (n : ℕ) (low : 0 < n) (below : Body) (S : Sound (n - 1) below) where
 
 -- The table.
 
-infixr 40 ◌also◌
+infixr 40 ◌besides◌
 data AllSound (n : ℕ) : List Row → Type 0 where
   done : AllSound n []
-  ◌also◌ : {r : Row} {rs : List Row} → RowSound n r → AllSound n rs → AllSound n (r ∷ rs)
+  ◌besides◌ : {r : Row} {rs : List Row} → RowSound n r → AllSound n rs → AllSound n (r ∷ rs)
 
 choose_sound : (n : ℕ) (rs : List Row) → AllSound n rs → (k : ℕ) (s : List ℕ) (t : Tree) → Bytes s → choose k s rs ≡ got t → (record_of k s ≡ encode t) × Good t n
 unfolding choose
 choose_sound n [] done k s t h c = not_got BadKindOrOperator t c
-choose_sound n (r ∷ rs) (A also B) k s t h c =
+choose_sound n (r ∷ rs) (A besides B) k s t h c =
     ⊎_elim
     (λ w. let g = A s t h w.1 in (ap (λ (i : ℕ). record_of i s) (eqb-true k r.kind w.0) ∙ g.0, g.1))
     (λ w. choose_sound n rs B k s t h w.1)
@@ -374,20 +374,20 @@ kinds_sound : (n : ℕ) → 0 < n → (below : Body) → Sound (n - 1) below →
 unfolding kinds
 kinds_sound n l below S =
     leaf_sound n 0 empty_body (λ s. null) (null_sound n l)
-    also leaf_sound n 1 empty_body (λ s. unbounded) (unbounded_sound n l)
-    also leaf_sound n 2 bool_body (λ s. bool (eqb (get_or s 0 0) 1)) (bool_sound n l)
-    also leaf_sound n 3 num_body (λ s. num (mantissa s 0) (get_or s 8 0)) (num_sound n l)
-    also leaf_sound n 4 str_body (λ s. str (get_or s 0 0) (drop 1 s)) (str_sound n l)
-    also leaf_sound n 5 date_body (λ s. date (le16 s 0) (get_or s 2 0) (get_or s 3 0)) (date_sound n l)
-    also leaf_sound n 6 timestamp_body (λ s. timestamp (le16 s 0) (get_or s 2 0) (get_or s 3 0) (get_or s 4 0) (get_or s 5 0) (get_or s 6 0)) (timestamp_sound n l)
-    also leaf_sound n 7 spatial_body (λ s. spatial (le32 s 0) (drop 4 s)) (spatial_sound n l)
-    also leaf_sound n 8 name (λ s. id s) (id_sound n l)
-    also monadic_sound n l below S
-    also dyadic_sound n l below S
-    also function_sound n l below S
-    also array_sound n l below S
-    also interval_sound n l below S
-    also done
+    besides leaf_sound n 1 empty_body (λ s. unbounded) (unbounded_sound n l)
+    besides leaf_sound n 2 bool_body (λ s. bool (eqb (get_or s 0 0) 1)) (bool_sound n l)
+    besides leaf_sound n 3 num_body (λ s. num (mantissa s 0) (get_or s 8 0)) (num_sound n l)
+    besides leaf_sound n 4 str_body (λ s. str (get_or s 0 0) (drop 1 s)) (str_sound n l)
+    besides leaf_sound n 5 date_body (λ s. date (le16 s 0) (get_or s 2 0) (get_or s 3 0)) (date_sound n l)
+    besides leaf_sound n 6 timestamp_body (λ s. timestamp (le16 s 0) (get_or s 2 0) (get_or s 3 0) (get_or s 4 0) (get_or s 5 0) (get_or s 6 0)) (timestamp_sound n l)
+    besides leaf_sound n 7 spatial_body (λ s. spatial (le32 s 0) (drop 4 s)) (spatial_sound n l)
+    besides leaf_sound n 8 name (λ s. id s) (id_sound n l)
+    besides monadic_sound n l below S
+    besides dyadic_sound n l below S
+    besides function_sound n l below S
+    besides array_sound n l below S
+    besides interval_sound n l below S
+    besides done
 
 pub node_sound : (levels : ℕ) → Sound levels (node levels)
 unfolding node

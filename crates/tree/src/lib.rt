@@ -410,7 +410,7 @@ fn interval_one(t: Two) -> One
 }
 
 // An operator of one operand, and one record.
-#[cycle(check_dyadic_check_first_check_function_check_many_check_monadic_check_node_check_one_check_two)]
+#[cycle(checks)]
 fn check_monadic(s: &[u8], levels: usize) -> One
     ensures { result ≡ seen (read_monadic (node levels) s.now) }
 {
@@ -421,7 +421,7 @@ fn check_monadic(s: &[u8], levels: usize) -> One
 }
 
 // An operator of two operands, and two records.
-#[cycle(check_dyadic_check_first_check_function_check_many_check_monadic_check_node_check_one_check_two)]
+#[cycle(checks)]
 fn check_dyadic(s: &[u8], levels: usize) -> One
     ensures { result ≡ seen (read_dyadic (node levels) s.now) }
 {
@@ -432,7 +432,7 @@ fn check_dyadic(s: &[u8], levels: usize) -> One
 }
 
 // A name after its length byte, and records to the end.
-#[cycle(check_dyadic_check_first_check_function_check_many_check_monadic_check_node_check_one_check_two)]
+#[cycle(checks)]
 fn check_function(s: &[u8], levels: usize) -> One
     ensures { result ≡ seen (read_function (node levels) s.now) }
 {
@@ -445,7 +445,7 @@ fn check_function(s: &[u8], levels: usize) -> One
 }
 
 // What a record of this kind with the body s is; it and what is below it may be `levels` deep.
-#[cycle(check_dyadic_check_first_check_function_check_many_check_monadic_check_node_check_one_check_two)]
+#[cycle(checks)]
 fn check_node(kind: usize, s: &[u8], levels: usize) -> One
     ensures { result ≡ seen (node levels kind s.now) }
 {
@@ -471,7 +471,7 @@ fn check_node(kind: usize, s: &[u8], levels: usize) -> One
     }
 }
 
-#[cycle(check_dyadic_check_first_check_function_check_many_check_monadic_check_node_check_one_check_two)]
+#[cycle(checks)]
 fn check_first(s: &[u8], levels: usize) -> First
     ensures { result ≡ first_of (node levels) s.now }
 {
@@ -485,7 +485,7 @@ fn check_first(s: &[u8], levels: usize) -> First
 }
 
 // One record and no more.
-#[cycle(check_dyadic_check_first_check_function_check_many_check_monadic_check_node_check_one_check_two)]
+#[cycle(checks)]
 fn check_one(s: &[u8], levels: usize) -> One
     ensures { result ≡ seen_one (exactly (node levels) 1 s.now) }
 {
@@ -502,7 +502,7 @@ fn check_one(s: &[u8], levels: usize) -> One
 }
 
 // Two records and no more.
-#[cycle(check_dyadic_check_first_check_function_check_many_check_monadic_check_node_check_one_check_two)]
+#[cycle(checks)]
 fn check_two(s: &[u8], levels: usize) -> Two
     ensures { result ≡ seen_two (exactly (node levels) 2 s.now) }
 {
@@ -516,7 +516,7 @@ fn check_two(s: &[u8], levels: usize) -> Two
 }
 
 // Records to the end.
-#[cycle(check_dyadic_check_first_check_function_check_many_check_monadic_check_node_check_one_check_two)]
+#[cycle(checks)]
 fn check_many(s: &[u8], levels: usize) -> Items
     ensures { result ≡ seen_all (items (node levels) s.now) }
 {

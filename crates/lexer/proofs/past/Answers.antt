@@ -1,6 +1,5 @@
 -- `lexer::past` meets its contract: the run from i on ends where the run from `at` on ends.
 use mathlib.Core.Path.{refl, sym, ◌∙◌}
-use Prim.Native.Nat.{◌-◌}
 use native.Mathlib.Omega.{arith}
 use Rattle.lexer.specs.LexLaws.{run_go, run_stop, run_end}
 use Rattle.charset.specs.ClassWords.{class_byte}

@@ -23,20 +23,20 @@ returns-then-is_word-4 c = taken _ _ _ (sym c.is_word-4.ensures ∙ c.if-is_word
 
 pub returns-then-is_word-5 : goal.returns-then-is_word-5
 unfolding word_kind
-returns-then-is_word-5 c = taken _ _ _ (sym c.is_word-5.ensures ∙ c.if-is_word-5.true) ∙ passed _ _ _ (sym c.is_word-4.ensures ∙ c.if-is_word-4.false) ∙ passed _ _ _ (sym c.is_word-3.ensures ∙ c.if-is_word-3.false) ∙ passed _ _ _ (sym c.is_word-2.ensures ∙ c.if-is_word-2.false) ∙ passed _ _ _ (sym c.is_IsWord.ensures ∙ c.if1.false)
+returns-then-is_word-5 c = taken _ _ _ (sym c.is_word-5.ensures ∙ c.if-is_word-5.true) ∙ passed _ _ _ (sym c.is_word-4.ensures ∙ c.if-is_word-4.false) ∙ passed _ _ _ (sym c.is_word-3.ensures ∙ c.if-is_word-3.false) ∙ passed _ _ _ (sym c.is_word-2.ensures ∙ c.if-is_word-2.false) ∙ passed _ _ _ (sym c.is_word.ensures ∙ c.if-is_word.false)
 
 pub returns-then-is_word-6 : goal.returns-then-is_word-6
 unfolding word_kind
-returns-then-is_word-6 c = taken _ _ _ (sym c.is_word-6.ensures ∙ c.if-is_word-6.true) ∙ passed _ _ _ (sym c.is_word-5.ensures ∙ c.if-is_word-5.false) ∙ passed _ _ _ (sym c.is_word-4.ensures ∙ c.if-is_word-4.false) ∙ passed _ _ _ (sym c.is_word-3.ensures ∙ c.if-is_word-3.false) ∙ passed _ _ _ (sym c.is-word2.ensures ∙ c.if2.false) ∙ passed _ _ _ (sym c.is_IsWord.ensures ∙ c.if1.false)
+returns-then-is_word-6 c = taken _ _ _ (sym c.is_word-6.ensures ∙ c.if-is_word-6.true) ∙ passed _ _ _ (sym c.is_word-5.ensures ∙ c.if-is_word-5.false) ∙ passed _ _ _ (sym c.is_word-4.ensures ∙ c.if-is_word-4.false) ∙ passed _ _ _ (sym c.is_word-3.ensures ∙ c.if-is_word-3.false) ∙ passed _ _ _ (sym c.is_word-2.ensures ∙ c.if-is_word-2.false) ∙ passed _ _ _ (sym c.is_word.ensures ∙ c.if-is_word.false)
 
 pub returns-then-is_word-7 : goal.returns-then-is_word-7
 unfolding word_kind
-returns-then-is_word-7 c = taken _ _ _ (sym c.is_word-7.ensures ∙ c.if-is_word-7.true) ∙ passed _ _ _ (sym c.is_word-6.ensures ∙ c.if-is_word-6.false) ∙ passed _ _ _ (sym c.is_word-5.ensures ∙ c.if-is_word-5.false) ∙ passed _ _ _ (sym c.is_word-4.ensures ∙ c.if-is_word-4.false) ∙ passed _ _ _ (sym c.is-word3.ensures ∙ c.if3.false) ∙ passed _ _ _ (sym c.is-word2.ensures ∙ c.if2.false) ∙ passed _ _ _ (sym c.is_IsWord.ensures ∙ c.if1.false)
+returns-then-is_word-7 c = taken _ _ _ (sym c.is_word-7.ensures ∙ c.if-is_word-7.true) ∙ passed _ _ _ (sym c.is_word-6.ensures ∙ c.if-is_word-6.false) ∙ passed _ _ _ (sym c.is_word-5.ensures ∙ c.if-is_word-5.false) ∙ passed _ _ _ (sym c.is_word-4.ensures ∙ c.if-is_word-4.false) ∙ passed _ _ _ (sym c.is_word-3.ensures ∙ c.if-is_word-3.false) ∙ passed _ _ _ (sym c.is_word-2.ensures ∙ c.if-is_word-2.false) ∙ passed _ _ _ (sym c.is_word.ensures ∙ c.if-is_word.false)
 
 pub returns-then-is_free_word : goal.returns-then-is_free_word
 unfolding word_kind
-returns-then-is_free_word c = taken _ _ _ (free_name c.requires ∙ sym c.is_free_word.ensures ∙ c.if-is_free_word.true) ∙ passed _ _ _ (sym c.is_word-7.ensures ∙ c.if-is_word-7.false) ∙ passed _ _ _ (sym c.is_word-6.ensures ∙ c.if-is_word-6.false) ∙ passed _ _ _ (sym c.is_word-5.ensures ∙ c.if-is_word-5.false) ∙ passed _ _ _ (sym c.is_word-4.ensures ∙ c.if-is_word-4.false) ∙ passed _ _ _ (sym c.is-word3.ensures ∙ c.if3.false) ∙ passed _ _ _ (sym c.is-word2.ensures ∙ c.if2.false) ∙ passed _ _ _ (sym c.is_IsWord.ensures ∙ c.if1.false)
+returns-then-is_free_word c = taken _ _ _ (free_name c.requires ∙ sym c.is_free_word.ensures ∙ c.if-is_free_word.true) ∙ passed _ _ _ (sym c.is_word-7.ensures ∙ c.if-is_word-7.false) ∙ passed _ _ _ (sym c.is_word-6.ensures ∙ c.if-is_word-6.false) ∙ passed _ _ _ (sym c.is_word-5.ensures ∙ c.if-is_word-5.false) ∙ passed _ _ _ (sym c.is_word-4.ensures ∙ c.if-is_word-4.false) ∙ passed _ _ _ (sym c.is_word-3.ensures ∙ c.if-is_word-3.false) ∙ passed _ _ _ (sym c.is_word-2.ensures ∙ c.if-is_word-2.false) ∙ passed _ _ _ (sym c.is_word.ensures ∙ c.if-is_word.false)
 
 pub returns : goal.returns
 unfolding word_kind
-returns c = passed _ _ _ (free_name c.requires ∙ sym c.is_free_word.ensures ∙ c.if-is_free_word.false) ∙ passed _ _ _ (sym c.is_word-7.ensures ∙ c.if-is_word-7.false) ∙ passed _ _ _ (sym c.is_word-6.ensures ∙ c.if-is_word-6.false) ∙ passed _ _ _ (sym c.is_word-5.ensures ∙ c.if-is_word-5.false) ∙ passed _ _ _ (sym c.is_word-4.ensures ∙ c.if-is_word-4.false) ∙ passed _ _ _ (sym c.is-word3.ensures ∙ c.if3.false) ∙ passed _ _ _ (sym c.is-word2.ensures ∙ c.if2.false) ∙ passed _ _ _ (sym c.is_IsWord.ensures ∙ c.if1.false)
+returns c = passed _ _ _ (free_name c.requires ∙ sym c.is_free_word.ensures ∙ c.if-is_free_word.false) ∙ passed _ _ _ (sym c.is_word-7.ensures ∙ c.if-is_word-7.false) ∙ passed _ _ _ (sym c.is_word-6.ensures ∙ c.if-is_word-6.false) ∙ passed _ _ _ (sym c.is_word-5.ensures ∙ c.if-is_word-5.false) ∙ passed _ _ _ (sym c.is_word-4.ensures ∙ c.if-is_word-4.false) ∙ passed _ _ _ (sym c.is_word-3.ensures ∙ c.if-is_word-3.false) ∙ passed _ _ _ (sym c.is_word-2.ensures ∙ c.if-is_word-2.false) ∙ passed _ _ _ (sym c.is_word.ensures ∙ c.if-is_word.false)

@@ -1,0 +1,9 @@
+-- A Str of the same text has a record of the same head.
+use Rattle.reduce.proofs.WriteLaws.{str_written}
+use Rattle.reduce.proofs.records.put_str.Goals as goal
+
+pub returns : goal.returns
+returns c =
+    λ f x e h. str_written f _ _ x _ _ e h c.low.ensures
+    c.requires.1
+    c.requires.2 c.put_three-end.ensures
