@@ -54,6 +54,7 @@ pub fn valid_date(y: usize, m: usize, d: usize) -> bool
 }
 
 // A time of day, without leap seconds.
+#[tactic(auto, unfolding(crate::specs::Civil::valid_time))]
 pub fn valid_time(h: usize, m: usize, s: usize) -> bool
     ensures { result ≡ valid_time h m s }
 {

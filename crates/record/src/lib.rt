@@ -37,6 +37,7 @@ fn dword_in(s: &[u8], at: usize) -> usize
 }
 
 // The record at the front of s.
+#[tactic(auto, unfolding(crate::specs::Record::frame))]
 pub fn frame_at(s: &[u8]) -> Frame
     ensures { result ≡ frame s.now }
 {

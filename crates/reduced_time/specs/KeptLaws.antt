@@ -35,7 +35,7 @@ use Rattle.time.specs.FilterTruth.{tree_atom, end_atom, end_on, slot_at, cond_tr
 use Rattle.time.specs.Ogc.{ten}
 use Rattle.time.specs.InstantLaws.{date-instant}
 use Rattle.time.specs.OperatorLaws.{done, ◌also◌, among}
-use Rattle.time.specs.ConverseLaws.{predicate_truth}
+use Rattle.time.proofs.ConverseLaws.{predicate_truth}
 use Rattle.reduce.specs.Sort.{sort_of, key_of, key, null_sort, instant_sort, case_sort, accent_sort, other_sort}
 use Rattle.reduce.specs.Rules.{turn, meet, meet_and, meet_or, happens, is_logic}
 use Rattle.reduce.specs.Reduced.{turned, met, one_reduced, two_reduced, reduced}

@@ -13,6 +13,7 @@ pub enum Room {
 }
 
 // Whether a text of this length is within the limit of a text and the size of a buffer; else the refusal that comes first.
+#[tactic(auto, unfolding(crate::specs::Room::sized))]
 pub fn check(limit: usize, size: usize, length: usize) -> Room
     ensures { result ≡ sized Refused Enough limit size length }
 {

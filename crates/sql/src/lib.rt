@@ -299,6 +299,7 @@ fn t_starts_sql(a: bool, b: bool, e: [End; 4]) -> Template
 }
 
 // The template of a temporal operator, by the operator's number.
+#[tactic(auto, unfolding(crate::specs::Translators::translate))]
 pub fn temporal_sql(op: usize, a: bool, b: bool, e: [End; 4]) -> Template
     ensures { (held result ≡ template_of (translate op a b (columns e))) × (result.len ≤ 24) }
 {

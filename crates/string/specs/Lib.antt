@@ -4,6 +4,4 @@ pub mod Quote
 -- Words of private contracts.
 pub mod SequenceWords
 -- Laws.
-pub mod Utf8Laws
-pub mod SequenceLaws
 pub mod QuoteLaws

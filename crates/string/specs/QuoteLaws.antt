@@ -1,15 +1,14 @@
 -- Laws of specs/Quote.antt: what is doubled is undoubled again, and closed where it ends; where a text is closed, told from place to place.
 use Rattle.std.specs.Prelude.{ℕ, suc, ◌+◌, ◌≤◌, ◌<◌, ◌≡◌, refl, List, [], ◌∷◌, ◌++◌, Bool, true, false, eqb, ltb, length, get_or, take, drop}
-use Rattle.std.proofs.Common.{sym, ap, ◌∙◌, arith, add-one, drop_of_length-le, drop-cons, drop-drop, get_or-drop, eq-eqb, ne_eqb, eqb-true, ltb-true, ltb-false}
-use Rattle.std.proofs.lemmas.Bool.{false≢true, lt-leb}
+use Rattle.std.proofs.Common.{sym, ap, ◌∙◌, arith, add-one, drop_of_length-le, drop-cons, drop-drop, get_or-drop, eq-eqb, ne_eqb, ltb-true, ltb-false}
+use Rattle.std.proofs.lemmas.Bool.{false≢true}
 use Rattle.std.proofs.Math.ListN.{get_or-eq_default}
-use Rattle.prelude.specs.Choice.{pick, both, negated, some, all}
+use Rattle.prelude.specs.Choice.{pick, both, negated, all}
 use Rattle.prelude.specs.ChoiceLaws.{both_true}
 use Rattle.prelude.specs.Bytes.{apostrophe}
-use Rattle.string.specs.Utf8.{Range, within, sequences, goes_on, valid}
+use Rattle.string.specs.Utf8.{valid}
 use Rattle.string.specs.Quote.{doubled, undoubled, closing, quoted_size}
 use Rattle.string.specs.SequenceWords.{plain}
-use Rattle.string.specs.Utf8Laws.{plain_go}
 
 -- ---- the first byte
 
@@ -134,48 +133,6 @@ closing-doubled (b ∷ s) k f = go (eqb b apostrophe) refl (closing-doubled s k 
     go true e h = closing-cons b (b ∷ (doubled s ++ (apostrophe ∷ k))) ∙ simp e (let z : 2 + closing (doubled s ++ (apostrophe ∷ k)) ≡ suc (suc (length (doubled s))) = omega (arith, h) in z)
     go false e h = closing-cons b (doubled s ++ (apostrophe ∷ k)) ∙ simp e (let z : 1 + closing (doubled s ++ (apostrophe ∷ k)) ≡ suc (length (doubled s)) = omega (arith, h) in z)
 
--- and is valid exactly if it was: an apostrophe stands for itself, and is due after no other byte
-abbrev high : List Range → Bool
-high [] = true
-high (r ∷ d) = both (ltb apostrophe r.0) (high d)
-
-abbrev high_rows : List (Range × List Range) → Bool
-high_rows [] = true
-high_rows (row ∷ rows) = both (high row.1) (high_rows rows)
-
-all-high : high_rows sequences ≡ true
-unfolding sequences
-all-high = refl
-
-rows_alike : (b : ℕ) (s t : List ℕ) → ((d : List Range) → high d ≡ true → goes_on d s ≡ goes_on d t) → (rows : List (Range × List Range)) → high_rows rows ≡ true
-    → some (λ row. both (within row.0 b) (goes_on row.1 s)) rows ≡ some (λ row. both (within row.0 b) (goes_on row.1 t)) rows
-unfolding some
-rows_alike b s t f [] e = refl
-rows_alike b s t f (row ∷ rows) e =
-    let h = both_true (high row.1) (high_rows rows) e in
-    rw (f row.1 h.0, rows_alike b s t f rows h.1)
-
-goes_doubled : (s : List ℕ) (d : List Range) → high d ≡ true → goes_on d (doubled s) ≡ goes_on d s
-unfolding doubled goes_on
-goes_doubled [] d e = refl
-goes_doubled (b ∷ s) d e = go (eqb b apostrophe) refl d e (λ k h. goes_doubled s k h)
-  where
-    go : (c : Bool) → eqb b apostrophe ≡ c → (d : List Range) → high d ≡ true → ((d : List Range) → high d ≡ true → goes_on d (doubled s) ≡ goes_on d s)
-        → goes_on d (pick c (b ∷ (b ∷ doubled s)) (b ∷ doubled s)) ≡ goes_on d (b ∷ s)
-    go true q [] e f =
-        let p : plain b ≡ true = ap plain (eqb-true b apostrophe q) in
-        plain_go b (b ∷ doubled s) p ∙ plain_go b (doubled s) p ∙ f [] refl ∙ sym (plain_go b s p)
-    go true q (r ∷ d) e f =
-        let z : b ≡ apostrophe = eqb-true b apostrophe q in
-        let h = both_true (ltb apostrophe r.0) (high d) e in
-        simp (z, lt-leb r.0 apostrophe (ltb-true apostrophe r.0 h.0))
-    go false q [] e f = rows_alike b (doubled s) s f sequences all-high
-    go false q (r ∷ d) e f = let h = both_true (ltb apostrophe r.0) (high d) e in rw (f d h.1)
-
-pub valid-doubled : (s : List ℕ) → valid (doubled s) ≡ valid s
-unfolding valid
-valid-doubled s = goes_doubled s [] refl
-
 -- ---- strings without an apostrophe
 
 abbrev pub no_mark : ℕ → Bool
@@ -193,16 +150,9 @@ no_mark_doubled (b ∷ s) e =
     let h = both_true (no_mark b) (all no_mark s) e in
     rw (unnegate (eqb b apostrophe) h.0) (ap (λ (l : List ℕ). b ∷ l) (no_mark_doubled s h.1))
 
--- and of plain bytes they are valid
+-- and of plain bytes they are valid (`unmarked-valid`, proofs/ValidLaws.antt)
 abbrev pub unmarked : ℕ → Bool
 unmarked b = both (plain b) (no_mark b)
-
-pub unmarked-valid : (s : List ℕ) → all unmarked s ≡ true → valid s ≡ true
-unfolding all valid goes_on
-unmarked-valid [] e = refl
-unmarked-valid (b ∷ s) e =
-    let h = both_true (unmarked b) (all unmarked s) e in
-    plain_go b s (both_true (plain b) (no_mark b) h.0).0 ∙ unmarked-valid s h.1
 
 pub unmarked-doubled : (s : List ℕ) → all unmarked s ≡ true → doubled s ≡ s
 unfolding all

@@ -17,6 +17,7 @@ pub(crate) fn is_plain(b: u8) -> bool
 }
 
 // How many bytes follow the first byte b of a longer sequence; 0 if none begins with b.
+#[tactic(auto, unfolding(crate::specs::SequenceWords::more))]
 fn more_after(b: u8) -> usize
     ensures { (result ≡ more b) × (b < 256) }
 {

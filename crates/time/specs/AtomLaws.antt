@@ -1,6 +1,6 @@
 -- How names, quoted texts, NULL, comparisons and tests for NULL read: each printed test is an `Item` of ReadBackLaws.antt.
 -- A word ends where its run of name bytes ends, a quoted text at its closing mark; what follows is a break.
-use Rattle.std.specs.Prelude.{ℕ, suc, ◌+◌, ◌-◌, ◌<◌, ◌≡◌, refl, List, [], ◌∷◌, ◌++◌, Bool, true, false, eqb, length, get_or, take}
+use Rattle.std.specs.Prelude.{ℕ, suc, ◌+◌, ◌-◌, ◌≡◌, refl, List, [], ◌∷◌, ◌++◌, Bool, true, false, eqb, length, get_or, take}
 use Rattle.std.proofs.Common.{sym, ◌∙◌, subst, append_assoc, arith, length-append, eqb-true, ne_eqb}
 use Rattle.std.proofs.Math.Path.{ap}
 use Rattle.std.proofs.Math.Seq.{take-append_seam, drop-append_seam, get_or-append_seam, take-append-add, drop-append-add}
@@ -10,7 +10,8 @@ use Rattle.prelude.specs.ChoiceLaws.{both_true}
 use Rattle.charset.specs.Charset.{letter, digit, name_start, name_byte, name}
 use Rattle.string.specs.Utf8.{valid}
 use Rattle.string.specs.Quote.{doubled, undoubled, closing, quoted_size}
-use Rattle.string.specs.QuoteLaws.{undoubled-doubled, closing-doubled, valid-doubled, unmarked, unmarked-valid, unmarked-doubled}
+use Rattle.string.specs.QuoteLaws.{undoubled-doubled, closing-doubled, unmarked, unmarked-doubled}
+use Rattle.string.proofs.ValidLaws.{valid-doubled, unmarked-valid}
 use Rattle.keyword.specs.Keywords.{keywords}
 use Rattle.word.specs.Case.{upper, uppers}
 use Rattle.keyword.specs.Reserved.{reserved, reserved_words}

@@ -1,6 +1,6 @@
 -- A temporal predicate's condition reads back as the same condition over atoms, and that has the condition's truth.
 -- Each translator is put together from `Prints`; the ends are four atoms, and a guarded end is a column.
-use Rattle.std.specs.Prelude.{ℕ, suc, ◌+◌, ◌<◌, ◌≡◌, Bool, eqb}
+use Rattle.std.specs.Prelude.{ℕ, suc, ◌<◌, ◌≡◌, Bool, eqb}
 use Rattle.std.proofs.Math.Path.{refl, ap, subst}
 use Rattle.std.proofs.Common.{sym, arith}
 use mathlib.Core.List.{List, ◌++◌, append_assoc}

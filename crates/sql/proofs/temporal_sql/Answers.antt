@@ -3,62 +3,6 @@ use Rattle.sql.specs.Translators.{translate}
 use borrow.Author.Tests.{ne_eqb}
 use Rattle.sql.proofs.temporal_sql.Goals as goal
 
-pub returns-in-26 : goal.returns-in-26
-unfolding translate
-returns-in-26 c = rw c.in-26.is (c.t_after_sql.ensures.0, omega arith)
-
-pub returns-in-27 : goal.returns-in-27
-unfolding translate
-returns-in-27 c = rw c.in-27.is (c.t_before_sql.ensures.0, omega arith)
-
-pub returns-in-28 : goal.returns-in-28
-unfolding translate
-returns-in-28 c = rw c.in-28.is (c.t_contains_sql.ensures.0, omega arith)
-
-pub returns-in-29 : goal.returns-in-29
-unfolding translate
-returns-in-29 c = rw c.in-29.is (c.t_disjoint_sql.ensures.0, omega arith)
-
-pub returns-in-30 : goal.returns-in-30
-unfolding translate
-returns-in-30 c = rw c.in-30.is (c.t_during_sql.ensures.0, omega arith)
-
-pub returns-in-31 : goal.returns-in-31
-unfolding translate
-returns-in-31 c = rw c.in-31.is (c.t_equals_sql.ensures.0, omega arith)
-
-pub returns-in-32 : goal.returns-in-32
-unfolding translate
-returns-in-32 c = rw c.in-32.is (c.t_finished_by_sql.ensures.0, omega arith)
-
-pub returns-in-33 : goal.returns-in-33
-unfolding translate
-returns-in-33 c = rw c.in-33.is (c.t_finishes_sql.ensures.0, omega arith)
-
-pub returns-in-34 : goal.returns-in-34
-unfolding translate
-returns-in-34 c = rw c.in-34.is (c.t_intersects_sql.ensures.0, omega arith)
-
-pub returns-in-35 : goal.returns-in-35
-unfolding translate
-returns-in-35 c = rw c.in-35.is (c.t_meets_sql.ensures.0, omega arith)
-
-pub returns-in-36 : goal.returns-in-36
-unfolding translate
-returns-in-36 c = rw c.in-36.is (c.t_met_by_sql.ensures.0, omega arith)
-
-pub returns-in-37 : goal.returns-in-37
-unfolding translate
-returns-in-37 c = rw c.in-37.is (c.t_overlapped_by_sql.ensures.0, omega arith)
-
-pub returns-in-38 : goal.returns-in-38
-unfolding translate
-returns-in-38 c = rw c.in-38.is (c.t_overlaps_sql.ensures.0, omega arith)
-
-pub returns-in-39 : goal.returns-in-39
-unfolding translate
-returns-in-39 c = rw c.in-39.is (c.t_started_by_sql.ensures.0, omega arith)
-
 pub returns-in_default : goal.returns-in_default
 unfolding translate
 returns-in_default c = simp (ne_eqb _ _ c.in_default.in_default-own.rest.0.0.0.0.0.0.0.0.0.0.0.0.0.1, ne_eqb _ _ c.in_default.in_default-own.rest.0.0.0.0.0.0.0.0.0.0.0.0.1, ne_eqb _ _ c.in_default.in_default-own.rest.0.0.0.0.0.0.0.0.0.0.0.1, ne_eqb _ _ c.in_default.in_default-own.rest.0.0.0.0.0.0.0.0.0.0.1, ne_eqb _ _ c.in_default.in_default-own.rest.0.0.0.0.0.0.0.0.0.1, ne_eqb _ _ c.in_default.in_default-own.rest.0.0.0.0.0.0.0.0.1, ne_eqb _ _ c.in_default.in_default-own.rest.0.0.0.0.0.0.0.1, ne_eqb _ _ c.in_default.in_default-own.rest.0.0.0.0.0.0.1, ne_eqb _ _ c.in_default.in_default-own.rest.0.0.0.0.0.1, ne_eqb _ _ c.in_default.in_default-own.rest.0.0.0.0.1, ne_eqb _ _ c.in_default.in_default-own.rest.0.0.0.1, ne_eqb _ _ c.in_default.in_default-own.rest.0.0.1, ne_eqb _ _ c.in_default.in_default-own.rest.0.1, ne_eqb _ _ c.in_default.in_default-own.rest.1) (c.t_starts_sql.ensures.0, omega arith)

@@ -3,7 +3,7 @@ use mathlib.Core.Path.{sym, ap, ◌∙◌}
 use native.Mathlib.Omega.{arith}
 use Prim.Native.Nat.{ℕ}
 use lib.Dec.{eqb}
-use Rattle.string.specs.SequenceLaws.{end-valid, one_tells}
+use Rattle.string.proofs.SequenceLaws.{end-valid, one_tells}
 use Rattle.string.proofs.is_valid.Goals as goal
 
 pub returns-then-i-s : goal.returns-then-i-s

@@ -1,14 +1,14 @@
 -- `string::past_sequences` meets its contract: the loop keeps that the string is read up to i; each `return` is a law of where it stops.
-use Prim.Native.Nat.{◌+◌, ◌-◌}
+use Prim.Native.Nat.{◌+◌}
 use mathlib.Core.Path.{◌≡◌, sym, ◌∙◌}
 use mathlib.Core.Bool.{true}
 use native.Mathlib.Omega.{arith}
 use lib.Dec.{eqb}
 use lib.ListN.{get_or}
-use borrow.Author.Tests.{eqb-true, eqb-false, not-true, not-false}
+use borrow.Author.Tests.{eqb-true, eqb-false}
 use Rattle.prelude.specs.Bytes.{apostrophe}
 use Rattle.string.specs.QuoteLaws.{mark_inside}
-use Rattle.string.specs.SequenceLaws.{reaches_then, heads_some, heads_none, simple_passes, marks_quoted, other_bytes, pair_passes, bad_told, closed_told, end-told, valid-told}
+use Rattle.string.proofs.SequenceLaws.{reaches_then, heads_some, heads_none, simple_passes, marks_quoted, other_bytes, pair_passes, bad_told, closed_told, end-told, valid-told}
 use Rattle.string.proofs.past_sequences.Goals as goal
 
 pub loop-i-init : goal.loop-i-init

@@ -1,8 +1,6 @@
 -- `string::past_simple` meets its contract: the loop keeps that the string is read up to i.
-use Prim.Native.Nat.{◌-◌}
 use mathlib.Core.Path.{sym, ◌∙◌}
-use borrow.Author.Tests.{not-false}
-use Rattle.string.specs.SequenceLaws.{reaches_start, reaches_then, simple_passes}
+use Rattle.string.proofs.SequenceLaws.{reaches_start, reaches_then, simple_passes}
 use Rattle.string.proofs.past_simple.Goals as goal
 
 pub loop-i-init : goal.loop-i-init

@@ -1,8 +1,8 @@
 -- `string::quoted_size` meets its contract: a text that the first simple bytes do not decide is told by the rest.
 use mathlib.Core.Path.{refl, sym, ◌∙◌}
 use native.Mathlib.Omega.{arith}
-use borrow.Author.Tests.{eqb-false, not-true}
-use Rattle.string.specs.SequenceLaws.{end-quoted, closed_quoted}
+use borrow.Author.Tests.{eqb-false}
+use Rattle.string.proofs.SequenceLaws.{end-quoted, closed_quoted}
 use Rattle.string.proofs.quoted_size.Goals as goal
 
 pub returns-then-i-s : goal.returns-then-i-s

@@ -2,9 +2,8 @@
 use mathlib.Core.Path.{sym, ◌∙◌}
 use native.Mathlib.Omega.{arith}
 use Prim.Native.Nat.{◌-◌}
-use borrow.Author.Tests.{not-true, not-false}
 use Rattle.string.specs.SequenceWords.{tails}
-use Rattle.string.specs.SequenceLaws.{more_most, none_heads, cut_heads, second_fails, second_passes, later_passes, third_fails, fourth_fails}
+use Rattle.string.proofs.SequenceLaws.{more_most, none_heads, cut_heads, second_fails, second_passes, later_passes, third_fails, fourth_fails}
 use Rattle.string.proofs.sequence.sequence_at.Goals as goal
 
 pub returns-then-more-eq0 : goal.returns-then-more-eq0

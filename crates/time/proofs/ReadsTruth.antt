@@ -41,7 +41,7 @@ use Rattle.time.specs.FilterTruth.{tree_atom, end_atom, value_on, end_on, found,
 use Rattle.time.specs.Accepted.{Lowers, IsRow}
 use Rattle.time.specs.TruthLaws.{end_on_lem, value_found}
 use Rattle.time.specs.ReadBackLaws.{Prints, parses_back}
-use Rattle.time.specs.FilterReadsLaws.{filter_ast, filter-eval, filter-shown, deeper}
+use Rattle.time.proofs.FilterReadsLaws.{filter_ast, filter-eval, filter-shown, deeper}
 
 -- What an accepted filter is; the planner, too, accepts what another caller does.
 pub record Parts (writing : Writing) (t : Tree) (x : List ℕ) : Type 0 where

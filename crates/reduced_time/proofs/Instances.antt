@@ -13,14 +13,14 @@ use Rattle.truth.specs.Reading.{answered, reading_of}
 use Rattle.time.specs.Accepted.{Lowers}
 use Rattle.time.specs.Filter.{time_filter}
 use Rattle.time.specs.FilterTruth.{truth_on}
-use Rattle.time.specs.ReadsTruth.{reads_as}
-use Rattle.time.specs.Instances.{room, lowers_within, lowers_by, a, columns_null, is-row_null, row_null, columns_d, is-row_d, row_d, sql, columns_timestamp, is-row_timestamp, row_timestamp, midnight}
+use Rattle.time.proofs.ReadsTruth.{reads_as}
+use Rattle.time.proofs.Instances.{room, lowers_within, lowers_by, a, columns_null, is-row_null, row_null, columns_d, is-row_d, row_d, sql, columns_timestamp, is-row_timestamp, row_timestamp, midnight}
 use Rattle.reduce.specs.Sort.{sort_of, key_of}
 use Rattle.reduce.specs.Rules.{turn, meet, meet_and, meet_other, happens}
 use Rattle.reduce.specs.Reduced.{turned, met, one_reduced, two_reduced, reduced}
 use Rattle.reduce.specs.Reducing.{fitted, reducing}
 use Rattle.reduced_time.specs.Hypotheses.{lacks, without_null, of_one_width}
-use Rattle.reduced_time.specs.TruthKept.{reducing-reads}
+use Rattle.reduced_time.proofs.TruthKept.{reducing-reads}
 use Rattle.reduced_time.specs.Examples.{lone_null, mixed}
 use Rattle.prelude.specs.Choice as prelude-choice
 use Rattle.record.specs.Record as record-record

@@ -40,10 +40,10 @@ use Rattle.time.specs.Filter.{is_operand, is_end, time_filter}
 use Rattle.time.specs.FilterTruth.{tree_atom, end_atom, value_on, end_on, holds, cond_truth, temporal_truth, truth_on, is_value, columns_non_null, lies_below, proper}
 use Rattle.time.specs.Converse.{converse, Turned, turn, in_both, in_neg}
 use Rattle.time.specs.Claims.{ExactlyOne}
-use Rattle.time.specs.ConverseLaws.{turned_truth}
-use Rattle.time.specs.ComplementLaws.{disjoint_intersects}
-use Rattle.time.specs.ThirteenLaws.{exactly_one}
-use Rattle.time.specs.OgcLaws.{ogc_agrees}
+use Rattle.time.proofs.ConverseLaws.{turned_truth}
+use Rattle.time.proofs.ComplementLaws.{disjoint_intersects}
+use Rattle.time.proofs.ThirteenLaws.{exactly_one}
+use Rattle.time.proofs.OgcLaws.{ogc_agrees}
 use Rattle.time.specs.Ogc.{earlier, same_moment, ogc, begins_date, goes_on_time, goes_on_milliseconds, ten, nineteen, twenty_four, is_instant, fields, instants, is_point, is_start, is_stop, ogc_operand, moment_on, ogc_on}
 
 -- Columns a, b, c, d, and values.

@@ -15,7 +15,7 @@ use Rattle.prelude.specs.Bytes.{apostrophe}
 use Rattle.string.specs.Utf8.{Range, within, goes_on, valid}
 use Rattle.string.specs.Quote.{closing, quoted_size}
 use Rattle.string.specs.SequenceWords.{plain, more, lowest, highest, tails, due, Passes, Open, Heads, Reaches}
-use Rattle.string.specs.Utf8Laws.{plain_go, lead_go, lead_none, short}
+use Rattle.string.proofs.Utf8Laws.{plain_go, lead_go, lead_none, short}
 use Rattle.string.specs.QuoteLaws.{at_place, closing_go, closing-pair, closing_stop, closing_end}
 
 -- one step after the other

@@ -36,11 +36,11 @@ use Rattle.time.specs.Ogc.{Width, is_start, is_stop, is_point, writing_of, insta
 use Rattle.time.specs.Accepted.{Lowers, IsRow}
 use Rattle.time.specs.Claims.{Alike, both_yes, both_no, both_unknown, Opposite, ExactlyOne, Demand3}
 use Rattle.time.specs.OperatorLaws.{AllOf, done, ◌also◌, among, of_temporal}
-use Rattle.time.specs.ConverseLaws.{turned_truth, converse_temporal, predicate_truth}
-use Rattle.time.specs.ComplementLaws.{complement-readings}
-use Rattle.time.specs.ThirteenLaws as laws
-use Rattle.time.specs.OgcLaws.{start_is_end, point_start, stop_start, ogc_agrees}
-use Rattle.time.specs.ReadsTruth.{parts, known, reads_as, reads_truth}
+use Rattle.time.proofs.ConverseLaws.{turned_truth, converse_temporal, predicate_truth}
+use Rattle.time.proofs.ComplementLaws.{complement-readings}
+use Rattle.time.proofs.ThirteenLaws as laws
+use Rattle.time.proofs.OgcLaws.{start_is_end, point_start, stop_start, ogc_agrees}
+use Rattle.time.proofs.ReadsTruth.{parts, known, reads_as, reads_truth}
 
 -- a temporal predicate is a time filter if its operands are operands
 predicate_filter : (t u : Tree) (o : Op) → is_temporal o ≡ true → time_filter (dyadic o t u) ≡ both (is_operand t) (is_operand u)

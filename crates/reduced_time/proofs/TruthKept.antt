@@ -23,7 +23,7 @@ use Rattle.row.specs.Row.{Column}
 use Rattle.truth.specs.Reading.{answered, reading_of}
 use Rattle.time.specs.Filter.{time_filter}
 use Rattle.time.specs.Accepted.{Lowers, IsRow}
-use Rattle.time.specs.ReadsTruth.{parts, reads_as}
+use Rattle.time.proofs.ReadsTruth.{parts, reads_as}
 use Rattle.reduce.specs.Reduced.{reduced}
 use Rattle.reduce.specs.Reducing.{reducing}
 use Rattle.reduce.specs.ReducedLaws.{same_tree}

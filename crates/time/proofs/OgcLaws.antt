@@ -38,7 +38,7 @@ use Rattle.time.specs.FilterTruth.{found, holds, tree_atom, end_atom, value_on, 
 use Rattle.time.specs.Ogc.{Moment, open_start, moment, open_end, earlier, same_moment, ogc, Width, ten, nineteen, twenty_four, is_instant, fields, writing_of, written, written_fields, is_instant_value, instants, is_point, is_start, is_stop, ogc_operand, moment_of, moment_on, ogc_on}
 use Rattle.time.specs.OperatorLaws.{done, ◌also◌, of_temporal}
 use Rattle.time.specs.TruthLaws.{and3-known, or3-known, not3-known, orders, gt_lt, guard, guard_passes, check_id_lem, check_ids_lem}
-use Rattle.time.specs.ComplementLaws.{ne_eq}
+use Rattle.time.proofs.ComplementLaws.{ne_eq}
 use Rattle.time.specs.InstantLaws.{fields-order, open_below, open_above, date-instant, date-fields, timestamp-instant, timestamp-fields}
 
 -- A value and the moment that it stands for.

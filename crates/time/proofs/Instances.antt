@@ -27,8 +27,8 @@ use Rattle.time.specs.Filter.{time_filter, is_operand}
 use Rattle.time.specs.FilterTruth.{holds, truth_on, columns_non_null, proper}
 use Rattle.time.specs.Ogc.{ten, twenty_four, instants, ogc_operand, ogc_on}
 use Rattle.time.specs.OperatorLaws.{AllOf, done, ◌also◌, among}
-use Rattle.time.specs.ReadsTruth.{reads_truth}
-use Rattle.time.specs.Theorems.{converse-reads, complement_reads, exactly_one_reads, agrees_with_ogc}
+use Rattle.time.proofs.ReadsTruth.{reads_truth}
+use Rattle.time.proofs.Theorems.{converse-reads, complement_reads, exactly_one_reads, agrees_with_ogc}
 use Rattle.prelude.specs.Choice as prelude-choice
 use Rattle.record.specs.Record as record-record
 use Rattle.charset.specs.Charset as charset-charset

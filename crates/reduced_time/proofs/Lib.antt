@@ -1,0 +1,3 @@
+-- The theorem, and at work on bytes.
+pub mod TruthKept
+pub mod Instances
