@@ -1,16 +1,17 @@
 /* wenduulig.h: the SQL text of a CQL2 filter for a GeoPackage, as it is or reduced first, and what a time filter's text says of a
  * row.
  *
- * Build and link:   rt staticlib capi
+ * Build and link:   tools/build/archive capi
  *                   cc -Iinclude your.c target/staticlib/libcapi.a
  * For the controller's four functions alone, in its place:
- *                   rt staticlib controller_capi
+ *                   tools/build/archive controller_capi
  *                   cc -Iinclude your.c target/staticlib/libcontroller_capi.a
  * The libraries are for x86-64 Linux; a program links one of them.
  *
  * Settings, trees and rows are handed in as the records below. Any bytes may be handed in: what breaks a rule is refused
  * by a number and never read out of bounds. The ten functions are proved to give the numbers and bytes below on all
- * inputs (crates/capi, crates/controller_capi, crates/gpkg, crates/controller, crates/reduce, crates/truth).
+ * inputs (crates/capi_c and crates/controller_capi_c, over crates/capi, crates/controller_capi, crates/gpkg, crates/controller,
+ * crates/reduce, crates/truth).
  *
  * Two of them write for the planner. They take the same arguments and refuse by the same rules: 1 to 7 the same inputs, 8 and
  * 9 by the bytes of the text that the call writes. Their texts differ in two things alone. Timestamps, wherever they stand:

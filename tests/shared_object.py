@@ -16,7 +16,7 @@ def run(caller, *words):
 
 def archive(caller, crate=ALL):
     """The static library's path, after it was proved and built as the crates stand. The caller's name stands before what went wrong."""
-    run(caller, os.path.join(ROOT, 'tools', 'cql2', 'rt'), 'staticlib', crate)
+    run(caller, os.path.join(ROOT, 'tools', 'build', 'archive'), crate)
     return os.path.join(ROOT, 'target', 'staticlib', 'lib%s.a' % crate)
 
 

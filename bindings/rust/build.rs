@@ -1,5 +1,5 @@
 //! Links libcapi.a: the one that WENDUULIG_LIB names, else target/staticlib/libcapi.a of this repository, built by
-//! `rt staticlib capi` if it is not there or older than crates/.
+//! `tools/build/archive capi` if it is not there or older than crates/.
 use std::env;
 use std::fs;
 use std::io;
@@ -21,29 +21,39 @@ fn expect_target() {
 }
 
 fn build(repository: &Path) {
-    println!("cargo:warning=proving and building target/staticlib/libcapi.a by `rt staticlib capi`");
-    // tools/cql2/rt runs one rt at a time on target/; it needs python3, which a machine with the kit may lack.
-    let args = ["staticlib", "capi"];
-    let alone = Command::new("python3").arg("tools/cql2/rt").args(args).current_dir(repository).output();
-    let log = match alone.or_else(|_| Command::new("rt").args(args).current_dir(repository).output()) {
+    println!("cargo:warning=proving and building target/staticlib/libcapi.a by `tools/build/archive capi`");
+    let log = match Command::new("python3").args(["tools/build/archive", "capi"]).current_dir(repository).output() {
         Ok(log) => log,
-        Err(e) => fail(&format!("`rt staticlib capi` did not start ({e}); install the Rattle kit, or set WENDUULIG_LIB to the path of libcapi.a")),
+        Err(e) => fail(&format!(
+            "python3 did not start ({e}); install it and the Rattle kit, or set WENDUULIG_LIB to the path of libcapi.a"
+        )),
     };
     if !log.status.success() {
-        fail(&format!("`rt staticlib capi` failed: {}", String::from_utf8_lossy(&log.stderr)));
+        fail(&format!("`tools/build/archive capi` failed: {}", String::from_utf8_lossy(&log.stderr)));
     }
 }
 
-/// Whether a file or folder under `folder` changed after `time`; a folder changes when a file in it is added or removed.
-fn newer(folder: &Path, time: SystemTime) -> io::Result<bool> {
-    if fs::metadata(folder)?.modified()? > time {
+/// The folders of every crate that hold what is built and proved; `rt` keeps its own work in out/ beside them.
+fn sources(crates: &Path) -> io::Result<Vec<PathBuf>> {
+    let mut found = Vec::new();
+    for entry in fs::read_dir(crates)? {
+        let folder = entry?.path();
+        found.extend(["src", "specs", "proofs"].map(|part| folder.join(part)).into_iter().filter(|path| path.is_dir()));
+    }
+    Ok(found)
+}
+
+/// Whether a file or folder, or one in it, changed after `time`; a folder changes when a file in it is added or removed.
+fn newer(path: &Path, time: SystemTime) -> io::Result<bool> {
+    let data = fs::metadata(path)?;
+    if data.modified()? > time {
         return Ok(true);
     }
-    for entry in fs::read_dir(folder)? {
-        let path = entry?.path();
-        let changed = if path.is_dir() { newer(&path, time)? } else { fs::metadata(&path)?.modified()? > time };
-        if changed {
-            return Ok(true);
+    if data.is_dir() {
+        for entry in fs::read_dir(path)? {
+            if newer(&entry?.path(), time)? {
+                return Ok(true);
+            }
         }
     }
     Ok(false)
@@ -57,10 +67,14 @@ fn library() -> PathBuf {
     let here = PathBuf::from(env::var_os("CARGO_MANIFEST_DIR").expect("cargo sets CARGO_MANIFEST_DIR"));
     let repository = here.join("../..");
     let path = repository.join("target/staticlib/libcapi.a");
-    let crates = repository.join("crates");
-    println!("cargo:rerun-if-changed={}", crates.display());
     let built = fs::metadata(&path).and_then(|data| data.modified());
-    if built.and_then(|time| newer(&crates, time)).unwrap_or(true) {
+    let mut parts = sources(&repository.join("crates")).unwrap_or_default();
+    parts.push(repository.join("crates.txt"));
+    for part in &parts {
+        println!("cargo:rerun-if-changed={}", part.display());
+    }
+    let old = |time| parts.iter().any(|part| newer(part, time).unwrap_or(true));
+    if built.map_or(true, old) {
         build(&repository);
     }
     path

@@ -1,4 +1,5 @@
-"""The proved programs `lower` and `read`: built by `rt` where that is needed, one build at a time, and run on many cases at once."""
+"""The proved programs `lower` and `read`, and the libraries for C: built by `rt` where that is needed, one build at a time; the programs run on many cases
+at once."""
 import os
 import re
 import shutil
@@ -15,50 +16,77 @@ ROOT = os.path.abspath(os.path.join(os.path.dirname(os.path.abspath(__file__)), 
 
 
 def path_of(name):
-    return os.path.join(ROOT, 'target', 'bin', name)
+    return os.path.join(ROOT, stamps.program(name).path)
 
 
 def build(names):
     """Has `rt` prove and build the programs where they are not built from the crates as they stand: minutes after a fresh clone."""
+    make([stamps.program(name) for name in names], 'the proved program is')
+
+
+def build_archives(names):
+    """The same of the libraries for C with the calls of these crates."""
+    make([stamps.archive(name) for name in names], 'the library is')
+
+
+def make(wanted, told):
     if shutil.which(stamps.command()[0]) is None:
-        if all(os.access(path_of(name), os.X_OK) for name in names):
+        if all(os.access(os.path.join(ROOT, made.path), os.R_OK) for made in wanted):
             return
-        raise BadInput('the proved program is not built, and `rt` of the Rattle kit is not on the PATH')
-    if stamps.built(ROOT, names):
+        raise BadInput('%s not built, and `rt` of the Rattle kit is not on the PATH' % told)
+    left = [made for made in wanted if not stamps.built(ROOT, made)]
+    if not left:
         return
-    check_writable('rt check ' + ' '.join(names))
+    for made in left:
+        check_writable(made, told)
     with locking.held(ROOT):
-        if stamps.built(ROOT, names):
-            return    # whoever held the lock has built them
-        status, last = locking.run([*stamps.command(), 'check', *names], ROOT, lambda output: follow(output, len(stamps.needed(ROOT, names))))
+        for made in left:
+            if not stamps.built(ROOT, made):    # else whoever held the lock has built it
+                make_one(made)
+
+
+def make_one(made):
+    """Has `rt` prove the crate and all below it, and build it; what it leaves is copied, and the stamp is kept, unless a file changed meanwhile."""
+    stamp, folder = stamps.stamp(ROOT, made), os.path.join(ROOT, 'crates', made.crate)
+    status, last = locking.run([*stamps.command(), made.word], folder, follow)
     if status != 0:
-        raise BadInput('`rt check %s` failed: %s' % (' '.join(names), last))
+        raise BadInput('`rt %s` in crates/%s failed: %s' % (made.word, made.crate, last))
+    path = os.path.join(ROOT, made.path)
+    os.makedirs(os.path.dirname(path), exist_ok=True)
+    shutil.copy(os.path.join(folder, made.left), path + '.new')
+    os.replace(path + '.new', path)    # one that runs goes on
+    if stamp == stamps.stamp(ROOT, made):
+        stamps.keep(ROOT, made, stamp)
 
 
-def check_writable(words):
+def check_writable(made, told):
     """Before a build: one line, where `rt` would fail at every step."""
     target = os.path.join(ROOT, 'target')
-    parts = [os.path.join(target, part) for part in ('bin', 'log', 'obj', 'rlib', 'stamp')]
-    for path in [target] + parts if os.path.isdir(target) else [ROOT]:
-        if os.path.exists(path) and not os.access(path, os.W_OK | os.X_OK):
-            raise BadInput('the proved programs are not built from the crates as they stand, and you may not write %s; '
-                           'have its owner run `%s` there' % (path, words))
+    folders = [target, os.path.join(target, 'stamp'), os.path.dirname(os.path.join(ROOT, made.path))]
+    folders += [os.path.join(ROOT, 'crates', name, 'out') for name in stamps.needed(ROOT, made.crate)]
+    for path in folders:
+        path = path if os.path.isdir(path) else os.path.dirname(path)
+        if os.path.isdir(path) and not os.access(path, os.W_OK | os.X_OK):
+            raise BadInput('%s not built from the crates as they stand, and you may not write %s; have its owner run `%s` there'
+                           % (told, path, made.tool))
 
 
-def follow(output, total):
+def follow(output):
     """Shows a line for each crate that is proved anew, and on a terminal how long it has been going; gives the last line."""
-    started, done, last = time.monotonic(), 0, 'it said nothing'
-    ended = threading.Event()
+    started, crate, last = time.monotonic(), None, 'it said nothing'
+    before, ended = started, threading.Event()
     ticking = threading.Thread(target=tick, args=(started, ended), daemon=True)
     ticking.start()
     try:
         for line in output:
             last = line.strip() or last
-            told = re.match(r'rt: (\w+) proved \((.*)\)', line)
-            done += told is not None
-            if told and 'unchanged' not in line:
+            told = re.match(r'crate (\w+): modules loaded=\d+ checked=(\d+)', line)
+            if told:
+                crate = told.group(1) if int(told.group(2)) else None
+            if crate and line.startswith('logic=proved'):
                 clear = '\r\033[K' if sys.stderr.isatty() else ''
-                print('%sproved %2d of %d: %-10s %5s' % (clear, done, total, told.group(1), told.group(2)), file=sys.stderr, flush=True)
+                print('%sproved %-17s %4d s' % (clear, crate, time.monotonic() - before), file=sys.stderr, flush=True)
+                before = time.monotonic()
     finally:
         ended.set()
         ticking.join()
@@ -69,7 +97,7 @@ def tick(started, ended):
     """On a terminal, after three seconds, says what is going on and for how long: the first build takes minutes."""
     if not sys.stderr.isatty() or ended.wait(3):
         return
-    print('proving the programs (some minutes, the first time only)', file=sys.stderr, flush=True)
+    print('proving (some minutes, the first time only)', file=sys.stderr, flush=True)
     while not ended.wait(1):
         print('\rproving, %d s ' % (time.monotonic() - started), end='', file=sys.stderr, flush=True)
     print('\r\033[K', end='', file=sys.stderr, flush=True)

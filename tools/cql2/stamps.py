@@ -1,11 +1,24 @@
-"""Whether programs are built from the crates as they stand: `rt`'s stamps are worked out again here, in milliseconds, without `rt`."""
+"""What is built under target/, and whether it is of the crates as they stand: told in milliseconds, by stamps under target/stamp, without `rt`."""
+import collections
 import hashlib
-import locale
 import os
 import platform
 import shutil
 
-PARTS = ('src', 'specs', 'proofs', 'stdin', 'stdout', 'args', 'data')    # of a crate: what its stamp is made of
+PARTS = ('src', 'specs', 'proofs')    # of a crate: what is built, and what proves it
+
+# crate: its folder under crates/; word: of `rt`, which in that folder proves and builds it; left: what `rt` leaves there; path: where it is copied to;
+# tool: what does all this
+Made = collections.namedtuple('Made', 'crate word left path tool')
+
+
+def program(name):
+    return Made(name, 'run', os.path.join('out', name), os.path.join('target', 'bin', name), 'tools/build/program ' + name)
+
+
+def archive(name):
+    """The library for C with the calls of crate NAME: NAME_c has the exports."""
+    return Made(name + '_c', 'lib', os.path.join('out', 'lib%s_c.a' % name), os.path.join('target', 'staticlib', 'lib%s.a' % name), 'tools/build/archive ' + name)
 
 
 def command():
@@ -17,12 +30,12 @@ def uses(root):
     """What stands after each crate's name in crates.txt, as it is written."""
     with open(os.path.join(root, 'crates.txt'), encoding='utf-8') as f:
         lines = [line.rstrip('\n').split('#')[0].partition(':') for line in f]
-    return {name.strip(): rest for name, colon, rest in lines if colon}
+    return {name.split()[0]: rest for name, colon, rest in lines if colon}
 
 
-def needed(root, names):
-    """The crates of the repository that the named ones rest on, themselves among them."""
-    known, found, left = uses(root), set(), list(names)
+def needed(root, name):
+    """The crates of the repository that the named one rests on, itself among them."""
+    known, found, left = uses(root), set(), [name]
     while left:
         name = left.pop()
         if name in known and name not in found:
@@ -41,19 +54,15 @@ def files(folder):
 
 
 def sums(crate):
-    """The lines that `sha256sum` prints for the crate's files, in the order of `sort`."""
-    found = []
-    for part in PARTS:
-        path = os.path.join(crate, part)
-        if os.path.isdir(path) and not os.path.islink(path):
-            found += files(path)
-        elif os.path.isfile(path) and not os.path.islink(path):
-            found.append(path)
-    lines = []
-    for path in found:
-        with open(path, 'rb') as f:
-            lines.append('%s  %s\n' % (hashlib.sha256(f.read()).hexdigest(), os.path.relpath(path, crate)))
-    return sorted(lines, key=locale.strxfrm)
+    """A line for each of the crate's files: its sum and its path."""
+    folders = [os.path.join(crate, part) for part in PARTS]
+    found = [path for folder in folders if os.path.isdir(folder) and not os.path.islink(folder) for path in files(folder)]
+    return ['%s  %s\n' % (sum_of(path), os.path.relpath(path, crate)) for path in sorted(found)]
+
+
+def sum_of(path):
+    with open(path, 'rb') as f:
+        return hashlib.sha256(f.read()).hexdigest()
 
 
 def kit():
@@ -69,34 +78,31 @@ def kit():
     return ''
 
 
-def told(root, name):
-    """The stamp that `rt` left for a crate when it was proved, with its closing newline; None if it left none."""
-    try:
-        with open(os.path.join(root, 'target', 'stamp', name), encoding='ascii') as f:
-            return f.read()
-    except (OSError, ValueError):
-        return None
-
-
-def stamp(root, name, identity, rest):
-    """A crate's stamp, as `rt` works it out."""
-    parts = [identity, 'machine %s\n' % platform.machine(), *sums(os.path.join(root, 'crates', name)), 'deps: %s\n' % rest]
-    for other in rest.split():
-        own = os.path.isdir(os.path.join(root, 'crates', other, 'src'))
-        parts.append((told(root, other) or 'unproved %s\n' % other) if own else 'kit %s\n' % other)
+def stamp(root, made):
+    """The sum of all that it is built of: the kit, the kind of machine, the lines of crates.txt, and the files of the crates that it rests on."""
+    known = uses(root)
+    parts = [kit(), 'machine %s\n' % platform.machine()]
+    for name in sorted(needed(root, made.crate)):
+        parts += ['%s: %s\n' % (name, known[name]), *sums(os.path.join(root, 'crates', name))]
     return hashlib.sha256(''.join(parts).encode('utf-8', 'surrogateescape')).hexdigest()
 
 
-def built(root, names):
-    """Whether the programs are there, and they and all that they rest on are proved as they stand."""
-    if not all(os.access(os.path.join(root, 'target', 'bin', name), os.X_OK) for name in names):
-        return False
+def stamp_path(root, made):
+    return os.path.join(root, 'target', 'stamp', os.path.basename(made.path))
+
+
+def keep(root, made, stamp):
+    """Notes what the thing is built of, with its own sum."""
+    os.makedirs(os.path.join(root, 'target', 'stamp'), exist_ok=True)
+    with open(stamp_path(root, made), 'w', encoding='ascii') as f:
+        f.write('%s %s\n' % (stamp, sum_of(os.path.join(root, made.path))))
+
+
+def built(root, made):
+    """Whether it is there, and of the crates as they stand."""
     try:
-        locale.setlocale(locale.LC_COLLATE, '')
-    except locale.Error:
-        pass    # `sort` then takes the plain order, as this does
-    identity, known = kit(), uses(root)
-    try:
-        return all((told(root, name) or '').rstrip('\n') == stamp(root, name, identity, known[name]) for name in needed(root, names))
-    except OSError:
+        with open(stamp_path(root, made), encoding='ascii') as f:
+            told = f.read().split()
+        return told == [stamp(root, made), sum_of(os.path.join(root, made.path))]
+    except (OSError, ValueError):
         return False

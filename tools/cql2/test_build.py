@@ -13,12 +13,12 @@ from . import proved, stamps
 NOBODY = 65534
 PYTHON = '/usr/bin/python3' if os.path.exists('/usr/bin/python3') else sys.executable    # one that nobody may start too
 
-# Stands where `rt` stands: notes its start, sees whether another runs beside it, takes a while, and leaves a program with its stamp.
+# Stands where `rt` stands, in a crate's folder: notes its start, sees whether another runs beside it, takes a while, and leaves a program or a library.
 STAND_IN = '''
 import os, shutil, subprocess, sys, time
-sys.dont_write_bytecode = True
-sys.path.insert(0, os.path.join(os.getcwd(), 'tools'))
-from cql2 import stamps
+crate, top = os.getcwd(), os.path.dirname(os.path.dirname(os.getcwd()))
+made = {'run': 'lower', 'lib': 'libcapi_c.a'}[sys.argv[1]]
+os.chdir(top)
 
 def note(word):
     with open('notes', 'a') as f:
@@ -35,12 +35,10 @@ if os.environ.get('PROVER'):
     note('prover %d' % prover.pid)
     prover.wait()
 time.sleep(1)
-for part in ('bin', 'stamp'):
-    os.makedirs('target/' + part, exist_ok=True)
-shutil.copy(os.environ['PROGRAM'], 'target/bin/lower')
-with open('target/stamp/lower', 'w') as f:
-    f.write(stamps.stamp('.', 'lower', stamps.kit(), stamps.uses('.')['lower']) + '\\n')
-print('rt: lower proved (1 s)')
+os.makedirs(os.path.join(crate, 'out'), exist_ok=True)
+shutil.copy(os.environ['PROGRAM'], os.path.join(crate, 'out', made))
+print('crate %s: modules loaded=2 checked=3' % os.path.basename(crate))
+print('logic=proved functions=1')
 os.rmdir('busy')
 '''
 
@@ -55,9 +53,10 @@ class Build(unittest.TestCase):
         for name in ('filter', 'demo'):
             shutil.copy(os.path.join(proved.ROOT, name), self.folder)
         shutil.copytree(os.path.join(proved.ROOT, 'tools'), self.path('tools'))
-        os.makedirs(self.path('crates', 'lower', 'src'))
-        self.write('crates.txt', 'lower: io libc\n')
-        self.write(os.path.join('crates', 'lower', 'src', 'main.rt'), '// a program\n')
+        self.write('crates.txt', 'lower:\ncapi_c staticlib:\n')
+        for path in (os.path.join('crates', 'lower', 'src', 'main.rt'), os.path.join('crates', 'capi_c', 'src', 'lib.rt')):
+            os.makedirs(os.path.dirname(self.path(path)))
+            self.write(path, '// code\n')
         self.write('rt.py', STAND_IN)
         self.env = {**os.environ, 'RT': '%s %s' % (PYTHON, self.path('rt.py')), 'PROGRAM': proved.path_of('lower')}
 
@@ -88,7 +87,7 @@ class Build(unittest.TestCase):
         self.assertEqual([(out, status) for out, _, status in done], [('TRUE\n', 0)] * 8, done)
         self.assertEqual(self.notes(), ['start'])
         said = [err for _, err, _ in done]
-        self.assertEqual(sum('proved  1 of 1: lower' in err for err in said), 1, said)
+        self.assertEqual(sum('proved lower ' in err for err in said), 1, said)
         self.assertTrue(any('another command is proving in %s: waiting for it' % self.folder in err for err in said), said)
         # once more, on what is built: nothing is started, and nothing is said
         self.assertEqual(self.eight(), [('TRUE\n', '', 0)] * 8)
@@ -107,7 +106,7 @@ class Build(unittest.TestCase):
     def test_a_built_tree_is_seen_in_milliseconds(self):
         def once():
             started = time.perf_counter()
-            self.assertTrue(stamps.built(proved.ROOT, ['lower', 'read']))
+            self.assertTrue(all(stamps.built(proved.ROOT, stamps.program(name)) for name in ('lower', 'read')))
             return time.perf_counter() - started
         self.assertLess(min(once() for _ in range(5)), 0.1)
 
@@ -128,19 +127,20 @@ class Build(unittest.TestCase):
         self.assertEqual((one.communicate(timeout=20)[0], one.returncode), ('TRUE\n', 0))
 
     def test_another_rt_waits_too(self):
-        """The script that the tests of C, the Rust crate, bench and fuzz call in the place of `rt`."""
-        started = [self.start(self.path('tools', 'cql2', 'rt'), 'staticlib', 'capi') for _ in range(2)] + [self.start()]
+        """The script by which the tests of C, the Rust crate, bench and fuzz have the library built."""
+        started = [self.start(self.path('tools', 'build', 'archive'), 'capi') for _ in range(2)] + [self.start()]
         for one in started:
             one.communicate(timeout=60)
         self.assertEqual([one.returncode for one in started], [0, 0, 0])
-        self.assertNotIn('two at once', self.notes())
+        self.assertEqual(self.notes(), ['start'] * 2)    # of the library, once, and of the program
+        self.assertTrue(os.path.isfile(self.path('target', 'staticlib', 'libcapi.a')))
 
     def test_a_folder_that_may_not_be_written(self):
         os.mkdir(self.path('target'))
         os.chmod(self.path('target'), 0o555)
         one = self.start(**({'user': NOBODY, 'group': NOBODY, 'extra_groups': []} if os.geteuid() == 0 else {}))
-        self.assertEqual(one.communicate(), ('', 'filter: the proved programs are not built from the crates as they stand, and you may not write %s; '
-                                                 'have its owner run `rt check lower` there\n' % self.path('target')))
+        self.assertEqual(one.communicate(), ('', 'filter: the proved program is not built from the crates as they stand, and you may not write %s; '
+                                                 'have its owner run `tools/build/program lower` there\n' % self.path('target')))
         self.assertEqual((one.returncode, self.notes()), (2, []))
 
     def test_links(self):

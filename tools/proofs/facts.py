@@ -1,5 +1,7 @@
 #!/usr/bin/env python3
-"""Answers of a proof file with facts by name, for fill.py: the file can then be made anew for changed code, and only what changed is written by hand.
+"""Of the older kit, whose proof files (Proof.antt) counted steps back by `.before`; today's have facts by name.
+
+Answers of a proof file with facts by name, for fill.py: the file can then be made anew for changed code, and only what changed is written by hand.
 
 usage: facts.py PROOF PATHS > ANSWERS.py
 

@@ -1,5 +1,7 @@
 #!/usr/bin/env python3
-"""Fills needs of a proof file from answers that name facts instead of counting steps.
+"""Of the older kit, whose proof files (Proof.antt) counted steps back by `.before`; today's have facts by name.
+
+Fills needs of a proof file from answers that name facts instead of counting steps.
 
 usage: fill.py PROOF ANSWERS.py [PATHS]
 

@@ -1,10 +1,12 @@
 #!/usr/bin/env python3
 """The seconds that a crate's check spends on each function and each module, the longest first. The prover saves every module when it has checked it,
-so the times of the files tell. X.Lts is made of the code of X, X.Tie of its calls, X.Proof is its proof file.
+so the times of the files tell, of a check by one job with nothing to begin with. X.Lts is made of the code of X, X.Answers is its proof file.
 
-usage: rm -rf target/inc/CRATE; rt dev CRATE; python3 tools/proofs/seconds.py CRATE [LINES]"""
+usage: rm -rf crates/CRATE/out/incremental; (cd crates/CRATE && rt check --jobs 1); python3 tools/proofs/seconds.py CRATE [LINES]"""
 import collections
+import itertools
 import os
+import re
 import sys
 
 ROOT = os.path.join(os.path.dirname(os.path.abspath(__file__)), '..', '..')
@@ -13,7 +15,7 @@ ROOT = os.path.join(os.path.dirname(os.path.abspath(__file__)), '..', '..')
 def modules(crate):
     """The modules in the order in which they were saved, each with the seconds since the one before."""
     saved = []
-    for folder, _, files in os.walk(os.path.join(ROOT, 'target', 'inc', crate)):
+    for folder, _, files in os.walk(os.path.join(ROOT, 'crates', crate, 'out', 'incremental')):
         if 'records' in folder.split(os.sep):
             continue
         saved += [(os.stat(os.path.join(folder, name)).st_mtime, name[:-len('.oantt')]) for name in files if name.endswith('.oantt')]
@@ -22,15 +24,15 @@ def modules(crate):
 
 
 def function_of(module):
-    """What stands between the crate's library and the part of a function's proof; a name of digits alone is one that was too long for a file."""
-    inner = module.split('.proofs.', 1)[-1]
-    return inner.rsplit('.', 1)[0] if '.' in inner and inner != module else inner
+    """What stands between the crate's library and the part of a function's proof, or else the first part of a module of another sort."""
+    parts = re.split(r'[.-]proofs\.', module, maxsplit=1)[-1].split('.')
+    return '.'.join(list(itertools.takewhile(lambda part: not part[:1].isupper(), parts)) or parts[:1])
 
 
 def main(crate, lines=20):
     found = modules(crate)
     if not found:
-        sys.exit('seconds: nothing in target/inc/%s' % crate)
+        sys.exit('seconds: nothing in crates/%s/out/incremental' % crate)
     functions = collections.Counter()
     for name, seconds in found:
         functions[function_of(name)] += seconds

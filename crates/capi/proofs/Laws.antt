@@ -29,7 +29,7 @@ use Rattle.reduce.specs.Reducing as reducer
 use Rattle.reduce.specs.Reducing.{reducing}
 use Rattle.reduce.specs.ReducingLaws.{given as given-tree, reducing_short}
 use Rattle.capi.specs.LengthWords.{length_of}
-use Rattle.capi.specs.Numbers.{minus, written_number}
+use Rattle.capi.specs.Numbers.{minus, lowering_number}
 
 -- 0 less n
 zero-less : (n : ℕ) → pos 0 -ℤ pos n ≡ minus n
@@ -86,7 +86,7 @@ small-fits : (z : ℤ) → nat_abs z ≤ 65535 → SFits w64 z
 small-fits (pos n) h = record { sfits = omega arith }
 small-fits (negsuc n) h = record { sfits = omega arith }
 
-refusal_small : (r : Refusal) → nat_abs (written_number (refusal (number_of r))) ≤ 65535
+refusal_small : (r : Refusal) → nat_abs (lowering_number (refusal (number_of r))) ≤ 65535
 refusal_small BadSettings = omega arith
 refusal_small TreeTooLong = omega arith
 refusal_small BadFrame = omega arith
@@ -102,13 +102,13 @@ refusal_small BadText = omega arith
 refusal_small MissingColumn = omega arith
 refusal_small ConstantOperands = omega arith
 
-number_fits : (l : Lowered) → length_of l ≤ 65535 → SFits w64 (written_number (heard l))
+number_fits : (l : Lowered) → length_of l ≤ 65535 → SFits w64 (lowering_number (heard l))
 number_fits (Text n) h = length-fits n h
-number_fits (Refused r) h = small-fits (written_number (refusal (number_of r))) (refusal_small r)
+number_fits (Refused r) h = small-fits (lowering_number (refusal (number_of r))) (refusal_small r)
 
 -- the number of an answer, read back from an i64, is that of what is heard
-pub said-back : (l : Lowered) {z : ℤ} {said : Heard} → z ≡ written_number (heard l) → heard l ≡ said → length_of l ≤ 65535 → to_z w64 (of_z w64 z) ≡ written_number said
-said-back l e f h = ap (λ (z : ℤ). to_z w64 (of_z w64 z)) e ∙ to_z-of_z (number_fits l h) ∙ ap written_number f
+pub said-back : (l : Lowered) {z : ℤ} {said : Heard} → z ≡ lowering_number (heard l) → heard l ≡ said → length_of l ≤ 65535 → to_z w64 (of_z w64 z) ≡ lowering_number said
+said-back l e f h = ap (λ (z : ℤ). to_z w64 (of_z w64 z)) e ∙ to_z-of_z (number_fits l h) ∙ ap lowering_number f
 
 -- No reduced tree is longer than its tree, nor an accepted tree than the limit.
 pub short_tree : (s : List ℕ) (room : ℕ) {found : Reduced} {n : ℕ} → Bytes s → found ≡ reducer.answer (reducing s room) → found ≡ Whole n → n ≤ 65535
@@ -123,5 +123,5 @@ short_tree s room {found} {n} b e f = go (reducing s room) refl (sym f ∙ e)
         omega (arith, reducing_short s b room x p, (tree_is planner s g.tree g.read).0)
 
 -- the number of the answer that the code found, of which is heard what the definition says
-pub reduced_number_lem : {found case : Reduced} {said : Heard} → reducer.heard found ≡ said → found ≡ case → written_number (reducer.heard case) ≡ written_number said
-reduced_number_lem e f = ap (λ (r : Reduced). written_number (reducer.heard r)) (sym f) ∙ ap written_number e
+pub reduced_number_lem : {found case : Reduced} {said : Heard} → reducer.heard found ≡ said → found ≡ case → lowering_number (reducer.heard case) ≡ lowering_number said
+reduced_number_lem e f = ap (λ (r : Reduced). lowering_number (reducer.heard r)) (sym f) ∙ ap lowering_number e

@@ -7,9 +7,9 @@ abbrev pub minus : ℕ → ℤ
 minus n = neg_ℤ (pos n)
 
 -- of a call that writes a text or a reduced tree: its length, or minus the refusal's number
-abbrev pub written_number : Heard → ℤ
-written_number (written n) = pos n
-written_number (refusal n) = minus n
+abbrev pub lowering_number : Heard → ℤ
+lowering_number (written n) = pos n
+lowering_number (refusal n) = minus n
 
 -- 1, 0, 2, or minus the refusal's number
 abbrev pub reading_number : reading.Heard → ℤ

@@ -13,7 +13,7 @@ use Rattle.reduce.specs.Reducing as reduced
 use Rattle.truth.specs.declared.Reading.{Reading}
 use Rattle.truth.specs.declared.Reading.TheVariants.{True, False, Unknown, Refused as NoTruth}
 use Rattle.truth.specs.Reading as reading
-use Rattle.capi.specs.Numbers.{minus, written_number, reading_number}
+use Rattle.capi.specs.Numbers.{minus, lowering_number, reading_number}
 
 -- the refusal whose number is n + 1
 abbrev refusal_at : ℕ → Refusal
@@ -59,11 +59,11 @@ reduced_by = answer-by Tree NoTree
 abbrev pub read_by : ℤ → Reading
 read_by = answer-by truth_by NoTruth
 
-pub lowered_back : (r : Lowered) → lowered_by (written_number (lowered.heard r)) ≡ r
+pub lowered_back : (r : Lowered) → lowered_by (lowering_number (lowered.heard r)) ≡ r
 lowered_back (Text n) = refl
 lowered_back (NoText r) = refused_back Text NoText r
 
-pub reduced_back : (r : Reduced) → reduced_by (written_number (reduced.heard r)) ≡ r
+pub reduced_back : (r : Reduced) → reduced_by (lowering_number (reduced.heard r)) ≡ r
 reduced_back (Tree n) = refl
 reduced_back (NoTree r) = refused_back Tree NoTree r
 
@@ -73,10 +73,10 @@ read_back False = refl
 read_back Unknown = refl
 read_back (NoTruth r) = refused_back truth_by NoTruth r
 
-pub lowered_apart : (r s : Lowered) → written_number (lowered.heard r) ≡ written_number (lowered.heard s) → r ≡ s
+pub lowered_apart : (r s : Lowered) → lowering_number (lowered.heard r) ≡ lowering_number (lowered.heard s) → r ≡ s
 lowered_apart r s e = sym (lowered_back r) ∙ ap lowered_by e ∙ lowered_back s
 
-pub reduced_apart : (r s : Reduced) → written_number (reduced.heard r) ≡ written_number (reduced.heard s) → r ≡ s
+pub reduced_apart : (r s : Reduced) → lowering_number (reduced.heard r) ≡ lowering_number (reduced.heard s) → r ≡ s
 reduced_apart r s e = sym (reduced_back r) ∙ ap reduced_by e ∙ reduced_back s
 
 pub read_apart : (r s : Reading) → reading_number (reading.heard r) ≡ reading_number (reading.heard s) → r ≡ s

@@ -10,7 +10,7 @@ ghost use Rattle.tree.specs.Limits.{length_limit};
 ghost use Rattle.controller.specs.Controller.{controller};
 ghost use Rattle.truth.specs.Reading as reading;
 ghost use Rattle.capi.specs.LengthWords.{length_of};
-ghost use Rattle.capi.specs.Numbers.{minus, written_number, reading_number};
+ghost use Rattle.capi.specs.Numbers.{minus, lowering_number, reading_number};
 
 use gpkg::Lowered;
 use literal::Writing;
@@ -28,7 +28,7 @@ fn negative(r: Refusal) -> i32
 // The text's length, or minus the number of a refusal.
 fn number(lowered: Lowered) -> i64
     requires { length_of lowered ≤ length_limit }
-    ensures { result ≡ written_number (heard lowered) }
+    ensures { result ≡ lowering_number (heard lowered) }
 {
     match lowered {
         Lowered::Text(n) => n as i64,
@@ -39,7 +39,7 @@ fn number(lowered: Lowered) -> i64
 // The text's length, or minus the number of a refusal, 1 to 9; every byte of `out` is as `gpkg::to_sql` leaves it.
 #[unsafe(no_mangle)]
 pub extern "C" fn wenduulig_to_sql(settings: &[u8], tree: &[u8], out: &mut [u8]) -> i64
-    ensures says { result ≡ written_number (said (lowering Rust settings.now tree.now (length out.old))) }
+    ensures says { result ≡ lowering_number (said (lowering Rust settings.now tree.now (length out.old))) }
     ensures bytes { out.new ≡ leaves out.old (lowering Rust settings.now tree.now (length out.old)) }
 {
     number(gpkg::to_sql(settings, tree, out))
@@ -48,7 +48,7 @@ pub extern "C" fn wenduulig_to_sql(settings: &[u8], tree: &[u8], out: &mut [u8])
 // The same of `gpkg::to_geopackage_sql`.
 #[unsafe(no_mangle)]
 pub extern "C" fn wenduulig_to_geopackage_sql(settings: &[u8], tree: &[u8], out: &mut [u8]) -> i64
-    ensures says { result ≡ written_number (said (lowering GeoPackage settings.now tree.now (length out.old))) }
+    ensures says { result ≡ lowering_number (said (lowering GeoPackage settings.now tree.now (length out.old))) }
     ensures bytes { out.new ≡ leaves out.old (lowering GeoPackage settings.now tree.now (length out.old)) }
 {
     number(gpkg::to_geopackage_sql(settings, tree, out))
@@ -56,7 +56,7 @@ pub extern "C" fn wenduulig_to_geopackage_sql(settings: &[u8], tree: &[u8], out:
 
 // The number of a preview's answer, by either writing.
 fn preview(writing: Writing, settings: &[u8], tree: &[u8], size: usize) -> i64
-    ensures { result ≡ written_number (said (lowering writing settings.now tree.now size)) }
+    ensures { result ≡ lowering_number (said (lowering writing settings.now tree.now size)) }
 {
     number(gpkg::preview(writing, settings, tree, size))
 }
@@ -64,7 +64,7 @@ fn preview(writing: Writing, settings: &[u8], tree: &[u8], size: usize) -> i64
 // What `wenduulig_to_sql` answers with a buffer of this size; nothing is written.
 #[unsafe(no_mangle)]
 pub extern "C" fn wenduulig_preview_sql(settings: &[u8], tree: &[u8], size: usize) -> i64
-    ensures { result ≡ written_number (said (lowering Rust settings.now tree.now size)) }
+    ensures { result ≡ lowering_number (said (lowering Rust settings.now tree.now size)) }
 {
     preview(Writing::Rust, settings, tree, size)
 }
@@ -72,7 +72,7 @@ pub extern "C" fn wenduulig_preview_sql(settings: &[u8], tree: &[u8], size: usiz
 // What `wenduulig_to_geopackage_sql` answers with a buffer of this size; nothing is written.
 #[unsafe(no_mangle)]
 pub extern "C" fn wenduulig_preview_geopackage_sql(settings: &[u8], tree: &[u8], size: usize) -> i64
-    ensures { result ≡ written_number (said (lowering GeoPackage settings.now tree.now size)) }
+    ensures { result ≡ lowering_number (said (lowering GeoPackage settings.now tree.now size)) }
 {
     preview(Writing::GeoPackage, settings, tree, size)
 }
@@ -80,7 +80,7 @@ pub extern "C" fn wenduulig_preview_geopackage_sql(settings: &[u8], tree: &[u8],
 // What `wenduulig_to_sql` answers and leaves, of `controller::to_sql`: refusals 2, 4 and 8 mean the controller's limits.
 #[unsafe(no_mangle)]
 pub extern "C" fn wenduulig_controller_to_sql(settings: &[u8], tree: &[u8], out: &mut [u8]) -> i64
-    ensures says { result ≡ written_number (said (lowering_within controller Rust settings.now tree.now (length out.old))) }
+    ensures says { result ≡ lowering_number (said (lowering_within controller Rust settings.now tree.now (length out.old))) }
     ensures bytes { out.new ≡ leaves out.old (lowering_within controller Rust settings.now tree.now (length out.old)) }
 {
     number(controller::to_sql(settings, tree, out))
@@ -93,7 +93,7 @@ pub extern "C" fn wenduulig_controller_to_geopackage_sql(
     tree: &[u8],
     out: &mut [u8],
 ) -> i64
-    ensures says { result ≡ written_number (said (lowering_within controller GeoPackage settings.now tree.now (length out.old))) }
+    ensures says { result ≡ lowering_number (said (lowering_within controller GeoPackage settings.now tree.now (length out.old))) }
     ensures bytes { out.new ≡ leaves out.old (lowering_within controller GeoPackage settings.now tree.now (length out.old)) }
 {
     number(controller::to_geopackage_sql(settings, tree, out))
@@ -101,7 +101,7 @@ pub extern "C" fn wenduulig_controller_to_geopackage_sql(
 
 // The number of the answer of a controller's preview, by either writing.
 fn controller_preview(writing: Writing, settings: &[u8], tree: &[u8], size: usize) -> i64
-    ensures { result ≡ written_number (said (lowering_within controller writing settings.now tree.now size)) }
+    ensures { result ≡ lowering_number (said (lowering_within controller writing settings.now tree.now size)) }
 {
     number(controller::preview(writing, settings, tree, size))
 }
@@ -109,7 +109,7 @@ fn controller_preview(writing: Writing, settings: &[u8], tree: &[u8], size: usiz
 // What `wenduulig_controller_to_sql` answers with a buffer of this size; nothing is written.
 #[unsafe(no_mangle)]
 pub extern "C" fn wenduulig_controller_preview_sql(settings: &[u8], tree: &[u8], size: usize) -> i64
-    ensures { result ≡ written_number (said (lowering_within controller Rust settings.now tree.now size)) }
+    ensures { result ≡ lowering_number (said (lowering_within controller Rust settings.now tree.now size)) }
 {
     controller_preview(Writing::Rust, settings, tree, size)
 }
@@ -121,7 +121,7 @@ pub extern "C" fn wenduulig_controller_preview_geopackage_sql(
     tree: &[u8],
     size: usize,
 ) -> i64
-    ensures { result ≡ written_number (said (lowering_within controller GeoPackage settings.now tree.now size)) }
+    ensures { result ≡ lowering_number (said (lowering_within controller GeoPackage settings.now tree.now size)) }
 {
     controller_preview(Writing::GeoPackage, settings, tree, size)
 }
@@ -129,7 +129,7 @@ pub extern "C" fn wenduulig_controller_preview_geopackage_sql(
 // The reduced tree's length, or minus the number of a refusal, 2 to 7, 9 or 14; every byte of `out` is as `reduce::reduce` leaves it.
 #[unsafe(no_mangle)]
 pub extern "C" fn wenduulig_reduce(tree: &[u8], out: &mut [u8]) -> i64
-    ensures says { result ≡ written_number (said (reducing tree.now (length out.old))) }
+    ensures says { result ≡ lowering_number (said (reducing tree.now (length out.old))) }
     ensures bytes { out.new ≡ leaves out.old (reducing tree.now (length out.old)) }
 {
     match reduce::reduce(tree, out) {

@@ -5,11 +5,11 @@ ghost use Rattle.literal.specs.declared.Writing.TheVariants.{Rust, GeoPackage};
 ghost use Rattle.tree.specs.Written.{leaves, said};
 ghost use Rattle.text.specs.Lowered.{lowering_within};
 ghost use Rattle.controller.specs.Controller.{controller};
-ghost use Rattle.capi.specs.Numbers.{written_number};
+ghost use Rattle.capi.specs.Numbers.{lowering_number};
 
 #[unsafe(no_mangle)]
 pub extern "C" fn wenduulig_controller_to_sql(settings: &[u8], tree: &[u8], out: &mut [u8]) -> i64
-    ensures says { result ≡ written_number (said (lowering_within controller Rust settings.now tree.now (length out.old))) }
+    ensures says { result ≡ lowering_number (said (lowering_within controller Rust settings.now tree.now (length out.old))) }
     ensures bytes { out.new ≡ leaves out.old (lowering_within controller Rust settings.now tree.now (length out.old)) }
 {
     capi::wenduulig_controller_to_sql(settings, tree, out)
@@ -21,7 +21,7 @@ pub extern "C" fn wenduulig_controller_to_geopackage_sql(
     tree: &[u8],
     out: &mut [u8],
 ) -> i64
-    ensures says { result ≡ written_number (said (lowering_within controller GeoPackage settings.now tree.now (length out.old))) }
+    ensures says { result ≡ lowering_number (said (lowering_within controller GeoPackage settings.now tree.now (length out.old))) }
     ensures bytes { out.new ≡ leaves out.old (lowering_within controller GeoPackage settings.now tree.now (length out.old)) }
 {
     capi::wenduulig_controller_to_geopackage_sql(settings, tree, out)
@@ -29,7 +29,7 @@ pub extern "C" fn wenduulig_controller_to_geopackage_sql(
 
 #[unsafe(no_mangle)]
 pub extern "C" fn wenduulig_controller_preview_sql(settings: &[u8], tree: &[u8], size: usize) -> i64
-    ensures { result ≡ written_number (said (lowering_within controller Rust settings.now tree.now size)) }
+    ensures { result ≡ lowering_number (said (lowering_within controller Rust settings.now tree.now size)) }
 {
     capi::wenduulig_controller_preview_sql(settings, tree, size)
 }
@@ -40,7 +40,7 @@ pub extern "C" fn wenduulig_controller_preview_geopackage_sql(
     tree: &[u8],
     size: usize,
 ) -> i64
-    ensures { result ≡ written_number (said (lowering_within controller GeoPackage settings.now tree.now size)) }
+    ensures { result ≡ lowering_number (said (lowering_within controller GeoPackage settings.now tree.now size)) }
 {
     capi::wenduulig_controller_preview_geopackage_sql(settings, tree, size)
 }

@@ -14,7 +14,8 @@ use Rattle.tree.specs.declared.Limits.{Limits}
 use Rattle.tree.specs.Parse.{refused, got}
 use Rattle.tree.specs.Accepted.{accepted}
 use Rattle.tree.specs.LimitLaws.{is_of}
-use Rattle.tree.specs.RefusalLaws.{early, gives, also-gives, pick_gives, later, accepted-gives, refuses}
+pub use Rattle.tree.specs.RefusalLaws.{early, accepted_refuses}
+use Rattle.tree.specs.RefusalLaws.{gives, also-gives, pick_gives, later, accepted-gives, refuses}
 use Rattle.text.specs.Text.{text}
 use Rattle.text.specs.Lowered.{fitted, lowering_within}
 use Rattle.room.specs.Room.{sized}

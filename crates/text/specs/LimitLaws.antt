@@ -69,7 +69,7 @@ module _ (a b : Limits) (w : Writing) (settings tree : List ℕ) where
   -- Which of them: 2 if the tree is longer than a's limit, else 4 if it has more levels, else 8 or 9 by the text.
   pub own_answer : (m n : ℕ) (h : Settings) (t : Tree) (x : List ℕ) → NoGreater b planner → Bytes tree → accepted b settings tree ≡ got (h, t) → lowering_within b w settings tree n ≡ got x
       → lowering_within a w settings tree m ≡ pick (ltb a.tree (length tree)) (refused TreeTooLong) (pick (ltb a.depth (levels t)) (refused TooDeep) (fitted a.text m x))
-  unfolding lowering_within accepted accepted_tree also
+  unfolding lowering_within accepted also
   own_answer m n h t x l y r e = go (ltb a.tree (length tree)) (ltb a.depth (levels t)) refl refl
     where
       q : (tree-settings settings ≡ got h) × (length tree ≤ b.tree) × (parse b.depth tree ≡ got t) × (placed t ≡ true)

@@ -5,7 +5,7 @@ use Rattle.refusal.specs.Number.{number_of}
 use Rattle.literal.specs.declared.Writing.{Writing}
 use Rattle.tree.specs.Parse.{Read, refused, got, also}
 use Rattle.tree.specs.Accepted.{accepted}
-use Rattle.tree.specs.Written.{Heard, written, refusal}
+pub use Rattle.tree.specs.Written.{leaves, Heard, written, refusal, said}
 use Rattle.tree.specs.declared.Limits.{Limits}
 use Rattle.tree.specs.Limits.{planner}
 use Rattle.room.specs.Room.{sized}

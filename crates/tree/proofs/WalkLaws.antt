@@ -38,6 +38,7 @@ use Rattle.tree.specs.Parse.{Read, refused, got, also, Body, cons, end, exactly,
 use Rattle.tree.specs.Placed.{is_between, operands, no_interval, in_place, inner, inners, placed}
 use Rattle.tree.specs.Tests.{first, second, count, everywhere, everywhere_in, by_operator, is_interval, is_items, is_pair}
 use Rattle.tree.specs.Accepted.{settings, settings_in, accepted_tree, accepted, verdict}
+use Rattle.tree.specs.AcceptedLaws.{accepted_parts}
 use Rattle.tree.specs.declared.Limits.{Limits}
 use Rattle.tree.specs.WalkWords.{shape_of, seen, seen_one, seen_two, seen_all, ended, framed, first_of, taken_by, taken, plain_shape, pair_shape, interval_shape, sound_shape, fits, or_misplaced, leaf_one, monadic_one, dyadic_one, function_one, array_one, interval_one}
 use Rattle.tree.specs.ParseLaws.{frame-whole, both_true}
@@ -494,8 +495,8 @@ accepted-settings l c s h = simp h
 
 -- behind settings that are right the tree alone decides
 pub accepted_by_tree : (l : Limits) (c s : List ℕ) → is_settings c ≡ true → verdict (accepted l c s) ≡ verdict (accepted_tree l s)
-unfolding accepted settings also verdict
-accepted_by_tree l c s h = simp h (go (accepted_tree l s))
+unfolding settings also verdict
+accepted_by_tree l c s h = ap verdict (accepted_parts l c s) ∙ simp h (go (accepted_tree l s))
   where
     go : (r : Read Tree) → verdict (also {B = Settings × Tree} r (λ t. got (settings_in c, t))) ≡ verdict r
     go (refused n) = refl

@@ -26,9 +26,12 @@ accepted_tree limits s =
     pick (ltb limits.tree (length s)) (refused TreeTooLong)
     (also (parse limits.depth s) (λ t. pick (placed t) (got t) (refused BadOperand)))
 
--- settings and a tree: 1 comes before them
+-- settings and a tree: 1 comes first, then 2, then 3 to 6, only then 7
 unfoldable pub accepted : Limits → List ℕ → List ℕ → Read (Settings × Tree)
-accepted limits c s = also (settings c) (λ g. also (accepted_tree limits s) (λ t. got (g, t)))
+accepted limits c s =
+    also (settings c) (λ g.
+    pick (ltb limits.tree (length s)) (refused TreeTooLong)
+    (also (parse limits.depth s) (λ t. pick (placed t) (got (g, t)) (refused BadOperand))))
 
 -- the answer: that they are accepted, or the refusal
 unfoldable pub verdict : {A : Type 0} → Read A → Checked

@@ -1,6 +1,6 @@
 -- Laws of specs/Accepted.antt: what an accepted pair of settings and tree is, taken apart and put together again, and that the settings, too, are
 -- written as they were read.
-use Rattle.std.specs.Prelude.{◌≡◌, refl, List, [], ◌∷◌, ◌++◌, Bool, true, ℕ, ◌+◌, ◌-◌, ◌≤◌, ◌<◌, length, get_or, take, drop, ltb, leb, eqb}
+use Rattle.std.specs.Prelude.{◌≡◌, refl, List, [], ◌∷◌, ◌++◌, Bool, true, false, ℕ, ◌+◌, ◌-◌, ◌≤◌, ◌<◌, length, get_or, take, drop, ltb, leb, eqb}
 use Rattle.std.proofs.Common.{ap, sym, ◌∙◌, ⊎_elim, append-nil, arith, length-drop, take-append-drop, drop_of_length-le, length-take-le, drop-drop, take_all, ltb-false, le-ltb, eqb-true, leb-true}
 use Rattle.prelude.specs.Choice.{pick, both}
 use Rattle.refusal.specs.declared.Refusal.TheVariants.{BadSettings, TreeTooLong, BadOperand}
@@ -43,21 +43,46 @@ pub tree_of : (l : Limits) (s : List ℕ) (t : Tree) → length s ≤ l.tree →
 unfolding accepted_tree also
 tree_of l s t n q r = simp (le-ltb l.tree (length s) n, q, r)
 
+-- a tree behind settings, as `accepted` reads it, and as `accepted_tree` does
+abbrev behind : (g : Settings) (b : Bool) (r : Read Tree) → Read (Settings × Tree)
+behind g b r = pick b (refused TreeTooLong) (also r (λ t. pick (placed t) (got (g, t)) (refused BadOperand)))
+
+abbrev paired : Settings → Read Tree → Read (Settings × Tree)
+paired g r = also r (λ t. got (g, t))
+
+behind_is : (g : Settings) (b : Bool) (r : Read Tree) → behind g b r ≡ paired g (pick b (refused TreeTooLong) (also r (λ t. pick (placed t) (got t) (refused BadOperand))))
+unfolding also
+behind_is g true r = refl
+behind_is g false (refused n) = refl
+behind_is g false (got t) = go (placed t)
+  where
+    go : (b : Bool) → ◌≡◌ {A = Read (Settings × Tree)} (pick b (got (g, t)) (refused BadOperand)) (paired g (pick b (got t) (refused BadOperand)))
+    go true = refl
+    go false = refl
+
+-- behind right settings the tree decides
+pub accepted_parts : (l : Limits) (c s : List ℕ) → accepted l c s ≡ also (settings c) (λ g. paired g (accepted_tree l s))
+unfolding accepted accepted_tree also
+accepted_parts l c s = go (settings c)
+  where
+    go : (r : Read Settings) → also r (λ g. behind g (ltb l.tree (length s)) (parse l.depth s)) ≡ also r (λ g. paired g (accepted_tree l s))
+    go (refused n) = refl
+    go (got g) = behind_is g (ltb l.tree (length s)) (parse l.depth s)
+
 -- what is accepted passes each refusal
 pub accepted-is : (l : Limits) (c s : List ℕ) (g : Settings) (t : Tree) → accepted l c s ≡ got (g, t)
     → (settings c ≡ got g) × (length s ≤ l.tree) × (parse l.depth s ≡ got t) × (placed t ≡ true)
-unfolding accepted
 accepted-is l c s g t h =
-    let p = also_got (settings c) (λ k. also (accepted_tree l s) (λ u. got (k, u))) (g, t) h in
-    let q = also_got (accepted_tree l s) (λ u. got (p.0, u)) (g, t) p.2 in
+    let p = also_got (settings c) (λ k. paired k (accepted_tree l s)) (g, t) (sym (accepted_parts l c s) ∙ h) in
+    let q = also_got {B = Settings × Tree} (accepted_tree l s) (λ u. got (p.0, u)) (g, t) p.2 in
     let e : ◌≡◌ {A = Settings × Tree} (p.0, q.0) (g, t) = cc q.2 in
     let r = tree_is l s t (q.1 ∙ ap (λ (x : Settings × Tree). got x.1) e) in
     (p.1 ∙ ap (λ (x : Settings × Tree). got x.0) e, r.0, r.1, r.2)
 
 -- and what passes each is accepted
 pub accepted_of : (l : Limits) (c s : List ℕ) (g : Settings) (t : Tree) → settings c ≡ got g → length s ≤ l.tree → parse l.depth s ≡ got t → placed t ≡ true → accepted l c s ≡ got (g, t)
-unfolding accepted also
-accepted_of l c s g t p n q r = simp (p, tree_of l s t n q r)
+unfolding also
+accepted_of l c s g t p n q r = accepted_parts l c s ∙ simp (p, tree_of l s t n q r)
 
 -- so a good tree that is short enough and has everything in its place is accepted as it is written
 pub accepted-written : (l : Limits) (c : List ℕ) (g : Settings) (t : Tree) → l.tree < size_limit → settings c ≡ got g → Good t l.depth → length (encode t) ≤ l.tree → placed t ≡ true

@@ -171,7 +171,7 @@ sizes = TreeTooLong ∷ TooDeep ∷ []
 
 -- What is accepted within some limits is within any others the same, or refused with 2 or 4.
 pub accepted_other : (a b : Limits) (c s : List ℕ) (p : Settings × Tree) → accepted b c s ≡ got p → Else sizes (accepted a c s) (got p)
-unfolding accepted accepted_tree also
+unfolding accepted also
 accepted_other a b c s p e =
     let q = accepted-is b c s p.0 p.1 e in
     go (ltb a.tree (length s)) refl q.0 q.3 (parse_other a.depth b.depth s p.1 q.2)

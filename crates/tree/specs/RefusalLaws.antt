@@ -27,6 +27,7 @@ use Rattle.tree.specs.Tree.{Tree, Trees, null, unbounded, bool, num, str, date, 
 use Rattle.tree.specs.Parse.{Read, refused, got, also, Body, Row, cons, end, exactly, many, items, mantissa, empty_body, bool_body, num_body, str_body, date_body, timestamp_body, spatial_body, leaf, takes_one, takes_two, allowed, operated, read_function, choose, kinds, node, parse}
 use Rattle.tree.specs.Placed.{placed}
 use Rattle.tree.specs.Accepted.{settings, accepted_tree, accepted}
+use Rattle.tree.specs.AcceptedLaws.{accepted_parts}
 use Rattle.tree.specs.LimitLaws.{is_of}
 
 -- refusals 2 to 7, of a tree
@@ -184,9 +185,10 @@ later rs more (refused n) e = longer rs more n e
 later rs more (got a) e = refl
 
 pub accepted-gives : (l : Limits) (c s : List ℕ) → gives early (accepted l c s) ≡ true
-unfolding accepted settings
+unfolding settings
 accepted-gives l c s =
-    also-gives early _ _ (pick_gives early (is_settings c) _ _ refl refl) (λ g.
+    ap (gives early) (accepted_parts l c s)
+    ∙ also-gives early (settings c) _ (pick_gives early (is_settings c) _ _ refl refl) (λ g.
     also-gives early _ _ (earlier BadSettings of_tree (accepted_tree l s) (tree_gives l s)) (λ t. refl))
 
 pub refuses : {A : Type 0} {r : Read A} {n : Refusal} (rs : List Refusal) → gives rs r ≡ true → r ≡ refused n → is_of rs n ≡ true

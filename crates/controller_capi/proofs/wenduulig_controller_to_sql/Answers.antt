@@ -1,0 +1,11 @@
+-- `controller_capi::wenduulig_controller_to_sql` meets its contract: what `capi::wenduulig_controller_to_sql` answers and leaves.
+use mathlib.Core.Path.{◌∙◌}
+use mir.Syntax.{w64}
+use mir.Val.{SFits}
+use mir.Facts.{to_z-of_z}
+use Rattle.controller_capi.proofs.wenduulig_controller_to_sql.Goals as goal
+
+pub returns : goal.returns
+returns c =
+    let fits : SFits w64 c.wenduulig_controller_to_sql.result = record { sfits = c.wenduulig_controller_to_sql.type_inv } in
+    record { says = to_z-of_z fits ∙ c.wenduulig_controller_to_sql.ensures.says; bytes = c.wenduulig_controller_to_sql.ensures.bytes }
