@@ -1,5 +1,6 @@
 // Lowering, reducing and reading for callers in C: each answer as one number, never the same for two answers.
 #![tactic(auto)]
+
 ghost use Rattle.std.specs.Prelude.{◌≡◌, ◌<◌, ◌≤◌, length};
 ghost use Rattle.refusal.specs.Number.{number_of};
 ghost use Rattle.literal.specs.declared.Writing.TheVariants.{Rust, GeoPackage};

@@ -1,4 +1,5 @@
 #![tactic(auto)]
+
 ghost use Rattle.std.specs.Prelude.{◌≡◌, ◌<◌};
 ghost use Rattle.prelude.specs.Choice.{between, all};
 ghost use Rattle.charset.specs.Charset.{letter, digit, name_start, name_byte, free_word, name, spatial_byte, spatial_text};

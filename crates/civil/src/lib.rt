@@ -1,4 +1,5 @@
 #![tactic(auto)]
+
 ghost use Rattle.std.specs.Prelude.{◌≡◌, ◌%◌, ◌≤◌};
 ghost use Rattle.prelude.specs.Choice.{between};
 ghost use Rattle.civil.specs.Civil.{leap, days_in, valid_date, valid_time};

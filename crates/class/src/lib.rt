@@ -1,6 +1,7 @@
 // The class tests of src/op.rs, and which side of a spatial operator is reduced. Operators of one class stand together in the enum, so a class is a
 // range or two of numbers.
 #![tactic(auto)]
+
 ghost use Rattle.std.specs.Prelude.{◌≡◌};
 ghost use Rattle.prelude.specs.Choice.{between, both, negated};
 ghost use Rattle.op.specs.Op.{is_arithmetic, is_array, is_comparison, is_xtd_comparison, is_spatial, is_temporal, is_instant_or_interval, is_nullable};

@@ -1,5 +1,6 @@
 // The calls of the camera's controller (document 02, slip 7): the planner's (crate gpkg) within limits of its own.
 #![tactic(auto)]
+
 ghost use Rattle.std.specs.Prelude.{◌≡◌, length};
 ghost use Rattle.tree.specs.Written.{leaves, said};
 ghost use Rattle.text.specs.Lowered.{answer, heard, lowering_within};

@@ -1,5 +1,6 @@
 // The controller's calls for C in a library of their own, without the planner's and the reader: what crate capi answers.
 #![tactic(auto)]
+
 ghost use Rattle.std.specs.Prelude.{◌≡◌, length};
 ghost use Rattle.literal.specs.declared.Writing.TheVariants.{Rust, GeoPackage};
 ghost use Rattle.tree.specs.Written.{leaves, said};

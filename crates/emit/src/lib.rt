@@ -1,5 +1,6 @@
 // Laying texts over lent bytes and counting where each ends: the one way in which every writer writes.
 #![tactic(auto)]
+
 ghost use Rattle.std.specs.Prelude.{◌≡◌, ◌+◌, ◌≤◌, min, ◌++◌, true, length};
 ghost use Rattle.std.proofs.lemmas.List.Edits.{sets};
 ghost use Rattle.prelude.specs.Choice.{pick};

@@ -1,6 +1,7 @@
 // Dates, timestamps and open ends (src/ds/gpkg.rs, `to_sql_impl`, but for GeoPackage's timestamps and open second ends),
 // each written whole or not at all.
 #![tactic(auto)]
+
 ghost use Rattle.std.specs.Prelude.{◌≡◌, ◌++◌, ◌+◌, length};
 ghost use Rattle.prelude.specs.Bytes.{bytes};
 ghost use Rattle.emit.specs.Emit.{count_limit, Puts};

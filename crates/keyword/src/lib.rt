@@ -1,5 +1,6 @@
 // The words that no name may be.
 #![tactic(auto)]
+
 ghost use Rattle.std.specs.Prelude.{◌≡◌};
 ghost use Rattle.keyword.specs.Reserved.{reserved};
 

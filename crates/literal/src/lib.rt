@@ -1,6 +1,7 @@
 // Definitions of the texts of the leaves (src/ds/gpkg.rs, `to_sql_impl` and `qstr_to_sql`, but for the apostrophes of a Str and for GeoPackage's
 // timestamps and open second ends), and the writers of words and of texts in quotes, each written whole or not at all. Numbers and instants stand in crates of their own.
 #![tactic(auto)]
+
 ghost use Rattle.std.specs.Prelude.{◌≡◌, ◌∷◌, [], ◌+◌, ◌%◌, ◌≤◌, length};
 ghost use Rattle.std.proofs.lemmas.List.Edits.{sets};
 ghost use Rattle.prelude.specs.Choice.{both, all};

@@ -2,13 +2,17 @@
 // these of crate controller; with the argument `reduce` before all others what `reduce::reduce` makes of each tree. Standard input: cases to its end, each a settings record and then a tree, each of these after its length in four bytes,
 // little-endian. Standard output: a line for each case, the SQL text or `refused N`; `incomplete` if the input ends inside a case.
 #![tactic(auto)]
+
 ghost use Rattle.std.specs.Prelude.{◌≤◌};
 
 use gpkg::Lowered;
 use input::Part;
-use libc::{STDERR_FILENO, STDIN_FILENO, STDOUT_FILENO};
 use reduce::Reduced;
 use refusal::Refusal;
+use std::env::FillError;
+use std::io;
+use std::io::Read;
+use std::rt::Env;
 
 // The calls of crate gpkg, and those of crate controller.
 #[derive(Clone, Copy)]
@@ -35,153 +39,213 @@ struct Way {
     reduces: bool,
 }
 
-fn end_line() {
-    io::write_all(STDOUT_FILENO, b"\n");
+fn end_line(rt: &impl Print) -> io::Result<()> {
+    rt.write_all(b"\n")
 }
 
-fn say_refused(r: Refusal) {
-    io::write_all(STDOUT_FILENO, b"refused ");
-    io::print_decimal(STDOUT_FILENO, refusal::number(r) as u64);
-    end_line();
+fn say_refused(rt: &impl Print, r: Refusal) -> io::Result<()> {
+    rt.write_all(b"refused ")?;
+    rt.print(refusal::number(r))?;
+    end_line(rt)
 }
 
-fn answer_lowered(call: Call, settings: &[u8], tree: &[u8], out: &mut [u8]) {
+fn answer_lowered(
+    rt: &impl Print,
+    call: Call,
+    settings: &[u8],
+    tree: &[u8],
+    out: &mut [u8],
+) -> io::Result<()> {
     match lower(call, settings, tree, out) {
         Lowered::Text(n) => {
-            io::write_all(STDOUT_FILENO, input::first(out, n));
-            end_line();
+            rt.write_all(input::first(out, n))?;
+            end_line(rt)
         }
-        Lowered::Refused(r) => say_refused(r),
+        Lowered::Refused(r) => say_refused(rt, r),
     }
 }
 
-fn answer_reduced(call: Call, settings: &[u8], tree: &[u8], room: &mut [u8], out: &mut [u8]) {
+fn answer_reduced(
+    rt: &impl Print,
+    call: Call,
+    settings: &[u8],
+    tree: &[u8],
+    room: &mut [u8],
+    out: &mut [u8],
+) -> io::Result<()> {
     match reduce::reduce(tree, room) {
-        Reduced::Tree(n) => answer_lowered(call, settings, input::first(room, n), out),
-        Reduced::Refused(r) => say_refused(r),
+        Reduced::Tree(n) => answer_lowered(rt, call, settings, input::first(room, n), out),
+        Reduced::Refused(r) => say_refused(rt, r),
     }
 }
 
-fn answer(way: Way, settings: &[u8], tree: &[u8], room: &mut [u8], out: &mut [u8]) {
+fn answer(
+    rt: &impl Print,
+    way: Way,
+    settings: &[u8],
+    tree: &[u8],
+    room: &mut [u8],
+    out: &mut [u8],
+) -> io::Result<()> {
     let call = way.call;
     if way.reduces {
-        answer_reduced(call, settings, tree, room, out);
-        return;
+        return answer_reduced(rt, call, settings, tree, room, out);
     }
-    answer_lowered(call, settings, tree, out);
+    answer_lowered(rt, call, settings, tree, out)
 }
 
-fn incomplete() {
-    io::write_all(STDOUT_FILENO, b"incomplete\n");
+fn incomplete(rt: &impl Print) -> io::Result<()> {
+    rt.write_all(b"incomplete\n")
 }
 
 // Answers the case whose settings are settings[..n]; false if the input ends inside it.
 fn rest_of_case(
+    rt: &impl Print,
+    stdin: &mut impl Read,
     way: Way,
     settings: &mut [u8],
     n: usize,
     tree: &mut [u8],
     room: &mut [u8],
     out: &mut [u8],
-) -> bool {
+) -> io::Result<bool> {
     let mut head = [0u8; 4];
-    let read = input::read_part(STDIN_FILENO, &mut head, tree);
+    let read = input::read_part(stdin, &mut head, tree);
     match input::part_of(&head, read, tree.len()) {
         Part::Whole(m) => {
             answer(
+                rt,
                 way,
                 input::first(settings, n),
                 input::first(tree, m),
                 room,
                 out,
-            );
-            true
+            )?;
+            Ok(true)
         }
         _ => {
-            incomplete();
-            false
+            incomplete(rt)?;
+            Ok(false)
         }
     }
 }
 
 // Answers the case that comes next; false if there is none, or the input ends inside it.
 fn next_case(
+    rt: &impl Print,
+    stdin: &mut impl Read,
     way: Way,
     settings: &mut [u8],
     tree: &mut [u8],
     room: &mut [u8],
     out: &mut [u8],
-) -> bool {
+) -> io::Result<bool> {
     let mut head = [0u8; 4];
-    let read = input::read_part(STDIN_FILENO, &mut head, settings);
+    let read = input::read_part(stdin, &mut head, settings);
     match input::part_of(&head, read, settings.len()) {
-        Part::End => false,
+        Part::End => Ok(false),
         Part::Short => {
-            incomplete();
-            false
+            incomplete(rt)?;
+            Ok(false)
         }
-        Part::Whole(n) => rest_of_case(way, settings, n, tree, room, out),
+        Part::Whole(n) => rest_of_case(rt, stdin, way, settings, n, tree, room, out),
     }
 }
 
 // A proved loop has to end, and nothing says that the input does: the turns are counted down from a number that no run uses up.
-fn answer_all(way: Way, settings: &mut [u8], tree: &mut [u8], room: &mut [u8], out: &mut [u8]) {
+fn answer_all(
+    rt: &impl Print,
+    stdin: &mut impl Read,
+    way: Way,
+    settings: &mut [u8],
+    tree: &mut [u8],
+    room: &mut [u8],
+    out: &mut [u8],
+) -> io::Result<()> {
     let mut turns = u64::MAX;
-    while turns > 0 && next_case(way, settings, tree, room, out) {
+    while turns > 0 && next_case(rt, stdin, way, settings, tree, room, out)? {
         turns -= 1;
     }
+    Ok(())
 }
 
-fn answer_by(call: Call, reduces: bool) {
-    let mut settings = io::large_buffer();
-    let mut tree = io::large_buffer();
-    let mut room = io::large_buffer();
-    let mut out = io::large_buffer();
+fn answer_by(rt: &(impl Input + Print), call: Call, reduces: bool) -> io::Result<()> {
+    let mut settings = input::large_buffer();
+    let mut tree = input::large_buffer();
+    let mut room = input::large_buffer();
+    let mut out = input::large_buffer();
     answer_all(
+        rt,
+        &mut rt.reader(),
         Way { call, reduces },
         &mut settings,
         &mut tree,
         &mut room,
         &mut out,
-    );
+    )
 }
 
-// Whether the argument at this place is the word.
-fn is_arg(place: usize, word: &[u8]) -> bool {
-    let mut found = [0u8; 16];
-    let n = os::arg(place, &mut found);
-    order::is_same(input::first(&found, n), word)
-}
-
-fn usage() {
-    io::write_all(
-        STDERR_FILENO,
-        b"usage: lower [reduce] [controller] [geopackage]\n",
-    );
-}
-
-// The arguments from this place on say which call; there are n, the program's name among them.
-fn answer_from(place: usize, n: usize, reduces: bool)
-    requires { place ≤ 2 }
-{
-    if n <= place {
-        answer_by(Call::Sql, reduces);
-    } else if n == place + 1 && is_arg(place, b"geopackage") {
-        answer_by(Call::GeoPackageSql, reduces);
-    } else if n == place + 1 && is_arg(place, b"controller") {
-        answer_by(Call::ControllerSql, reduces);
-    } else if n == place + 2 && is_arg(place, b"controller") && is_arg(place + 1, b"geopackage") {
-        answer_by(Call::ControllerGeoPackageSql, reduces);
-    } else {
-        usage();
+// Whether there is an argument, for what asking for it answered.
+fn is_there(answer: Result<usize, FillError>) -> bool {
+    match answer {
+        Ok(_) | Err(FillError::TooLong) => true,
+        Err(FillError::NotPresent) => false,
     }
 }
 
-fn main() {
-    let n = os::arg_count();
-    if 1 < n && is_arg(1, b"reduce") {
-        answer_from(2, n, true);
+// How many arguments there are, the program's name among them.
+fn arg_count(rt: &impl Env) -> usize {
+    for n in 0..usize::MAX {
+        if !is_there(rt.arg(n, &mut [])) {
+            return n;
+        }
+    }
+    usize::MAX
+}
+
+// Whether the argument at this place is the word.
+fn is_arg(rt: &impl Env, place: usize, word: &[u8]) -> bool {
+    let mut found = [0u8; 16];
+    match rt.arg(place, &mut found) {
+        Ok(n) => order::is_same(input::first(&found, n), word),
+        Err(_) => false,
+    }
+}
+
+fn usage(rt: &impl Eprint) -> io::Result<()> {
+    rt.eprintln("usage: lower [reduce] [controller] [geopackage]")
+}
+
+// The arguments from this place on say which call; there are n, the program's name among them.
+fn answer_from(
+    rt: &(impl Env + Input + Print + Eprint),
+    place: usize,
+    n: usize,
+    reduces: bool,
+) -> io::Result<()>
+    requires { place ≤ 2 }
+{
+    if n <= place {
+        answer_by(rt, Call::Sql, reduces)
+    } else if n == place + 1 && is_arg(rt, place, b"geopackage") {
+        answer_by(rt, Call::GeoPackageSql, reduces)
+    } else if n == place + 1 && is_arg(rt, place, b"controller") {
+        answer_by(rt, Call::ControllerSql, reduces)
+    } else if n == place + 2
+        && is_arg(rt, place, b"controller")
+        && is_arg(rt, place + 1, b"geopackage")
+    {
+        answer_by(rt, Call::ControllerGeoPackageSql, reduces)
     } else {
-        answer_from(1, n, false);
+        usage(rt)
+    }
+}
+
+fn main(rt: HostRuntime) -> io::Result<()> {
+    let n = arg_count(&rt);
+    if 1 < n && is_arg(&rt, 1, b"reduce") {
+        answer_from(&rt, 2, n, true)
+    } else {
+        answer_from(&rt, 1, n, false)
     }
 }

@@ -1,5 +1,6 @@
 // Numbers in base ten, and a geometry with the number of its system (src/ds/gpkg.rs, `to_sql_impl`; src/geom/mod.rs, `to_sql`), each written whole or not at all.
 #![tactic(auto)]
+
 ghost use Rattle.std.specs.Prelude.{◌≡◌, ◌+◌, ◌/◌, ◌%◌, ◌^◌, ◌≤◌, ◌<◌, length, nat_abs};
 ghost use Rattle.emit.specs.Emit.{count_limit, Puts};
 ghost use Rattle.literal.specs.Literal.{low, decimal, plain, sign, num_text, spatial_text};

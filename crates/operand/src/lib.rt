@@ -1,5 +1,6 @@
 // The operands of a temporal operator and their four ends (src/ds/sql.rs).
 #![tactic(auto)]
+
 ghost use Rattle.std.specs.Prelude.{◌≡◌};
 ghost use Rattle.operand.specs.Ends.{is_column, start_of, stop_of, unfold_expressions};
 

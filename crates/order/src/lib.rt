@@ -1,5 +1,6 @@
 // The order of byte strings: whether two are the same, and how the values of two stand, of which each may be written with its apostrophes doubled.
 #![tactic(auto)]
+
 ghost use Rattle.std.specs.Prelude.{◌≡◌, ◌∷◌, [], ◌≤◌, ◌<◌, length};
 ghost use Rattle.string.specs.Quote.{value_of};
 ghost use Rattle.order.specs.Order.{order, is_equal};

@@ -1,5 +1,6 @@
 // A temporal condition piece by piece (src/ds/gpkg.rs, the fifteen `t_…_sql`), by the code that a template has for each: its words, and its ends.
 #![tactic(auto)]
+
 ghost use Rattle.std.specs.Prelude.{◌≡◌};
 ghost use Rattle.emit.specs.Emit.{count_limit, Puts};
 ghost use Rattle.sql.specs.Template.{words_of};

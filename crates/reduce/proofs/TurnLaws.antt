@@ -27,7 +27,6 @@ use Rattle.reduce.specs.Rules.{turn}
 use Rattle.reduce.specs.Reduced.{minus, turned}
 use Rattle.reduce.specs.ReducedLaws.{monadic_size}
 use Rattle.reduce.specs.WalkWords.{Holds, Kept, Writes, done_at, head_of, kept_sort, written}
-use Rattle.reduce.specs.contracts.Turn.{the_type}
 use Rattle.reduce.proofs.WayLaws.{negate_sort, turns}
 use Rattle.reduce.proofs.RoomLaws.{holds_stands, keep_one, fold_over}
 

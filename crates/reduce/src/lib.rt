@@ -1,5 +1,6 @@
 // Reducing a tree before it is lowered: document 02, slip 8; `E::reduce` of src/expr.rs.
 #![tactic(auto)]
+
 ghost use Rattle.std.specs.Prelude.{◌≡◌, ℕ, ◌≤◌, length};
 ghost use Rattle.tree.specs.Limits.{tree_limit};
 ghost use Rattle.tree.specs.GoodWords.{Good};

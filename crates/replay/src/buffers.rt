@@ -18,7 +18,7 @@ pub(crate) fn blank_buffer() -> [u8; 65536]
 }
 
 pub(crate) fn text_found<'a>(n: usize, text: &'a [u8], out: &'a [u8]) -> u8 {
-    if !check::same(input::first(out, n), text) {
+    if input::first(out, n) != text {
         return OTHER_TEXT;
     }
     if out.len() < n {

@@ -3,6 +3,7 @@ ghost use Rattle.std.specs.Prelude.{◌≡◌, nat_eq};
 ghost use Rattle.prelude.specs.Choice.{all};
 
 use input::Part;
+use std::io::Read as Reader;
 
 // What a case shows.
 #[derive(Clone, Copy)]
@@ -24,14 +25,14 @@ pub(crate) enum Read {
     Sizes(usize, usize, usize, usize),
 }
 
-fn next_part(file: i32, buffer: &mut [u8]) -> Part {
+fn next_part(file: &mut impl Reader, buffer: &mut [u8]) -> Part {
     let mut head = [0u8; 4];
     let read = input::read_part(file, &mut head, buffer);
     input::part_of(&head, read, buffer.len())
 }
 
 // A part that is not due is read as an empty one.
-fn part_if(due: bool, file: i32, buffer: &mut [u8]) -> Part {
+fn part_if(due: bool, file: &mut impl Reader, buffer: &mut [u8]) -> Part {
     if due {
         return next_part(file, buffer);
     }
@@ -39,7 +40,14 @@ fn part_if(due: bool, file: i32, buffer: &mut [u8]) -> Part {
 }
 
 // The parts behind the first, which has n bytes.
-fn read_rest(file: i32, parts: usize, n: usize, b: &mut [u8], c: &mut [u8], d: &mut [u8]) -> Read {
+fn read_rest(
+    file: &mut impl Reader,
+    parts: usize,
+    n: usize,
+    b: &mut [u8],
+    c: &mut [u8],
+    d: &mut [u8],
+) -> Read {
     let Part::Whole(second) = part_if(1 < parts, file, b) else {
         return Read::Cut;
     };
@@ -54,7 +62,7 @@ fn read_rest(file: i32, parts: usize, n: usize, b: &mut [u8], c: &mut [u8], d: &
 
 // Reads a case of this many parts, one to four, each into a buffer of its own.
 pub(crate) fn read_case(
-    file: i32,
+    file: &mut impl Reader,
     parts: usize,
     a: &mut [u8],
     b: &mut [u8],

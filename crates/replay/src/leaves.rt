@@ -6,6 +6,7 @@ use crate::lines::say;
 use literal::Writing;
 use record::{BODY, KIND, byte_at, dword_at, word_at};
 use settings::{AI, CI, PLAIN};
+use std::io;
 use tree::{BOOL, DATE, NULL, NUM, SPATIAL, STR, TIMESTAMP, UNBOUNDED};
 
 // What is counted of a case that is right.
@@ -88,7 +89,7 @@ fn fits(kind: usize, body: &[u8], text: &[u8], out: &mut [u8]) -> bool {
     if out.len() < end {
         return false;
     }
-    if check::same(&out[START..end], text) {
+    if &out[START..end] == text {
         if all_are(&out[0..START], BLANK) {
             return all_are(&out[end..], BLANK);
         }
@@ -134,7 +135,7 @@ pub(crate) fn judged(record: &[u8], text: &[u8]) -> Turn {
     }
 }
 
-pub(crate) fn report(done: u64, counts: [u64; 16]) {
-    say(b"", counts[1]);
-    say(b" leaves right of ", done);
+pub(crate) fn report(rt: &impl Print, done: u64, counts: [u64; 16]) -> io::Result<()> {
+    say(rt, b"", counts[1])?;
+    say(rt, b" leaves right of ", done)
 }

@@ -1,12 +1,12 @@
 // What the program writes to standard output.
-use libc::STDOUT_FILENO;
+use std::io;
 
-pub(crate) fn write(text: &[u8]) {
-    io::write_all(STDOUT_FILENO, text);
+pub(crate) fn write(rt: &impl Print, text: &[u8]) -> io::Result<()> {
+    rt.write_all(text)
 }
 
 // Writes a text and a number.
-pub(crate) fn say(text: &[u8], n: u64) {
-    write(text);
-    io::print_decimal(STDOUT_FILENO, n);
+pub(crate) fn say(rt: &impl Print, text: &[u8], n: u64) -> io::Result<()> {
+    write(rt, text)?;
+    rt.print(n)
 }

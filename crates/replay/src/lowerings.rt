@@ -10,6 +10,7 @@ use crate::lines::say;
 use gpkg::Lowered;
 use literal::Writing;
 use refusal::Refusal;
+use std::io;
 
 // What is found instead of an answer: a preview that does not tell what writing answers; an answer of the controller that the planner's does not
 // allow.
@@ -153,7 +154,7 @@ fn callers_agree(call: Call, settings: &[u8], tree: &[u8], room: usize) -> bool 
     let p = lower_part(planners(call), settings, tree, &mut theirs, LENGTH_LIMIT);
     let c = lower_part(controllers(call), settings, tree, &mut ours, room);
     let number = number_of(c);
-    is_by_size(number) || number == number_of(p) && check::same(&theirs, &ours)
+    is_by_size(number) || number == number_of(p) && theirs == ours
 }
 
 fn answer(call: Call, settings: &[u8], tree: &[u8], text: &[u8], room: usize) -> u8 {
@@ -187,16 +188,16 @@ pub(crate) fn judged(call: Call, settings: &[u8], tree: &[u8], room: &[u8], stor
     }
 }
 
-pub(crate) fn report(done: u64, counts: [u64; 16]) {
-    say(b"cases ", done);
-    say(b", as stored: texts ", counts[0]);
-    say(b", refused 1 ", counts[1]);
-    say(b", 2 ", counts[2]);
-    say(b", 3 ", counts[3]);
-    say(b", 4 ", counts[4]);
-    say(b", 5 ", counts[5]);
-    say(b", 6 ", counts[6]);
-    say(b", 7 ", counts[7]);
-    say(b", 8 ", counts[8]);
-    say(b", 9 ", counts[9]);
+pub(crate) fn report(rt: &impl Print, done: u64, counts: [u64; 16]) -> io::Result<()> {
+    say(rt, b"cases ", done)?;
+    say(rt, b", as stored: texts ", counts[0])?;
+    say(rt, b", refused 1 ", counts[1])?;
+    say(rt, b", 2 ", counts[2])?;
+    say(rt, b", 3 ", counts[3])?;
+    say(rt, b", 4 ", counts[4])?;
+    say(rt, b", 5 ", counts[5])?;
+    say(rt, b", 6 ", counts[6])?;
+    say(rt, b", 7 ", counts[7])?;
+    say(rt, b", 8 ", counts[8])?;
+    say(rt, b", 9 ", counts[9])
 }

@@ -1,6 +1,7 @@
 // Replays the stored cases of data/, a file for each kind, and compares the proved code's answers with the stored ones. A line for each file
 // counts the cases whose answer is as stored; a line more for each case with another answer, and for a file that is broken.
 #![tactic(auto)]
+
 ghost use Rattle.std.specs.Prelude.{◌≡◌, ◌<◌};
 ghost use Rattle.replay.specs.TallyWords.{tallied};
 
@@ -8,6 +9,9 @@ use crate::cases::{Read, Turn};
 use crate::lines::{say, write};
 use crate::lowerings::Call;
 use input::first;
+use std::io::Read as Reader;
+use std::rt::Files;
+use std::{fs, io};
 
 mod buffers;
 mod cases;
@@ -43,18 +47,20 @@ fn wide(x: u8) -> usize
 }
 
 // A line begins with the name of the file.
-fn begin_line(name: &[u8]) {
-    write(name);
-    write(b": ");
+fn begin_line(rt: &impl Print, name: &str) -> io::Result<()> {
+    write(rt, name.as_bytes())?;
+    write(rt, b": ")
 }
 
-// The file of cases, or a negative number and a line on standard error.
-fn open(name: &[u8]) -> i32 {
-    let file = os::open_read(name);
-    if file < 0 {
-        os::fail(name);
+// The file of cases, or none and a line on standard error.
+fn open<R: Files + Eprint>(rt: &R, name: &str) -> io::Result<Option<R::File>> {
+    match fs::open(rt, name) {
+        Ok(file) => Ok(Some(file)),
+        Err(e) => {
+            eprintln!(rt; "{name}: {e}")?;
+            Ok(None)
+        }
     }
-    file
 }
 
 // How many parts a case has.
@@ -84,7 +90,7 @@ fn judged<'a>(kind: Kind, place: u64, a: &'a [u8], b: &'a [u8], c: &'a [u8], d: 
 // The case that comes next, its parts kept in the buffers.
 fn next_case(
     kind: Kind,
-    file: i32,
+    file: &mut impl Reader,
     place: u64,
     a: &mut [u8],
     b: &mut [u8],
@@ -105,122 +111,134 @@ fn next_case(
     }
 }
 
-fn say_broken(name: &[u8]) {
-    begin_line(name);
-    write(b"the file of cases is broken\n");
+fn say_broken(rt: &impl Print, name: &str) -> io::Result<()> {
+    begin_line(rt, name)?;
+    write(rt, b"the file of cases is broken\n")
 }
 
-fn say_other(name: &[u8], place: u64, want: u8, found: u8) {
-    begin_line(name);
-    say(b"case ", place);
-    say(b": stored ", want as u64);
-    say(b", found ", found as u64);
-    write(b"\n");
+fn say_other(rt: &impl Print, name: &str, place: u64, want: u8, found: u8) -> io::Result<()> {
+    begin_line(rt, name)?;
+    say(rt, b"case ", place)?;
+    say(rt, b": stored ", want as u64)?;
+    say(rt, b", found ", found as u64)?;
+    write(rt, b"\n")
 }
 
 // Counts the case at its answer; where another answer is found, a line says so.
-fn count(name: &[u8], counts: &mut [u64; 16], place: u64, want: u8, found: u8)
+#[tactic(auto, unfolding(crate::specs::TallyWords::tallied))]
+fn count(
+    rt: &impl Print,
+    name: &str,
+    counts: &mut [u64; 16],
+    place: u64,
+    want: u8,
+    found: u8,
+) -> io::Result<()>
     ensures { counts.new ≡ tallied counts.old want found }
 {
     if want != found {
-        say_other(name, place, want, found);
-        return;
+        return say_other(rt, name, place, want, found);
     }
     if ANSWERS <= found {
-        return;
+        return Ok(());
     }
     let i = wide(found);
     counts[i] = std::num::wrapping_add_u64(counts[i], 1);
+    Ok(())
 }
 
 // How many cases there are, and how many of each answer are as stored, at the answer's number.
 fn replay_all(
-    name: &[u8],
+    rt: &impl Print,
+    name: &str,
     kind: Kind,
-    file: i32,
+    file: &mut impl Reader,
     a: &mut [u8],
     b: &mut [u8],
     c: &mut [u8],
     d: &mut [u8],
     counts: &mut [u64; 16],
-) -> u64 {
+) -> io::Result<u64> {
     let mut done: u64 = 0;
     while done < MOST {
         match next_case(kind, file, done, a, b, c, d) {
-            Turn::End => return done,
+            Turn::End => return Ok(done),
             Turn::Broken => {
-                say_broken(name);
-                return done;
+                say_broken(rt, name)?;
+                return Ok(done);
             }
             Turn::Case { want, found } => {
-                count(name, counts, done, want, found);
+                count(rt, name, counts, done, want, found)?;
                 done += 1;
             }
         }
     }
-    done
+    Ok(done)
 }
 
-fn report(name: &[u8], kind: Kind, done: u64, counts: [u64; 16]) {
-    begin_line(name);
+fn report(rt: &impl Print, name: &str, kind: Kind, done: u64, counts: [u64; 16]) -> io::Result<()> {
+    begin_line(rt, name)?;
     match kind {
-        Kind::Operators => operators::report(done, counts),
-        Kind::Trees => trees::report(done, counts),
-        Kind::Leaves => leaves::report(done, counts),
-        Kind::Lowerings(_) => lowerings::report(done, counts),
-        Kind::Reductions => reductions::report(done, counts),
-        Kind::Readings => readings::report(done, counts),
+        Kind::Operators => operators::report(rt, done, counts)?,
+        Kind::Trees => trees::report(rt, done, counts)?,
+        Kind::Leaves => leaves::report(rt, done, counts)?,
+        Kind::Lowerings(_) => lowerings::report(rt, done, counts)?,
+        Kind::Reductions => reductions::report(rt, done, counts)?,
+        Kind::Readings => readings::report(rt, done, counts)?,
     }
-    write(b"\n");
+    write(rt, b"\n")
 }
 
-fn replay(name: &[u8], kind: Kind) {
-    let file = open(name);
-    if file < 0 {
-        return;
-    }
-    let mut a = io::large_buffer();
-    let mut b = io::large_buffer();
-    let mut c = io::large_buffer();
-    let mut d = io::large_buffer();
+fn replay(rt: &(impl Files + Print + Eprint), name: &str, kind: Kind) -> io::Result<()> {
+    let Some(mut file) = open(rt, name)? else {
+        return Ok(());
+    };
+    let mut a = input::large_buffer();
+    let mut b = input::large_buffer();
+    let mut c = input::large_buffer();
+    let mut d = input::large_buffer();
     let mut counts = [0u64; 16];
     let done = replay_all(
+        rt,
         name,
         kind,
-        file,
+        &mut file,
         &mut a,
         &mut b,
         &mut c,
         &mut d,
         &mut counts,
-    );
-    libc::close(file);
-    report(name, kind, done, counts);
+    )?;
+    drop(file);
+    report(rt, name, kind, done, counts)
 }
 
-fn main() {
-    replay(b"operators", Kind::Operators);
-    replay(b"trees", Kind::Trees);
-    replay(b"keyword_trees", Kind::Trees);
-    replay(b"text_trees", Kind::Trees);
-    replay(b"leaves", Kind::Leaves);
-    replay(b"lowerings", Kind::Lowerings(Call::Sql));
-    replay(b"text_lowerings", Kind::Lowerings(Call::Sql));
+fn main(rt: HostRuntime) -> io::Result<()> {
+    replay(&rt, "operators", Kind::Operators)?;
+    replay(&rt, "trees", Kind::Trees)?;
+    replay(&rt, "keyword_trees", Kind::Trees)?;
+    replay(&rt, "text_trees", Kind::Trees)?;
+    replay(&rt, "leaves", Kind::Leaves)?;
+    replay(&rt, "lowerings", Kind::Lowerings(Call::Sql))?;
+    replay(&rt, "text_lowerings", Kind::Lowerings(Call::Sql))?;
     replay(
-        b"geopackage_lowerings",
+        &rt,
+        "geopackage_lowerings",
         Kind::Lowerings(Call::GeoPackageSql),
-    );
+    )?;
     replay(
-        b"controller_lowerings",
+        &rt,
+        "controller_lowerings",
         Kind::Lowerings(Call::ControllerSql),
-    );
+    )?;
     replay(
-        b"controller_geopackage_lowerings",
+        &rt,
+        "controller_geopackage_lowerings",
         Kind::Lowerings(Call::ControllerGeoPackageSql),
-    );
-    replay(b"reductions", Kind::Reductions);
-    replay(b"readings", Kind::Readings);
-    replay(b"keyword_readings", Kind::Readings);
-    replay(b"text_readings", Kind::Readings);
-    replay(b"geopackage_readings", Kind::Readings);
+    )?;
+    replay(&rt, "reductions", Kind::Reductions)?;
+    replay(&rt, "readings", Kind::Readings)?;
+    replay(&rt, "keyword_readings", Kind::Readings)?;
+    replay(&rt, "text_readings", Kind::Readings)?;
+    replay(&rt, "geopackage_readings", Kind::Readings)
 }

@@ -6,6 +6,7 @@ use crate::cases::Turn;
 use crate::lines::say;
 use op::{Named, Op};
 use spelling::Spelled;
+use std::io;
 
 const TAB: u8 = 9;
 
@@ -84,8 +85,8 @@ fn spelling_right(number: usize, text: &[u8]) -> bool {
     let table = spelling::spellings();
     let spelled = spelling::to_sql(&table, number);
     match spelled {
-        Spelled::NoSpelling => check::same(text, b"PANIC"),
-        Spelled::At(from, to) => check::same(text, &table[from..to]),
+        Spelled::NoSpelling => text == b"PANIC".as_slice(),
+        Spelled::At(from, to) => text == &table[from..to],
     }
 }
 
@@ -104,12 +105,8 @@ fn line_right(line: &[u8], number: usize) -> bool {
 }
 
 fn number_right(line: &[u8], number: usize) -> bool {
-    let mut digits = [0u8; 20];
-    let n = io::decimal(number as u64, &mut digits);
-    if n < 20 {
-        return check::same(upto(line, TAB), &digits[..n]);
-    }
-    false
+    let mut digits = itoa::Buffer::new();
+    upto(line, TAB) == digits.format(number as u64).as_bytes()
 }
 
 // RIGHT for a line that is right, else 0.
@@ -129,7 +126,7 @@ pub(crate) fn judged(line: &[u8], number: usize) -> Turn {
     }
 }
 
-pub(crate) fn report(done: u64, counts: [u64; 16]) {
-    say(b"", counts[1]);
-    say(b" lines right of ", done);
+pub(crate) fn report(rt: &impl Print, done: u64, counts: [u64; 16]) -> io::Result<()> {
+    say(rt, b"", counts[1])?;
+    say(rt, b" lines right of ", done)
 }

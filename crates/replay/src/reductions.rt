@@ -5,6 +5,7 @@ use crate::cases::Turn;
 use crate::lines::say;
 use reduce::Reduced;
 use refusal::Refusal;
+use std::io;
 
 // What is found instead of an answer: another one with a buffer of another size.
 const OTHER_SIZE: u8 = 104;
@@ -61,14 +62,14 @@ pub(crate) fn judged<'a>(tree: &'a [u8], answer: &'a [u8]) -> Turn {
     }
 }
 
-pub(crate) fn report(done: u64, counts: [u64; 16]) {
-    say(b"cases ", done);
-    say(b", as stored: trees ", counts[0]);
-    say(b", refused 2 ", counts[2]);
-    say(b", 3 ", counts[3]);
-    say(b", 4 ", counts[4]);
-    say(b", 5 ", counts[5]);
-    say(b", 6 ", counts[6]);
-    say(b", 7 ", counts[7]);
-    say(b", 14 ", counts[14]);
+pub(crate) fn report(rt: &impl Print, done: u64, counts: [u64; 16]) -> io::Result<()> {
+    say(rt, b"cases ", done)?;
+    say(rt, b", as stored: trees ", counts[0])?;
+    say(rt, b", refused 2 ", counts[2])?;
+    say(rt, b", 3 ", counts[3])?;
+    say(rt, b", 4 ", counts[4])?;
+    say(rt, b", 5 ", counts[5])?;
+    say(rt, b", 6 ", counts[6])?;
+    say(rt, b", 7 ", counts[7])?;
+    say(rt, b", 14 ", counts[14])
 }

@@ -2,6 +2,7 @@
 // else the refusal's number.
 use crate::cases::{Turn, of_byte};
 use crate::lines::say;
+use std::io;
 use tree::Checked;
 
 fn number_of(c: Checked) -> u8 {
@@ -31,15 +32,15 @@ fn sum(counts: [u64; 16]) -> u64 {
     )
 }
 
-pub(crate) fn report(done: u64, counts: [u64; 16]) {
-    say(b"", done);
-    say(b" cases, ", sum(counts));
-    say(b" as expected; accepted ", counts[0]);
-    say(b", refusals 1 to 7: ", counts[1]);
-    say(b" ", counts[2]);
-    say(b" ", counts[3]);
-    say(b" ", counts[4]);
-    say(b" ", counts[5]);
-    say(b" ", counts[6]);
-    say(b" ", counts[7]);
+pub(crate) fn report(rt: &impl Print, done: u64, counts: [u64; 16]) -> io::Result<()> {
+    say(rt, b"", done)?;
+    say(rt, b" cases, ", sum(counts))?;
+    say(rt, b" as expected; accepted ", counts[0])?;
+    say(rt, b", refusals 1 to 7: ", counts[1])?;
+    say(rt, b" ", counts[2])?;
+    say(rt, b" ", counts[3])?;
+    say(rt, b" ", counts[4])?;
+    say(rt, b" ", counts[5])?;
+    say(rt, b" ", counts[6])?;
+    say(rt, b" ", counts[7])
 }

@@ -1,5 +1,6 @@
 // Whether a text may be written, by its length: refusals 8 and 9 of document 01, "What a caller hears".
 #![tactic(auto)]
+
 ghost use Rattle.std.specs.Prelude.{◌≡◌};
 ghost use Rattle.room.specs.declared.Room.TheVariants.{Enough, Refused};
 ghost use Rattle.room.specs.Room.{sized};

@@ -1,5 +1,6 @@
 // The record of the settings: a precision, and the names of three collations; and which of these is asked for.
 #![tactic(auto)]
+
 ghost use Rattle.std.specs.Prelude.{◌≡◌, ◌<◌};
 ghost use Rattle.settings.specs.Settings.{ai_at, cai_at, settings_body, is_settings};
 ghost use Rattle.settings.specs.FlagWords.{collation_flags};

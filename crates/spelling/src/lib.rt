@@ -1,5 +1,6 @@
 // How each operator is spelt in SQL.
 #![tactic(auto)]
+
 ghost use Rattle.std.specs.Prelude.{◌≡◌, ◌<◌};
 ghost use Rattle.spelling.specs.SpellingTable.{Lies, Spells, place_in};
 

@@ -1,5 +1,6 @@
 // The conditions of the temporal operators over their four ends (src/ds/sql.rs and the fifteen `t_…_sql` of src/ds/gpkg.rs).
 #![tactic(auto)]
+
 ghost use Rattle.std.specs.Prelude.{◌≡◌, ◌++◌, ◌+◌, ◌≤◌, ◌<◌, length};
 ghost use Rattle.operand.specs.Ends.{columns};
 ghost use Rattle.sql.specs.Template.{held, spelt, template_of, guarded_text, guarded_both_text, check_id_text, check_ids_text, either_text};

@@ -1,5 +1,6 @@
 // Strings: which ones are valid, and where a quoted one ends in a SQL text. Each is told in one pass.
 #![tactic(auto)]
+
 mod sequence;
 
 ghost use Rattle.std.specs.Prelude.{◌≡◌, eqb, length, get_or, ◌+◌, ◌<◌};

@@ -15,7 +15,7 @@ use Rattle.tree.specs.Levels.{levels}
 use Rattle.tree.specs.Parse.{Read, refused, got, also, parse}
 use Rattle.tree.specs.Placed.{placed}
 use Rattle.tree.specs.ParseLaws.{not_got}
-use Rattle.tree.specs.Accepted.{accepted, accepted_tree, settings as tree-settings}
+use Rattle.tree.specs.Accepted.{accepted, settings as tree-settings}
 use Rattle.tree.specs.AcceptedLaws.{accepted-is}
 use Rattle.tree.specs.EncodeLaws.{size_limit}
 use Rattle.tree.specs.LevelLaws.{shallow_read, deep_refused}

@@ -25,7 +25,7 @@ use Rattle.tree.specs.Tests.{first, second}
 use Rattle.tree.specs.Tree.{Tree, Trees, Settings, monadic, dyadic}
 use Rattle.tree.specs.Parse.{Read, refused, got, also, Body, cons, exactly, many, items, takes_one, takes_two, allowed, operated, read_function, choose, kinds, node, parse}
 use Rattle.tree.specs.Placed.{placed}
-use Rattle.tree.specs.Accepted.{settings, accepted_tree, accepted}
+use Rattle.tree.specs.Accepted.{settings, accepted}
 use Rattle.tree.specs.AcceptedLaws.{accepted-is, accepted_of}
 use Rattle.tree.specs.ParseLaws.{not_got}
 

@@ -1,4 +1,5 @@
 #![tactic(auto)]
+
 ghost use Rattle.std.specs.Prelude.{◌≡◌, true, ◌+◌, ◌-◌, ◌<◌, min, nat_abs, leb};
 ghost use Rattle.prelude.specs.Choice.{pick, both};
 ghost use Rattle.record.specs.Record.{signed};

@@ -1,5 +1,6 @@
 // Words in any letter case.
 #![tactic(auto)]
+
 ghost use Rattle.std.specs.Prelude.{◌≡◌};
 ghost use Rattle.prelude.specs.Choice.{between, same};
 ghost use Rattle.word.specs.Case.{upper, uppers};

@@ -1,7 +1,6 @@
 -- `literal::put_collate` meets its contract: the word, then the name after it.
 use native.Mathlib.Omega.{arith}
 use mathlib.Core.Path.{sym}
-use borrow.Author.Rules.{rules}
 use Rattle.literal.specs.Literal.{collate}
 use Rattle.literal.specs.LiteralLaws.{length-collate}
 use Rattle.emit.specs.RoomLaws.{no_room, room, front}

@@ -1,7 +1,6 @@
 -- `literal::put_quoted` meets its contract: a quotation mark, the text, a quotation mark.
 use native.Mathlib.Omega.{arith}
 use mathlib.Core.Path.{sym}
-use borrow.Author.Rules.{rules}
 use Rattle.prelude.specs.Bytes.{bytes}
 use Rattle.literal.specs.Literal.{quoted}
 use Rattle.literal.specs.LiteralLaws.{length-quoted}

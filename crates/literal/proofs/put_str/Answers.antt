@@ -4,7 +4,6 @@ use mathlib.Core.Path.{sym, ap, ◌∙◌}
 use native.Mathlib.Omega.{arith}
 use lib.ListN.{length}
 use lib.Seq.{length-sets}
-use borrow.Author.Rules.{rules}
 use Rattle.prelude.specs.Bytes.{bytes}
 use Rattle.string.specs.Quote.{doubled}
 use Rattle.string.specs.QuoteLaws.{no_mark_doubled}

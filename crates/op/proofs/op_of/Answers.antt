@@ -1,6 +1,5 @@
 -- `op::op_of` meets its contract: each arm knows its number, and what is none of 0 to 52 lies past the list.
 use mathlib.Core.Path.{sym}
-use native.Mathlib.Omega.{arith}
 use Rattle.op.proofs.Laws.{past_all}
 use Rattle.op.proofs.op_of.Goals as goal
 

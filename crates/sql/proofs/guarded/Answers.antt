@@ -2,7 +2,6 @@ use native.Mathlib.Omega.{arith}
 use mathlib.Core.Path.{◌∙◌}
 use Rattle.sql.proofs.Laws.{then, one_front}
 use Rattle.sql.specs.Template.{spelt, part_of, parts, guarded_text}
-use borrow.Author.Rules.{rules}
 use Rattle.sql.proofs.guarded.Goals as goal
 
 -- no need slice-aggregate-push

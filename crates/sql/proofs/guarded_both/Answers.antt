@@ -2,7 +2,6 @@ use native.Mathlib.Omega.{arith}
 use mathlib.Core.Path.{◌∙◌}
 use Rattle.sql.proofs.Laws.{then, two_fronts}
 use Rattle.sql.specs.Template.{spelt, part_of, parts, guarded_both_text}
-use borrow.Author.Rules.{rules}
 use Rattle.sql.proofs.guarded_both.Goals as goal
 
 -- no need slice-aggregate-push

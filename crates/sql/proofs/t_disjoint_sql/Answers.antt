@@ -5,7 +5,6 @@ use Rattle.operand.specs.Ends.{columns}
 use Rattle.sql.specs.Condition.{test, lt, gt, print, check_id, check_ids}
 use Rattle.sql.specs.Template.{spelt, part_of, parts, either_text, template_of, held}
 use Rattle.sql.specs.Translators.{t_disjoint}
-use borrow.Author.Rules.{rules}
 use Rattle.sql.proofs.t_disjoint_sql.Goals as goal
 
 -- no need slice-aggregate-check-ids

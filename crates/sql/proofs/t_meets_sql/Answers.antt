@@ -5,7 +5,6 @@ use Rattle.operand.specs.Ends.{columns}
 use Rattle.sql.specs.Condition.{test, eq, print}
 use Rattle.sql.specs.Template.{spelt, part_of, parts}
 use Rattle.sql.specs.Translators.{t_meets}
-use borrow.Author.Rules.{rules}
 use Rattle.sql.proofs.t_meets_sql.Goals as goal
 
 -- no need slice-aggregate-check-ids

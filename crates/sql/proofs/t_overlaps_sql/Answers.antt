@@ -2,7 +2,6 @@ use native.Mathlib.Omega.{arith}
 use Rattle.sql.specs.Condition.{print}
 use Rattle.sql.specs.Template.{spelt, part_of, parts}
 use Rattle.sql.specs.Translators.{t_overlaps}
-use borrow.Author.Rules.{rules}
 use Rattle.sql.proofs.t_overlaps_sql.Goals as goal
 
 -- no need slice-aggregate-sql

@@ -4,9 +4,7 @@ use mathlib.Core.Path.{◌≡◌, sym, ap, ◌∙◌}
 use mathlib.Core.Bool.{Bool}
 use Rattle.prelude.specs.Choice.{pick}
 use Rattle.refusal.specs.declared.Refusal.TheVariants.{BadOperand}
-use Rattle.tree.specs.declared.Checked.{Checked}
-use Rattle.tree.specs.Parse.{Read}
-use Rattle.tree.specs.Accepted.{verdict, said, heard}
+use Rattle.tree.specs.Accepted.{heard}
 use Rattle.tree.specs.AcceptedLaws.{heard-verdict}
 use Rattle.tree.specs.declared.Checked.TheVariants.{Valid, Refused}
 use Rattle.tree.proofs.WalkLaws as walk

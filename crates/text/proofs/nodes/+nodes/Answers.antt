@@ -10,7 +10,6 @@ use Rattle.record.specs.Record.{le16}
 use Rattle.sql.specs.Template.{fill, spelt}
 use Rattle.tree.specs.Accepted.{settings_in}
 use Rattle.text.proofs.WalkLaws.{come_start, come_next, come_end, leaf-step, date-step, high_text, six, fourteen, listed, node_of, node_piece, name_piece, plain_step, node-step, name-step, monadic_node, monadic_step, from_bounds, all_filled, items_fall, items_short, infix_step, two_node, not_either, or_else, temporal_node, node_ends_lem, not_temporal, bounds_range, bound_null, bound_item, between_step, spatial_step}
-use borrow.Author.Tests.{not-true, not-false}
 use lib.Dec.{eqb}
 use Rattle.class.specs.ClassWords.{between_number, spatial_number}
 use borrow.Fn.PlainCycle.{is}
