@@ -1,5 +1,5 @@
 #!/usr/bin/env python3
-"""Writes trees with what they are reduced to, or with the refusal, for crates/replay: data/reductions and its line of stdout.
+"""Writes trees with what they are reduced to, or with the refusal, for crates/replay_reductions: data/reductions and the line of stdout.
 
 usage: python3 tools/answers/make_reduction_answers.py ORACLE     ORACLE: the program that ../shared/oracle/build.py makes
 

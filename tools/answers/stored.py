@@ -8,7 +8,7 @@ from model.refusals import ABSENT, BUFFER, CONSTANT_OPERANDS, GRAMMAR, PLACE, RE
 
 CRATES = os.path.join(os.path.dirname(os.path.abspath(__file__)), '..', '..', 'crates')
 REPLAYED = ('operators', 'trees', 'keyword_trees', 'text_trees', 'leaves', 'lowerings', 'text_lowerings', 'geopackage_lowerings', 'controller_lowerings',
-            'controller_geopackage_lowerings', 'reductions', 'readings', 'keyword_readings', 'text_readings',
+            'controller_geopackage_lowerings', 'readings', 'keyword_readings', 'text_readings',
             'geopackage_readings')    # in the order of the program's lines
 checking = False    # set by make_all.py
 
@@ -26,9 +26,16 @@ def write(data, *path):
         f.write(data)
 
 
+def program(word):
+    """The program whose data the list is."""
+    return 'replay' if word in REPLAYED else 'replay_' + word
+
+
 def write_cases(word, cases, line):
-    """Each case a tuple of parts, to the program `replay`: its file of that name, and the line that it must write of it."""
-    write(b''.join(framed(*case) for case in cases), 'replay', 'data', word)
+    """Each case a tuple of parts, to the program that replays them: its file of that name, and the line that it must write of it."""
+    write(b''.join(framed(*case) for case in cases), program(word), 'data', word)
+    if word not in REPLAYED:
+        return write('%s: %s\n' % (word, line), program(word), 'stdout')
     with open(os.path.join(CRATES, 'replay', 'stdout')) as f:
         lines = {line.partition(':')[0]: line for line in f.read().splitlines()}
     lines[word] = '%s: %s' % (word, line)
@@ -43,7 +50,7 @@ def framed(*parts):
 
 def cases(word, count):
     """The cases of the file of that name, each of so many parts."""
-    with open(os.path.join(CRATES, 'replay', 'data', word), 'rb') as f:
+    with open(os.path.join(CRATES, program(word), 'data', word), 'rb') as f:
         data, parts, at = f.read(), [], 0
     while at < len(data):
         size = struct.unpack_from('<I', data, at)[0]

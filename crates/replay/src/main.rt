@@ -20,7 +20,6 @@ mod lines;
 mod lowerings;
 mod operators;
 mod readings;
-mod reductions;
 mod trees;
 
 // What the cases of a file are about.
@@ -30,7 +29,6 @@ enum Kind {
     Trees,
     Leaves,
     Lowerings(Call),
-    Reductions,
     Readings,
 }
 
@@ -70,7 +68,6 @@ fn parts_of(kind: Kind) -> usize {
         Kind::Trees => 3,
         Kind::Leaves => 2,
         Kind::Lowerings(_) => 4,
-        Kind::Reductions => 2,
         Kind::Readings => 3,
     }
 }
@@ -82,7 +79,6 @@ fn judged<'a>(kind: Kind, place: u64, a: &'a [u8], b: &'a [u8], c: &'a [u8], d: 
         Kind::Trees => trees::judged(a, b, c),
         Kind::Leaves => leaves::judged(a, b),
         Kind::Lowerings(call) => lowerings::judged(call, a, b, c, d),
-        Kind::Reductions => reductions::judged(a, b),
         Kind::Readings => readings::judged(a, b, c),
     }
 }
@@ -183,7 +179,6 @@ fn report(rt: &impl Print, name: &str, kind: Kind, done: u64, counts: [u64; 16])
         Kind::Trees => trees::report(rt, done, counts)?,
         Kind::Leaves => leaves::report(rt, done, counts)?,
         Kind::Lowerings(_) => lowerings::report(rt, done, counts)?,
-        Kind::Reductions => reductions::report(rt, done, counts)?,
         Kind::Readings => readings::report(rt, done, counts)?,
     }
     write(rt, b"\n")
@@ -236,7 +231,6 @@ fn main(rt: HostRuntime) -> io::Result<()> {
         "controller_geopackage_lowerings",
         Kind::Lowerings(Call::ControllerGeoPackageSql),
     )?;
-    replay(&rt, "reductions", Kind::Reductions)?;
     replay(&rt, "readings", Kind::Readings)?;
     replay(&rt, "keyword_readings", Kind::Readings)?;
     replay(&rt, "text_readings", Kind::Readings)?;

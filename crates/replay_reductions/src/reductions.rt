@@ -1,7 +1,7 @@
 // Trees and what they are reduced to, as the model has it and the Rust's texts confirm. A case: the tree, the answer, which is a byte 0 and the
 // reduced tree, or the refusal's number. Each is tried with a buffer that is exactly long enough, with a longer one, and one byte short, where 9 is due.
+use crate::Turn;
 use crate::buffers::{blank_buffer, refusal_found, text_found};
-use crate::cases::Turn;
 use crate::lines::say;
 use reduce::Reduced;
 use refusal::Refusal;
