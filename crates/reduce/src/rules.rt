@@ -127,6 +127,7 @@ fn meet_and(a: usize, b: usize) -> Meet
     Meet::MeetNull
 }
 
+#[tactic(auto, unfolding(crate::specs::Rules::meet_or))]
 fn meet_or(left: usize, right: usize) -> Meet
     ensures { result ≡ meet_or left right }
 {

@@ -1,6 +1,5 @@
 -- `reduce::chains::text_below` meets its contract, one record at a time; the measure is the length of the record.
 use lib.ListN.{length}
-use Prim.Native.Nat.{◌-◌}
 use Rattle.reduce.proofs.chains.+text_below.Given as goal
 
 abbrev pub decreases-text_below : goal.decreases-text_below

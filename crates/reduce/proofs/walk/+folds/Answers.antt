@@ -2,13 +2,11 @@
 use native.Mathlib.Omega.{arith}
 use mathlib.Core.Path.{refl, sym, ◌∙◌}
 use lib.ListN.{length}
-use Prim.Native.Nat.{◌+◌, ◌-◌}
+use Prim.Native.Nat.{◌+◌}
 use Rattle.reduce.proofs.NodeLaws.{part_length}
 use Rattle.reduce.proofs.ChainLaws.{below_length}
 use Rattle.reduce.proofs.StepLaws as step
 use Rattle.reduce.proofs.ItemLaws as item
-use borrow.Fn.PlainCycle.{is}
-use Rattle.reduce.proofs.walk.fold.Reads as fold
 use Rattle.reduce.proofs.walk.+folds.Goals as goal
 
 pub fold-fold_leaf-requires : goal.fold-fold_leaf-requires
