@@ -5,7 +5,6 @@
 
 use gpkg::Lowered;
 use input::Part;
-use refusal::Refusal;
 use std::env::FillError;
 use std::io;
 use std::io::Read;

@@ -7,7 +7,6 @@
 use gpkg::Lowered;
 use input::Part;
 use reduce::Reduced;
-use refusal::Refusal;
 use std::env::FillError;
 use std::io;
 use std::io::Read;
