@@ -51,13 +51,17 @@ truth_by (suc zero) = True
 truth_by (suc (suc n)) = Unknown
 
 abbrev pub lowered_by : ℤ → Lowered
-lowered_by = answer-by Text NoText
+lowered_by (pos n) = Text n
+lowered_by (negsuc n) = NoText (refusal_at n)
 
 abbrev pub reduced_by : ℤ → Reduced
 reduced_by = answer-by Tree NoTree
 
 abbrev pub read_by : ℤ → Reading
-read_by = answer-by truth_by NoTruth
+read_by (pos zero) = False
+read_by (pos (suc zero)) = True
+read_by (pos (suc (suc n))) = Unknown
+read_by (negsuc n) = NoTruth (refusal_at n)
 
 pub lowered_back : (r : Lowered) → lowered_by (lowering_number (lowered.heard r)) ≡ r
 lowered_back (Text n) = refl
