@@ -43,8 +43,8 @@ def write_cases(word, cases, line):
 
 
 def framed(*parts):
-    """Each part after its length in four bytes, little-endian: the form of stored cases, of standard input of `lower` and `read`, and of what the
-    oracle is asked."""
+    """Each part after its length in four bytes, little-endian: the form of stored cases, of standard input of the programs that crates/input reads
+    for, and of what the oracle is asked."""
     return b''.join(struct.pack('<I', len(part)) + part for part in parts)
 
 

@@ -177,7 +177,7 @@ def run(arguments):
     collations = (options.ci, options.ai, options.cai)
     package = GeoPackage(options.geopackage, collations, options.spatialite) if options.geopackage is not None else None
     name = package.table(options.table) if package else None
-    proved.build(['lower'])
+    proved.build(['lower', *['lower_reduced'] * options.reduce])
     settings = records.settings(options.precision, *collations)
     writing = options.writing or (GEOPACKAGE if package else RUST)
     sql = lowering.lower(settings, tree, writing, CONTROLLER if options.controller else PLANNER, options.reduce)

@@ -27,7 +27,7 @@ def refusal_of(line):
 def lower(settings, tree, writing=RUST, caller=PLANNER, reduced=False):
     """The SQL text, or Refused; both writings are refused alike, but for the length of the text, both callers but for their limits. `reduced`: the tree is
     reduced first, within the planner's limits, and what comes of it is lowered."""
-    line = proved.run('lower', [(settings, tree.encode())], reducing.ARGUMENTS[reduced] + callers.ARGUMENTS[caller] + ARGUMENTS[writing])[0]
+    line = proved.run(reducing.PROGRAM[reduced], [(settings, tree.encode())], callers.ARGUMENTS[caller] + ARGUMENTS[writing])[0]
     number = refusal_of(line)
     if number is None:
         return line

@@ -1,5 +1,5 @@
-"""The proved programs `lower` and `read`, and the libraries for C: built by `rt` where that is needed, one build at a time; the programs run on many cases
-at once."""
+"""The proved programs `lower`, `lower_reduced` and `read`, and the libraries for C: built by `rt` where that is needed, one build at a time; the programs
+run on many cases at once."""
 import os
 import re
 import shutil
@@ -31,7 +31,7 @@ def build_archives(names):
 
 def make(wanted, told):
     if shutil.which(stamps.command()[0]) is None:
-        if all(os.access(os.path.join(ROOT, made.path), os.R_OK) for made in wanted):
+        if all(os.access(os.path.join(ROOT, made.path), os.X_OK if made.word == 'run' else os.R_OK) for made in wanted):
             return
         raise BadInput('%s not built, and `rt` of the Rattle kit is not on the PATH' % told)
     left = [made for made in wanted if not stamps.built(ROOT, made)]

@@ -4,7 +4,7 @@ from . import proved, records
 from .encode import KNOWN
 from .errors import BadInput, Refused
 
-ARGUMENTS = {False: (), True: ('reduce',)}    # of the program `lower`, before those of a caller
+PROGRAM = {False: 'lower', True: 'lower_reduced'}    # with the same arguments
 CONSTANTS = 'NULL', 'TRUE', 'FALSE'    # the texts of what a condition without columns is reduced to
 REFUSED = 'refused 14'
 NAMES = {op: name for name, (op, *_) in KNOWN.items()}
@@ -18,7 +18,7 @@ def operator(node):
 
 def answers(settings, nodes):
     """What the program says of each by itself, reduced: a text, or a refusal."""
-    return proved.run('lower', [(settings, node.encode()) for node in nodes], ARGUMENTS[True])
+    return proved.run(PROGRAM[True], [(settings, node.encode()) for node in nodes])
 
 
 def constant(settings, tree):

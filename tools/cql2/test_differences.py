@@ -237,7 +237,7 @@ def asked(expression, row, kind=''):
 class Differences(unittest.TestCase):
     @classmethod
     def setUpClass(cls):
-        proved.build(['lower', 'read'])
+        proved.build(['lower', 'lower_reduced', 'read'])
         with open(os.path.join(proved.ROOT, 'docs', 'DIFFERENCES.md'), encoding='utf-8') as f:
             cls.rows = [line.split(' | ') for line in f.read().split('\n') if line.startswith('| ')]
 
@@ -248,7 +248,7 @@ class Differences(unittest.TestCase):
         return ' | '.join(found[0])
 
     def lower(self, trees, writing=RUST, reduced=False):
-        return proved.run('lower', [(SETTINGS, tree.encode()) for tree in trees], reducing.ARGUMENTS[reduced] + ARGUMENTS[writing])
+        return proved.run(reducing.PROGRAM[reduced], [(SETTINGS, tree.encode()) for tree in trees], ARGUMENTS[writing])
 
     def test_refused_here(self):
         for (first, _, (_, words), number), line in zip(REFUSED, self.lower(case[1] for case in REFUSED)):

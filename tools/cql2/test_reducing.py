@@ -62,7 +62,7 @@ def with_column(value, place):
 class Texts(unittest.TestCase):
     @classmethod
     def setUpClass(cls):
-        proved.build(['lower'])
+        proved.build(['lower', 'lower_reduced'])
 
     def test_by_hand(self):
         for data, plain, due in TEXTS:
@@ -88,7 +88,7 @@ class Texts(unittest.TestCase):
         filters = [json.dumps(Maker(seed, (10 ** 9, 8, 30)[seed % 3]).condition(seed % 12)) for seed in range(2000)]
         trees = [Encoder(7, 4326, ['f']).filter(read_filter(data.encode())) for data in filters]
         for (caller, limit), (writing, words) in itertools.product(callers.LIMITS.items(), ARGUMENTS.items()):
-            told = proved.run('lower', [(settings, tree.encode()) for tree in trees], reducing.ARGUMENTS[True] + callers.ARGUMENTS[caller] + words)
+            told = proved.run('lower_reduced', [(settings, tree.encode()) for tree in trees], callers.ARGUMENTS[caller] + words)
             for tree, line in zip(trees, told):
                 due = calls.reduced_to_sql(settings, tree.encode(), limit.text, writing, limit)
                 self.assertEqual(line, due.decode() if isinstance(due, bytes) else 'refused %d' % due)
@@ -162,7 +162,7 @@ class Constants(test_silence.Maker):
 class Warnings(unittest.TestCase):
     @classmethod
     def setUpClass(cls):
-        proved.build(['lower'])
+        proved.build(['lower', 'lower_reduced'])
 
     def test_what_is_not_in_the_text(self):
         """Two written instants are compared by time; what is said of another part stays."""
@@ -181,7 +181,7 @@ class Warnings(unittest.TestCase):
         filters = [maker.condition(maker.r.randrange(4)) for maker in makers]
         rows = [makers[0].row() for _ in range(40)]
         trees = [tree_of(data) for data in filters]
-        told = proved.run('lower', [(settings, tree.encode()) for tree in trees], reducing.ARGUMENTS[True] + ARGUMENTS[GEOPACKAGE])
+        told = proved.run('lower_reduced', [(settings, tree.encode()) for tree in trees], ARGUMENTS[GEOPACKAGE])
         kept = [(data, tree, text) for data, tree, text in zip(filters, trees, told) if lowering.refusal_of(text) is None]
         silent = parted = 0
         for (data, tree, text), picked in zip(kept, test_silence.Silence().picks([text for *_, text in kept], rows, 'DATE')):

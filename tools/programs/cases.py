@@ -1,4 +1,4 @@
-"""What the gate runs the programs `lower` and `read` on, with answers written by hand from document 01.
+"""What the gate runs the programs `lower`, `lower_reduced` and `read` on, with answers written by hand from document 01.
 
 The long parts are there because a program must answer, and go on with the next case, also where a part passes every limit and its own buffer."""
 from answers.stored import framed
@@ -37,8 +37,7 @@ STAMPED = [    # with the texts of both writing calls
      "('-2021-01-01' = '-2021-01-01') AND ('-2021-01-01' = '-2021-01-01')", "('-2021-01-01' = '-2021-01-01') AND ('-2021-01-01' = 'A')"),
     ((SETTINGS, interval(A, unbounded())), 'refused 7', 'refused 7'),
 ]
-REDUCED = [    # what `lower reduce` answers; refusals of reducing come before the 1
-    ((SETTINGS, SHEET_J), TEXT_J.decode()),
+REDUCED = LOWER + [    # what `lower_reduced` answers; refusals of reducing come before the 1
     ((SETTINGS, dyadic(NUMBER['Or'], NULL, boolean(1))), 'TRUE'),
     ((SETTINGS, dyadic(NUMBER['And'], A, monadic(NUMBER['Neg'], boolean(1)))), 'a AND FALSE'),
     ((SETTINGS, dyadic(NUMBER['Eq'], A, monadic(NUMBER['Minus'], num(150, 1)))), 'a = -15'),
@@ -49,9 +48,6 @@ REDUCED = [    # what `lower reduce` answers; refusals of reducing come before t
     ((b'', dyadic(NUMBER['Eq'], num(1), num(1))), 'refused 14'),
     ((b'', interval(A, B)), 'refused 7'),
     ((b'', NULL), 'refused 1'),
-    ((SETTINGS, bytes(70000)), 'refused 2'),
-    ((bytes(70000), NULL), 'refused 1'),
-    ((SETTINGS, b''), 'refused 3'),
 ]
 READ = [
     ((TEXT_J, ROW_N), 'unknown'),

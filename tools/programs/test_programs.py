@@ -1,4 +1,4 @@
-"""Tests of the programs `lower` and `read` as they stand on standard input: cut input, lengths that lie, slow pipes, long runs.
+"""Tests of the programs `lower`, `lower_reduced` and `read` as they stand on standard input: cut input, lengths that lie, slow pipes, long runs.
 
   python3 -m unittest discover -s tools     all tests of the command and of the programs"""
 import itertools
@@ -27,10 +27,10 @@ def answers(name, data, *words):
 class Programs(unittest.TestCase):
     @classmethod
     def setUpClass(cls):
-        proved.build(['lower', 'read'])
+        proved.build(['lower', 'lower_reduced', 'read'])
 
     def test_no_input_no_answer(self):
-        for name in ('lower', 'read'):
+        for name in ('lower', 'lower_reduced', 'read'):
             self.assertEqual(answers(name, b''), [])
 
     def test_both_writings(self):
@@ -41,20 +41,21 @@ class Programs(unittest.TestCase):
 
     def test_other_arguments(self):
         for words in (['rust'], ['geopackage', 'geopackage'], [''], ['GEOPACKAGE'], ['--help'], ['planner'], ['geopackage', 'controller'],
-                      ['controller', 'controller'], ['controller', 'geopackage', 'geopackage'], ['controllers'], ['controller', ''], ['reduce', 'reduce'],
-                      ['controller', 'reduce'], ['geopackage', 'reduce'], ['reduced'], ['reduce', 'geopackage', 'controller'],
-                      ['reduce', 'controller', 'geopackage', 'geopackage']):
-            done = subprocess.run([proved.path_of('lower'), *words], input=framed(SETTINGS, NULL), capture_output=True, timeout=60)
-            self.assertEqual((done.stdout, done.stderr), (b'', b'usage: lower [reduce] [controller] [geopackage]\n'), words)
+                      ['controller', 'controller'], ['controller', 'geopackage', 'geopackage'], ['controllers'], ['controller', ''], ['reduce'],
+                      ['reduce', 'controller'], ['reduce', 'controller', 'geopackage'], ['reduce', 'reduce'], ['controller', 'reduce'],
+                      ['geopackage', 'reduce'], ['reduced']):
+            for name in ('lower', 'lower_reduced'):
+                done = subprocess.run([proved.path_of(name), *words], input=framed(SETTINGS, NULL), capture_output=True, timeout=60)
+                self.assertEqual((done.stdout, done.stderr), (b'', b'usage: %s [controller] [geopackage]\n' % name.encode()), words)
 
     def test_each_cut_of_a_case_is_told(self):
-        for name, case in (('lower', framed(SETTINGS, SHEET_J)), ('read', framed(TEXT_J, ROW_N))):
+        for name, case in (('lower', framed(SETTINGS, SHEET_J)), ('lower_reduced', framed(SETTINGS, SHEET_J)), ('read', framed(TEXT_J, ROW_N))):
             for n in range(1, len(case)):
                 self.assertEqual(answers(name, case[:n]), ['incomplete'], n)
             self.assertNotEqual(answers(name, case), ['incomplete'])
 
     def test_a_length_that_promises_too_much(self):
-        for name in ('lower', 'read'):
+        for name in ('lower', 'lower_reduced', 'read'):
             for n in (100, 65536, 65537, 2 ** 31, 2 ** 32 - 1):
                 self.assertEqual(answers(name, struct.pack('<I', n) + b'x' * 99), ['incomplete'])
 
@@ -94,9 +95,9 @@ class Programs(unittest.TestCase):
             self.assertTrue(set(told) >= {'refused 3', 'refused 5', 'refused 6', 'refused 7', *own})
 
     def test_reduced(self):
-        self.assertEqual(answers('lower', b''.join(framed(*parts) for parts, _ in REDUCED), 'reduce'), [line for _, line in REDUCED])
+        self.assertEqual(answers('lower_reduced', b''.join(framed(*parts) for parts, _ in REDUCED)), [line for _, line in REDUCED])
         stamped = b''.join(framed(*parts) for parts, *_ in STAMPED)
-        self.assertEqual(answers('lower', stamped, 'reduce', 'geopackage'), [line for *_, line in STAMPED])
+        self.assertEqual(answers('lower_reduced', stamped, 'geopackage'), [line for *_, line in STAMPED])
 
     def test_reduced_lowerings_of_the_model(self):
         r = random.Random(8)
@@ -105,7 +106,7 @@ class Programs(unittest.TestCase):
         cases = [(SETTINGS, encode(tree)) for tree in some]
         cases += [*((SETTINGS, tree) for _, tree in reductions.wrong()), *trees.mutations(2000, 8)]
         for (caller, limit), (writing, words) in itertools.product(callers.LIMITS.items(), WORDS.items()):
-            told = answers('lower', b''.join(framed(*case) for case in cases), 'reduce', *callers.ARGUMENTS[caller], *words)
+            told = answers('lower_reduced', b''.join(framed(*case) for case in cases), *callers.ARGUMENTS[caller], *words)
             for case, line in zip(cases, told):
                 want = calls.reduced_to_sql(*case, limit.text, writing, limit)
                 self.assertEqual(line, want.decode() if isinstance(want, bytes) else 'refused %d' % want, case)

@@ -1,14 +1,10 @@
 // Lowers filters as `gpkg::to_sql` does, or with the argument `geopackage` as `gpkg::to_geopackage_sql`; with the argument `controller` before it as
-// these of crate controller; with the argument `reduce` before all others what `reduce::reduce` makes of each tree. Standard input: cases to its end, each a settings record and then a tree, each of these after its length in four bytes,
+// these of crate controller. Standard input: cases to its end, each a settings record and then a tree, each of these after its length in four bytes,
 // little-endian. Standard output: a line for each case, the SQL text or `refused N`; `incomplete` if the input ends inside a case.
 #![tactic(auto)]
 
-ghost use Rattle.std.specs.Prelude.{◌≤◌};
-
 use gpkg::Lowered;
 use input::Part;
-use reduce::Reduced;
-use refusal::Refusal;
 use std::env::FillError;
 use std::io;
 use std::io::Read;
@@ -32,24 +28,7 @@ fn lower(call: Call, settings: &[u8], tree: &[u8], out: &mut [u8]) -> Lowered {
     }
 }
 
-// What is done with a case.
-#[derive(Clone, Copy)]
-struct Way {
-    call: Call,
-    reduces: bool,
-}
-
-fn end_line(rt: &impl Print) -> io::Result<()> {
-    rt.write_all(b"\n")
-}
-
-fn say_refused(rt: &impl Print, r: Refusal) -> io::Result<()> {
-    rt.write_all(b"refused ")?;
-    rt.print(refusal::number(r))?;
-    end_line(rt)
-}
-
-fn answer_lowered(
+fn answer(
     rt: &impl Print,
     call: Call,
     settings: &[u8],
@@ -57,41 +36,13 @@ fn answer_lowered(
     out: &mut [u8],
 ) -> io::Result<()> {
     match lower(call, settings, tree, out) {
-        Lowered::Text(n) => {
-            rt.write_all(input::first(out, n))?;
-            end_line(rt)
+        Lowered::Text(n) => rt.write_all(input::first(out, n))?,
+        Lowered::Refused(r) => {
+            rt.write_all(b"refused ")?;
+            rt.print(refusal::number(r))?;
         }
-        Lowered::Refused(r) => say_refused(rt, r),
     }
-}
-
-fn answer_reduced(
-    rt: &impl Print,
-    call: Call,
-    settings: &[u8],
-    tree: &[u8],
-    room: &mut [u8],
-    out: &mut [u8],
-) -> io::Result<()> {
-    match reduce::reduce(tree, room) {
-        Reduced::Tree(n) => answer_lowered(rt, call, settings, input::first(room, n), out),
-        Reduced::Refused(r) => say_refused(rt, r),
-    }
-}
-
-fn answer(
-    rt: &impl Print,
-    way: Way,
-    settings: &[u8],
-    tree: &[u8],
-    room: &mut [u8],
-    out: &mut [u8],
-) -> io::Result<()> {
-    let call = way.call;
-    if way.reduces {
-        return answer_reduced(rt, call, settings, tree, room, out);
-    }
-    answer_lowered(rt, call, settings, tree, out)
+    rt.write_all(b"\n")
 }
 
 fn incomplete(rt: &impl Print) -> io::Result<()> {
@@ -102,11 +53,10 @@ fn incomplete(rt: &impl Print) -> io::Result<()> {
 fn rest_of_case(
     rt: &impl Print,
     stdin: &mut impl Read,
-    way: Way,
+    call: Call,
     settings: &mut [u8],
     n: usize,
     tree: &mut [u8],
-    room: &mut [u8],
     out: &mut [u8],
 ) -> io::Result<bool> {
     let mut head = [0u8; 4];
@@ -115,10 +65,9 @@ fn rest_of_case(
         Part::Whole(m) => {
             answer(
                 rt,
-                way,
+                call,
                 input::first(settings, n),
                 input::first(tree, m),
-                room,
                 out,
             )?;
             Ok(true)
@@ -134,10 +83,9 @@ fn rest_of_case(
 fn next_case(
     rt: &impl Print,
     stdin: &mut impl Read,
-    way: Way,
+    call: Call,
     settings: &mut [u8],
     tree: &mut [u8],
-    room: &mut [u8],
     out: &mut [u8],
 ) -> io::Result<bool> {
     let mut head = [0u8; 4];
@@ -148,7 +96,7 @@ fn next_case(
             incomplete(rt)?;
             Ok(false)
         }
-        Part::Whole(n) => rest_of_case(rt, stdin, way, settings, n, tree, room, out),
+        Part::Whole(n) => rest_of_case(rt, stdin, call, settings, n, tree, out),
     }
 }
 
@@ -156,31 +104,28 @@ fn next_case(
 fn answer_all(
     rt: &impl Print,
     stdin: &mut impl Read,
-    way: Way,
+    call: Call,
     settings: &mut [u8],
     tree: &mut [u8],
-    room: &mut [u8],
     out: &mut [u8],
 ) -> io::Result<()> {
     let mut turns = u64::MAX;
-    while turns > 0 && next_case(rt, stdin, way, settings, tree, room, out)? {
+    while turns > 0 && next_case(rt, stdin, call, settings, tree, out)? {
         turns -= 1;
     }
     Ok(())
 }
 
-fn answer_by(rt: &(impl Input + Print), call: Call, reduces: bool) -> io::Result<()> {
+fn answer_by(rt: &(impl Input + Print), call: Call) -> io::Result<()> {
     let mut settings = input::large_buffer();
     let mut tree = input::large_buffer();
-    let mut room = input::large_buffer();
     let mut out = input::large_buffer();
     answer_all(
         rt,
         &mut rt.reader(),
-        Way { call, reduces },
+        call,
         &mut settings,
         &mut tree,
-        &mut room,
         &mut out,
     )
 }
@@ -212,40 +157,17 @@ fn is_arg(rt: &impl Env, place: usize, word: &[u8]) -> bool {
     }
 }
 
-fn usage(rt: &impl Eprint) -> io::Result<()> {
-    rt.eprintln("usage: lower [reduce] [controller] [geopackage]")
-}
-
-// The arguments from this place on say which call; there are n, the program's name among them.
-fn answer_from(
-    rt: &(impl Env + Input + Print + Eprint),
-    place: usize,
-    n: usize,
-    reduces: bool,
-) -> io::Result<()>
-    requires { place ≤ 2 }
-{
-    if n <= place {
-        answer_by(rt, Call::Sql, reduces)
-    } else if n == place + 1 && is_arg(rt, place, b"geopackage") {
-        answer_by(rt, Call::GeoPackageSql, reduces)
-    } else if n == place + 1 && is_arg(rt, place, b"controller") {
-        answer_by(rt, Call::ControllerSql, reduces)
-    } else if n == place + 2
-        && is_arg(rt, place, b"controller")
-        && is_arg(rt, place + 1, b"geopackage")
-    {
-        answer_by(rt, Call::ControllerGeoPackageSql, reduces)
-    } else {
-        usage(rt)
-    }
-}
-
 fn main(rt: HostRuntime) -> io::Result<()> {
     let n = arg_count(&rt);
-    if 1 < n && is_arg(&rt, 1, b"reduce") {
-        answer_from(&rt, 2, n, true)
+    if n <= 1 {
+        answer_by(&rt, Call::Sql)
+    } else if n == 2 && is_arg(&rt, 1, b"geopackage") {
+        answer_by(&rt, Call::GeoPackageSql)
+    } else if n == 2 && is_arg(&rt, 1, b"controller") {
+        answer_by(&rt, Call::ControllerSql)
+    } else if n == 3 && is_arg(&rt, 1, b"controller") && is_arg(&rt, 2, b"geopackage") {
+        answer_by(&rt, Call::ControllerGeoPackageSql)
     } else {
-        answer_from(&rt, 1, n, false)
+        rt.eprintln("usage: lower [controller] [geopackage]")
     }
 }

@@ -3,7 +3,7 @@ use Rattle.std.proofs.Common.{◌≡◌, length}
 use Rattle.lower.proofs.answer_all.Given as goal
 
 abbrev pub invariant-loop-turns : goal.invariant-loop-turns
-invariant-loop-turns g l = (length l.settings ≡ length l.initial.settings) × (length l.tree ≡ length l.initial.tree) × (length l.room ≡ length l.initial.room) × (length l.out ≡ length l.initial.out)
+invariant-loop-turns g l = (length l.settings ≡ length l.initial.settings) × (length l.tree ≡ length l.initial.tree) × (length l.out ≡ length l.initial.out)
 
 abbrev pub decreases-loop-turns : goal.decreases-loop-turns
 decreases-loop-turns g l = l.turns
