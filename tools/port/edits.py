@@ -1,7 +1,7 @@
 #!/usr/bin/env python3
 """Brings must-fail edits over to the turned files: the same wrong meaning, in today's spelling.
 
-usage: edits.py OLD TURNED VARIANTS      at the top, after port.py and names.py
+usage: edits.py OLD TURNED VARIANTS      once, at the top, after port.py and names.py: two edits (row, order) were mended by hand after it
 
 OLD is the commit before port.py. TURNED is a clone of it in which each edit was applied to the old text of its file, the outcome saved
 beside that file, and port.py run over it all; VARIANTS is a JSON list [edit, file, outcome] of paths in it. What an edit changes is
