@@ -4,9 +4,9 @@
 // comes before all others; `incomplete` if the input ends inside a case.
 #![tactic(auto)]
 
-use gpkg::Lowered;
 use input::Part;
 use reduce::Reduced;
+use refusal::Refusal;
 use std::env::FillError;
 use std::io;
 use std::io::Read;
@@ -21,7 +21,7 @@ enum Call {
     ControllerGeoPackageSql,
 }
 
-fn lower(call: Call, settings: &[u8], tree: &[u8], out: &mut [u8]) -> Lowered {
+fn lower(call: Call, settings: &[u8], tree: &[u8], out: &mut [u8]) -> Result<usize, Refusal> {
     match call {
         Call::Sql => gpkg::to_sql(settings, tree, out),
         Call::GeoPackageSql => gpkg::to_geopackage_sql(settings, tree, out),
@@ -36,10 +36,10 @@ fn lower_reduced(
     tree: &[u8],
     room: &mut [u8],
     out: &mut [u8],
-) -> Lowered {
+) -> Result<usize, Refusal> {
     match reduce::reduce(tree, room) {
         Reduced::Tree(n) => lower(call, settings, input::first(room, n), out),
-        Reduced::Refused(r) => Lowered::Refused(r),
+        Reduced::Refused(r) => Err(r),
     }
 }
 
@@ -52,8 +52,8 @@ fn answer(
     out: &mut [u8],
 ) -> io::Result<()> {
     match lower_reduced(call, settings, tree, room, out) {
-        Lowered::Text(n) => rt.write_all(input::first(out, n))?,
-        Lowered::Refused(r) => {
+        Ok(n) => rt.write_all(input::first(out, n))?,
+        Err(r) => {
             rt.write_all(b"refused ")?;
             rt.print(refusal::number(r))?;
         }
