@@ -17,7 +17,7 @@ const LARGE: usize = 65536;
 fn found_of<'a>(r: Reduced, record: &'a [u8], out: &'a [u8]) -> u8 {
     match r {
         Reduced::Tree(n) => text_found(n, record, out),
-        Reduced::Refused(e) => refusal_found(refusal::number(e), out),
+        Reduced::Refused(e) => refusal_found(u8::from(e), out),
     }
 }
 
