@@ -5,8 +5,6 @@ use Rattle.refusal.specs.declared.Refusal.{Refusal}
 use Rattle.refusal.specs.declared.Refusal.TheVariants.{BadSettings, TreeTooLong, BadFrame, TooDeep, BadKindOrOperator, BadField, BadOperand, TextTooLong, BufferTooShort, InputTooLong, BadRow, BadText, MissingColumn, ConstantOperands}
 use Rattle.refusal.specs.Number.{number_of}
 use Rattle.text.specs.Lowered as lowered
-use Rattle.reduce.specs.declared.Reduced.{Reduced}
-use Rattle.reduce.specs.declared.Reduced.TheVariants.{Tree, Refused as NoTree}
 use Rattle.reduce.specs.Reducing as reduced
 use Rattle.truth.specs.declared.Reading.{Reading}
 use Rattle.truth.specs.declared.Reading.TheVariants.{True, False, Unknown, Refused as NoTruth}
@@ -52,8 +50,8 @@ abbrev pub lowered_by : ℤ → Result ℕ Refusal
 lowered_by (pos n) = Ok n
 lowered_by (negsuc n) = Err (refusal_at n)
 
-abbrev pub reduced_by : ℤ → Reduced
-reduced_by = answer-by Tree NoTree
+abbrev pub reduced_by : ℤ → Result ℕ Refusal
+reduced_by = answer-by Ok Err
 
 abbrev pub read_by : ℤ → Reading
 read_by (pos zero) = False
@@ -65,9 +63,9 @@ pub lowered_back : (r : Result ℕ Refusal) → lowered_by (lowering_number (low
 lowered_back (Ok n) = refl
 lowered_back (Err r) = refused_back Ok Err r
 
-pub reduced_back : (r : Reduced) → reduced_by (lowering_number (reduced.heard r)) ≡ r
-reduced_back (Tree n) = refl
-reduced_back (NoTree r) = refused_back Tree NoTree r
+pub reduced_back : (r : Result ℕ Refusal) → reduced_by (lowering_number (reduced.heard r)) ≡ r
+reduced_back (Ok n) = refl
+reduced_back (Err r) = refused_back Ok Err r
 
 pub read_back : (r : Reading) → read_by (reading_number (reading.heard r)) ≡ r
 read_back True = refl
@@ -78,7 +76,7 @@ read_back (NoTruth r) = refused_back truth_by NoTruth r
 pub lowered_apart : (r s : Result ℕ Refusal) → lowering_number (lowered.heard r) ≡ lowering_number (lowered.heard s) → r ≡ s
 lowered_apart r s e = sym (lowered_back r) ∙ ap lowered_by e ∙ lowered_back s
 
-pub reduced_apart : (r s : Reduced) → lowering_number (reduced.heard r) ≡ lowering_number (reduced.heard s) → r ≡ s
+pub reduced_apart : (r s : Result ℕ Refusal) → lowering_number (reduced.heard r) ≡ lowering_number (reduced.heard s) → r ≡ s
 reduced_apart r s e = sym (reduced_back r) ∙ ap reduced_by e ∙ reduced_back s
 
 pub read_apart : (r s : Reading) → reading_number (reading.heard r) ≡ reading_number (reading.heard s) → r ≡ s

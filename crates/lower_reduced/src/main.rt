@@ -5,7 +5,6 @@
 #![tactic(auto)]
 
 use input::Part;
-use reduce::Reduced;
 use refusal::Refusal;
 use std::env::FillError;
 use std::io;
@@ -37,10 +36,8 @@ fn lower_reduced(
     room: &mut [u8],
     out: &mut [u8],
 ) -> Result<usize, Refusal> {
-    match reduce::reduce(tree, room) {
-        Reduced::Tree(n) => lower(call, settings, input::first(room, n), out),
-        Reduced::Refused(r) => Err(r),
-    }
+    let n = reduce::reduce(tree, room)?;
+    lower(call, settings, input::first(room, n), out)
 }
 
 fn answer(
@@ -55,7 +52,7 @@ fn answer(
         Ok(n) => rt.write_all(input::first(out, n))?,
         Err(r) => {
             rt.write_all(b"refused ")?;
-            rt.print(refusal::number(r))?;
+            rt.print(u8::from(r))?;
         }
     }
     rt.write_all(b"\n")

@@ -32,7 +32,7 @@ pub(crate) enum Call {
 fn found_of<'a>(r: Result<usize, Refusal>, text: &'a [u8], out: &'a [u8]) -> u8 {
     match r {
         Ok(n) => text_found(n, text, out),
-        Err(e) => refusal_found(refusal::number(e), out),
+        Err(e) => refusal_found(u8::from(e), out),
     }
 }
 
@@ -87,7 +87,7 @@ fn lowered(
 fn number_of(r: Result<usize, Refusal>) -> usize {
     match r {
         Ok(n) => n,
-        Err(e) => LENGTH_LIMIT + refusal::number(e) as usize,
+        Err(e) => LENGTH_LIMIT + u8::from(e) as usize,
     }
 }
 
