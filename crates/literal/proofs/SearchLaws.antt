@@ -3,7 +3,7 @@
 use Prim.Native.Nat.{ℕ, zero, suc, ◌+◌, ◌≤◌, ◌<◌}
 use mathlib.Core.Path.{◌≡◌, refl, sym, ap, ◌∙◌}
 use mathlib.Core.List.{List, [], ◌∷◌}
-use mathlib.Core.Bool.{Bool, true, false, false≢true}
+use mathlib.Core.Bool.{Bool, true, false, false≢true, ◌&&◌}
 use native.Mathlib.Omega.{arith}
 use lib.Dec.{ltb}
 use lib.ListN.{length, get_or}
@@ -15,18 +15,16 @@ use Rattle.literal.specs.SearchWords.{Searched}
 
 -- one byte that is an apostrophe
 one_found : (s : List ℕ) (k : ℕ) → k < length s → no_mark (get_or s k 0) ≡ false → all no_mark s ≡ false
-unfolding all
 one_found [] k h e = absurd (let v : ⊥ = omega arith in v)
 one_found (x ∷ s) zero h e = simp e
 one_found (x ∷ s) (suc k) h e = go (no_mark x) (one_found s k (omega arith) e)
   where
-    go : (b : Bool) → all no_mark s ≡ false → both b (all no_mark s) ≡ false
+    go : (b : Bool) → all no_mark s ≡ false → (b && all no_mark s) ≡ false
     go true q = q
     go false q = refl
 
 -- none that is one
 none_found : (s : List ℕ) → ((k : ℕ) → k < length s → no_mark (get_or s k 0) ≡ true) → all no_mark s ≡ true
-unfolding all
 none_found [] f = refl
 none_found (x ∷ s) f = simp (f 0 (omega arith)) (none_found s (λ k h. f (suc k) (omega arith)))
 
