@@ -9,6 +9,7 @@ use mir.Syntax.{w32, w64}
 use mir.Val.{SFits, to_z, of_z}
 use mir.Facts.{to_z_pos, to_z-of_z}
 use borrow.Author.Tests.{lt-ltb}
+use Rattle.std.specs.Prelude.{Result, Ok}
 use Rattle.refusal.specs.declared.Refusal.{Refusal}
 use Rattle.refusal.specs.declared.Refusal.TheVariants.{BadSettings, TreeTooLong, BadFrame, TooDeep, BadKindOrOperator, BadField, BadOperand, TextTooLong, BufferTooShort, InputTooLong, BadRow, BadText, MissingColumn, ConstantOperands}
 use Rattle.refusal.specs.Number.{number_of}
@@ -23,8 +24,6 @@ use Rattle.text.specs.declared.Lowered.TheVariants.{Text, Refused}
 use Rattle.tree.specs.Written.{Heard, refusal}
 use Rattle.text.specs.Lowered.{answer, heard, lowering_within}
 use Rattle.text.specs.LoweredLaws.{given}
-use Rattle.reduce.specs.declared.Reduced.{Reduced}
-use Rattle.reduce.specs.declared.Reduced.TheVariants.{Tree as Whole}
 use Rattle.reduce.specs.Reducing as reducer
 use Rattle.reduce.specs.Reducing.{reducing}
 use Rattle.reduce.specs.ReducingLaws.{given as given-tree, reducing_short}
@@ -111,11 +110,11 @@ pub said-back : (l : Lowered) {z : ℤ} {said : Heard} → z ≡ lowering_number
 said-back l e f h = ap (λ (z : ℤ). to_z w64 (of_z w64 z)) e ∙ to_z-of_z (number_fits l h) ∙ ap lowering_number f
 
 -- No reduced tree is longer than its tree, nor an accepted tree than the limit.
-pub short_tree : (s : List ℕ) (room : ℕ) {found : Reduced} {n : ℕ} → Bytes s → found ≡ reducer.answer (reducing s room) → found ≡ Whole n → n ≤ 65535
+pub short_tree : (s : List ℕ) (room : ℕ) {found : Result ℕ Refusal} {n : ℕ} → Bytes s → found ≡ reducer.answer (reducing s room) → found ≡ Ok n → n ≤ 65535
 unfolding reducer.answer
 short_tree s room {found} {n} b e f = go (reducing s room) refl (sym f ∙ e)
   where
-    go : (x : Read (List ℕ)) → reducing s room ≡ x → Whole n ≡ reducer.answer x → n ≤ 65535
+    go : (x : Read (List ℕ)) → reducing s room ≡ x → Ok n ≡ reducer.answer x → n ≤ 65535
     go (refused r) p q = absurd (let v : ◌≡◌ {A = ℕ} 0 1 = cc in let w : ⊥ = omega arith in w)
     go (got x) p q =
         let l : n ≡ length x = cc q in
@@ -123,5 +122,5 @@ short_tree s room {found} {n} b e f = go (reducing s room) refl (sym f ∙ e)
         omega (arith, reducing_short s b room x p, (tree_is planner s g.tree g.read).0)
 
 -- the number of the answer that the code found, of which is heard what the definition says
-pub reduced_number_lem : {found case : Reduced} {said : Heard} → reducer.heard found ≡ said → found ≡ case → lowering_number (reducer.heard case) ≡ lowering_number said
-reduced_number_lem e f = ap (λ (r : Reduced). lowering_number (reducer.heard r)) (sym f) ∙ ap lowering_number e
+pub reduced_number_lem : {found case : Result ℕ Refusal} {said : Heard} → reducer.heard found ≡ said → found ≡ case → lowering_number (reducer.heard case) ≡ lowering_number said
+reduced_number_lem e f = ap (λ (r : Result ℕ Refusal). lowering_number (reducer.heard r)) (sym f) ∙ ap lowering_number e

@@ -1,5 +1,5 @@
 -- Two different answers never give the same number: from the number the answer is found again.
-use Rattle.std.specs.Prelude.{ℕ, zero, suc, ◌≡◌, refl, [], ◌∷◌, get_or, ℤ, pos, negsuc}
+use Rattle.std.specs.Prelude.{ℕ, Result, Ok, Err, zero, suc, ◌≡◌, refl, [], ◌∷◌, get_or, ℤ, pos, negsuc}
 use Rattle.std.proofs.Common.{sym, ap, ◌∙◌}
 use Rattle.refusal.specs.declared.Refusal.{Refusal}
 use Rattle.refusal.specs.declared.Refusal.TheVariants.{BadSettings, TreeTooLong, BadFrame, TooDeep, BadKindOrOperator, BadField, BadOperand, TextTooLong, BufferTooShort, InputTooLong, BadRow, BadText, MissingColumn, ConstantOperands}
@@ -7,8 +7,6 @@ use Rattle.refusal.specs.Number.{number_of}
 use Rattle.text.specs.declared.Lowered.{Lowered}
 use Rattle.text.specs.declared.Lowered.TheVariants.{Text, Refused as NoText}
 use Rattle.text.specs.Lowered as lowered
-use Rattle.reduce.specs.declared.Reduced.{Reduced}
-use Rattle.reduce.specs.declared.Reduced.TheVariants.{Tree, Refused as NoTree}
 use Rattle.reduce.specs.Reducing as reduced
 use Rattle.truth.specs.declared.Reading.{Reading}
 use Rattle.truth.specs.declared.Reading.TheVariants.{True, False, Unknown, Refused as NoTruth}
@@ -54,8 +52,8 @@ abbrev pub lowered_by : ℤ → Lowered
 lowered_by (pos n) = Text n
 lowered_by (negsuc n) = NoText (refusal_at n)
 
-abbrev pub reduced_by : ℤ → Reduced
-reduced_by = answer-by Tree NoTree
+abbrev pub reduced_by : ℤ → Result ℕ Refusal
+reduced_by = answer-by Ok Err
 
 abbrev pub read_by : ℤ → Reading
 read_by (pos zero) = False
@@ -67,9 +65,9 @@ pub lowered_back : (r : Lowered) → lowered_by (lowering_number (lowered.heard 
 lowered_back (Text n) = refl
 lowered_back (NoText r) = refused_back Text NoText r
 
-pub reduced_back : (r : Reduced) → reduced_by (lowering_number (reduced.heard r)) ≡ r
-reduced_back (Tree n) = refl
-reduced_back (NoTree r) = refused_back Tree NoTree r
+pub reduced_back : (r : Result ℕ Refusal) → reduced_by (lowering_number (reduced.heard r)) ≡ r
+reduced_back (Ok n) = refl
+reduced_back (Err r) = refused_back Ok Err r
 
 pub read_back : (r : Reading) → read_by (reading_number (reading.heard r)) ≡ r
 read_back True = refl
@@ -80,7 +78,7 @@ read_back (NoTruth r) = refused_back truth_by NoTruth r
 pub lowered_apart : (r s : Lowered) → lowering_number (lowered.heard r) ≡ lowering_number (lowered.heard s) → r ≡ s
 lowered_apart r s e = sym (lowered_back r) ∙ ap lowered_by e ∙ lowered_back s
 
-pub reduced_apart : (r s : Reduced) → lowering_number (reduced.heard r) ≡ lowering_number (reduced.heard s) → r ≡ s
+pub reduced_apart : (r s : Result ℕ Refusal) → lowering_number (reduced.heard r) ≡ lowering_number (reduced.heard s) → r ≡ s
 reduced_apart r s e = sym (reduced_back r) ∙ ap reduced_by e ∙ reduced_back s
 
 pub read_apart : (r s : Reading) → reading_number (reading.heard r) ≡ reading_number (reading.heard s) → r ≡ s

@@ -15,7 +15,6 @@ ghost use Rattle.capi.specs.Numbers.{minus, lowering_number, reading_number};
 
 use gpkg::Lowered;
 use literal::Writing;
-use reduce::Reduced;
 use refusal::Refusal;
 use truth::Reading;
 
@@ -23,7 +22,7 @@ use truth::Reading;
 fn negative(r: Refusal) -> i32
     ensures { (result ≡ minus (number_of r)) × (number_of r < 256) }
 {
-    -(refusal::number(r) as i32)
+    -i32::from(u8::from(r))
 }
 
 // The text's length, or minus the number of a refusal.
@@ -134,8 +133,8 @@ pub extern "C" fn wenduulig_reduce(tree: &[u8], out: &mut [u8]) -> i64
     ensures bytes { out.new ≡ leaves out.old (reducing tree.now (length out.old)) }
 {
     match reduce::reduce(tree, out) {
-        Reduced::Tree(n) => n as i64,
-        Reduced::Refused(r) => negative(r) as i64,
+        Ok(n) => n as i64,
+        Err(r) => negative(r) as i64,
     }
 }
 

@@ -2,7 +2,7 @@
 use Prim.Native.Nat.{ℕ, ◌+◌, ◌-◌, ◌≤◌, ◌<◌}
 use mathlib.Core.Path.{◌≡◌, refl, ap, sym, ◌∙◌}
 use mathlib.Core.List.{List, [], ◌∷◌}
-use mathlib.Core.Bool.{Bool, true, false}
+use mathlib.Core.Bool.{Bool, true, false, ◌&&◌}
 use native.Mathlib.Omega.{arith}
 use lib.ListN.{length, get_or, take, drop}
 use lib.Seq.{take_all}
@@ -23,11 +23,11 @@ always false = refl
 
 -- the first byte of a name may stand at any place of it
 pub rest_tells : (s : List ℕ) → 1 ≤ length s → name_start (get_or s 0 0) ≡ true → all name_byte (take (length s - 1) (drop 1 s)) ≡ all name_byte s
-unfolding all name_byte
+unfolding name_byte
 rest_tells [] h e = absurd (let v : ⊥ = omega arith in v)
 rest_tells (x ∷ s) h e =
     ap (all name_byte) (take_all (length (x ∷ s) - 1) s (omega arith))
-    ∙ ap (λ (b : Bool). both (either b (digit x)) (all name_byte s)) (sym e)
+    ∙ ap (λ (b : Bool). either b (digit x) && all name_byte s) (sym e)
 
 module _ (s : List ℕ) (i : ℕ) where
   pub named_out : length s < past s i → named_at s i ≡ false

@@ -99,7 +99,6 @@ room at n (suc left) end h k =
 
 -- a word whose first letter is another
 pub other_first : (s t : List ℕ) (at : ℕ) → 1 ≤ length s → at < length t → (get_or t at 0 ≡ upper (get_or s 0 0) → ⊥) → same (uppers s) (take (length s) (drop at t)) ≡ false
-unfolding same
 other_first [] t at h k e = absurd (omega arith)
 other_first (x ∷ s) t at h k e = rw (drop-cons t at 0 k, ne_eqb (upper x) (get_or t at 0) (λ q. e (sym q))) refl
 

@@ -6,7 +6,6 @@
 
 use gpkg::Lowered;
 use input::Part;
-use reduce::Reduced;
 use std::env::FillError;
 use std::io;
 use std::io::Read;
@@ -38,8 +37,8 @@ fn lower_reduced(
     out: &mut [u8],
 ) -> Lowered {
     match reduce::reduce(tree, room) {
-        Reduced::Tree(n) => lower(call, settings, input::first(room, n), out),
-        Reduced::Refused(r) => Lowered::Refused(r),
+        Ok(n) => lower(call, settings, input::first(room, n), out),
+        Err(r) => Lowered::Refused(r),
     }
 }
 
@@ -55,7 +54,7 @@ fn answer(
         Lowered::Text(n) => rt.write_all(input::first(out, n))?,
         Lowered::Refused(r) => {
             rt.write_all(b"refused ")?;
-            rt.print(refusal::number(r))?;
+            rt.print(u8::from(r))?;
         }
     }
     rt.write_all(b"\n")

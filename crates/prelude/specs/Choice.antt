@@ -1,5 +1,7 @@
 -- Choosing by a test, tests joined, and a test over a whole list: the words that every other definition is written in.
 use Rattle.std.specs.Prelude.{ℕ, List, [], ◌∷◌, Bool, true, false, eqb, leb}
+use Rattle.std.specs.List.{list_all}
+use Rattle.std.specs.Str.{bytes_eq}
 
 -- a where the test holds, else b
 abbrev pub pick : {A : Type 0} → Bool → A → A → A
@@ -20,9 +22,8 @@ abbrev pub between : ℕ → ℕ → ℕ → Bool
 between lo n hi = both (leb lo n) (leb n hi)
 
 -- every element passes
-unfoldable pub all : (ℕ → Bool) → List ℕ → Bool
-all f [] = true
-all f (x ∷ s) = pick (f x) (all f s) false
+abbrev pub all : (ℕ → Bool) → List ℕ → Bool
+all f s = list_all f s
 
 -- some element passes
 unfoldable pub some : {A : Type 0} → (A → Bool) → List A → Bool
@@ -30,11 +31,8 @@ some f [] = false
 some f (x ∷ s) = pick (f x) true (some f s)
 
 -- two lists are the same, number by number
-unfoldable pub same : List ℕ → List ℕ → Bool
-same [] [] = true
-same [] (y ∷ t) = false
-same (x ∷ s) [] = false
-same (x ∷ s) (y ∷ t) = pick (eqb x y) (same s t) false
+abbrev pub same : List ℕ → List ℕ → Bool
+same s t = bytes_eq s t
 
 -- a number's entry in a table, or, if it has none, the value given for all others
 abbrev pub entry_at : {A : Type 0} → List (ℕ × A) → A → ℕ → A

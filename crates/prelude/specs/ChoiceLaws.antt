@@ -1,38 +1,34 @@
 -- Laws of specs/Choice.antt: how a loop that tests one element after the other decides `all`, and what `same` says.
-use Rattle.std.specs.Prelude.{ℕ, ◌+◌, ◌≤◌, ◌<◌, ◌≡◌, refl, List, [], ◌∷◌, Bool, true, false, eqb, leb, length, get_or, drop}
+use Rattle.std.specs.Prelude.{ℕ, ◌+◌, ◌≤◌, ◌<◌, ◌≡◌, refl, List, [], ◌∷◌, Bool, true, false, ◌&&◌, eqb, leb, length, get_or, drop}
 use Rattle.std.proofs.Common.{ap, add-one, drop_of_length-le, drop-cons, eq-eqb, eqb-true, leb-true}
+use Rattle.std.specs.Cmp.Lexicographic.{bytes_decides}
 use Rattle.prelude.specs.Choice.{pick, both, between, all, some, same}
 
 -- the element at i passes: the rest decides
 pub all_next : (f : ℕ → Bool) (s : List ℕ) (i : ℕ) → i < length s → f (get_or s i 0) ≡ true → all f (drop i s) ≡ all f (drop (i + 1) s)
-unfolding all
 all_next f s i h w = rw (add-one, drop-cons s i 0) (simp w)
 
 -- the element at i fails: so does the list
 pub all_not : (f : ℕ → Bool) (s : List ℕ) (i : ℕ) → i < length s → f (get_or s i 0) ≡ false → all f (drop i s) ≡ false
-unfolding all
 all_not f s i h w = rw (drop-cons s i 0) (simp w)
+
+-- all of a list that is not empty
+pub all_true : (f : ℕ → Bool) (x : ℕ) (s : List ℕ) → all f (x ∷ s) ≡ true → (f x ≡ true) × (all f s ≡ true)
+all_true f x s e = go (f x) e
+  where
+    go : (b : Bool) → (b && all f s) ≡ true → (b ≡ true) × (all f s ≡ true)
+    go true e = (refl, e)
+    go false e = let z : false ≡ true = e in (cc, cc)
 
 -- nothing is left
 pub all_end : (f : ℕ → Bool) (s : List ℕ) (i : ℕ) → length s ≤ i → all f (drop i s) ≡ true
-unfolding all
 all_end f s i h = rw drop_of_length-le refl
 
 pub same_refl : (s : List ℕ) → same s s ≡ true
-unfolding same
-same_refl [] = refl
-same_refl (x ∷ s) = simp (eq-eqb x x refl) (same_refl s)
+same_refl s = (bytes_decides s s).1 refl
 
 pub same_true : (s t : List ℕ) → same s t ≡ true → s ≡ t
-unfolding same
-same_true [] [] e = refl
-same_true [] (y ∷ t) e = let z : false ≡ true = e in cc
-same_true (x ∷ s) [] e = let z : false ≡ true = e in cc
-same_true (x ∷ s) (y ∷ t) e = go (eqb x y) refl e (λ q. same_true s t q)
-  where
-    go : (b : Bool) → eqb x y ≡ b → pick b (same s t) false ≡ true → (same s t ≡ true → s ≡ t) → ◌≡◌ {A = List ℕ} (x ∷ s) (y ∷ t)
-    go true p q f = let a : x ≡ y = eqb-true x y p in let r : s ≡ t = f q in cc
-    go false p q f = cc
+same_true s t = (bytes_decides s t).0
 
 pub both_true : (a b : Bool) → both a b ≡ true → (a ≡ true) × (b ≡ true)
 both_true true b e = (refl, e)

@@ -1,1 +1,4 @@
+-- What is to be believed.
 pub mod Record
+-- Laws.
+pub mod FrameLaws

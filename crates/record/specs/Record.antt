@@ -1,8 +1,7 @@
 -- A record's frame and little-endian numbers: document 01, "Records". Trees, settings and rows are made of such records.
-use Rattle.std.specs.Prelude.{ℕ, zero, suc, ◌+◌, ◌-◌, ◌*◌, ◌/◌, ◌%◌, List, [], ◌∷◌, ◌++◌, ℤ, pos, negsuc, length, get_or, ltb}
+use Rattle.std.specs.Prelude.{ℕ, zero, suc, ◌+◌, ◌-◌, ◌*◌, ◌/◌, ◌%◌, List, [], ◌∷◌, ◌++◌, Option, None, Some, ℤ, pos, negsuc, length, get_or, ltb}
 use Rattle.prelude.specs.Choice.{pick}
 use Rattle.record.specs.declared.Frame.{Frame}
-use Rattle.record.specs.declared.Frame.TheVariants.{Broken, Whole}
 
 -- two bytes at i, the low one first; a byte past the end counts as 0
 abbrev pub le16 : List ℕ → ℕ → ℕ
@@ -20,14 +19,18 @@ le64 s i = le32 s i + le32 s (i + 4) * 4294967296
 unfoldable pub signed : ℕ → ℤ
 signed n = pick (ltb n 9223372036854775808) (pos n) (negsuc (18446744073709551615 - n))
 
+-- a record of kind k that ends at e
+abbrev pub whole : ℕ → ℕ → Option Frame
+whole k e = Some (record { kind = k; end = e })
+
 -- Length, four bytes, then kind, two bytes, then body; the length counts kind and body.
--- The record at the front of s: its kind, and where it ends.
-unfoldable pub frame : List ℕ → Frame
+-- The record at the front of s: its kind, and where it ends; or none.
+unfoldable pub frame : List ℕ → Option Frame
 frame s =
-    pick (ltb (length s) 6) Broken
-    (pick (ltb (le32 s 0) 2) Broken
-    (pick (ltb (length s - 4) (le32 s 0)) Broken
-    (Whole (le16 s 4) (le32 s 0 + 4))))
+    pick (ltb (length s) 6) None
+    (pick (ltb (le32 s 0) 2) None
+    (pick (ltb (length s - 4) (le32 s 0)) None
+    (whole (le16 s 4) (le32 s 0 + 4))))
 
 -- n bytes that hold x, the low one first
 abbrev pub le : ℕ → ℕ → List ℕ

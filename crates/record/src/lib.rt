@@ -8,13 +8,11 @@ pub const KIND: usize = 4;
 
 pub const BODY: usize = 6;
 
-// What stands at the front of some bytes where a record is due.
-#[derive(Clone, Copy)]
-pub enum Frame {
-    // Fewer than 6 bytes, a length below 2, or one that passes the end.
-    Broken,
-    // A record of this kind; its body lies from 6 to `end`.
-    Whole { kind: usize, end: usize },
+// A record: its kind, and where it ends. Its body lies from 6 to `end`.
+#[derive(Clone, Copy, PartialEq, Eq)]
+pub struct Frame {
+    pub kind: usize,
+    pub end: usize,
 }
 
 fn wide(x: u8) -> usize
@@ -37,25 +35,22 @@ fn dword_in(s: &[u8], at: usize) -> usize
     word_in(s, at) + word_in(s, at + 2) * 65536
 }
 
-// The record at the front of s.
+// The record at the front of s: none where s has fewer than 6 bytes, or where the length is below 2 or passes the end.
 #[tactic(auto, unfolding(crate::specs::Record::frame))]
-pub fn frame_at(s: &[u8]) -> Frame
+pub fn frame_at(s: &[u8]) -> Option<Frame>
     ensures { result ≡ frame s.now }
 {
     if s.len() < BODY {
-        return Frame::Broken;
+        return None;
     }
     let n = dword_in(s, 0);
-    if n < 2 {
-        return Frame::Broken;
+    if n < 2 || s.len() - KIND < n {
+        return None;
     }
-    if s.len() - KIND < n {
-        return Frame::Broken;
-    }
-    Frame::Whole {
+    Some(Frame {
         kind: word_in(s, KIND),
         end: n + KIND,
-    }
+    })
 }
 
 fn qword_in(s: &[u8], at: usize) -> usize

@@ -7,6 +7,7 @@ use native.Mathlib.Omega.{arith}
 use borrow.Author.Tests.{lt-ltb, le-ltb}
 use lib.ListN.{length, replicate, length-replicate, take}
 use lib.Seq.{sets}
+use Rattle.std.specs.Prelude.{Result, Ok, Err}
 use Rattle.refusal.specs.declared.Refusal.{Refusal}
 use Rattle.refusal.specs.declared.Refusal.TheVariants.{BufferTooShort, ConstantOperands}
 use Rattle.emit.specs.Emit.{Puts, count_limit}
@@ -22,8 +23,6 @@ use Rattle.tree.specs.AcceptedLaws.{tree_is}
 use Rattle.tree.specs.Written.{leaves, said}
 use Rattle.reduce.specs.declared.Folded.{Folded}
 use Rattle.reduce.specs.declared.Folded.TheVariants.{Fails, Done}
-use Rattle.reduce.specs.declared.Reduced as call
-use Rattle.reduce.specs.declared.Reduced.TheVariants.{Tree as Written, Refused}
 use Rattle.reduce.specs.Reduced.{reduced}
 use Rattle.reduce.specs.Reducing.{fitted, reducing, answer, heard}
 use Rattle.reduce.specs.ReducingLaws.{heard-said}
@@ -58,7 +57,7 @@ unfolding reducing also
 taken-reduces {s} a room = ap (λ (x : Read Tree). also x (λ t. also (reduced t) (λ u. fitted room (encode u)))) a.is
 
 -- what is answered of it is the answer, as each of the three contracts says it
-pub taken_answers : {s out exit : List ℕ} {r : call.Reduced} (a : Taken s) → Answers (also (reduced a.t) (λ u. fitted (length out) (encode u))) out exit r
+pub taken_answers : {s out exit : List ℕ} {r : Result ℕ Refusal} (a : Taken s) → Answers (also (reduced a.t) (λ u. fitted (length out) (encode u))) out exit r
     → (r ≡ answer (reducing s (length out))) × ((exit ≡ leaves out (reducing s (length out))) × (heard r ≡ said (reducing s (length out))))
 taken_answers {s} {out} {exit} {r} a w =
     let e = sym (taken-reduces a (length out)) in
@@ -67,13 +66,13 @@ taken_answers {s} {out} {exit} {r} a w =
 
 -- and so is a refusal of the checker
 pub refused_answers : (s out : List ℕ) {n : Refusal} → checks.Refused n ≡ verdict (accepted_tree planner s)
-    → (Refused n ≡ answer (reducing s (length out))) × ((out ≡ leaves out (reducing s (length out))) × (heard (Refused n) ≡ said (reducing s (length out))))
+    → (Err n ≡ answer (reducing s (length out))) × ((out ≡ leaves out (reducing s (length out))) × (heard (Err n) ≡ said (reducing s (length out))))
 unfolding reducing also verdict answer leaves
 refused_answers s out {n} e = go (accepted_tree planner s) e
   where
     go : (a : Read Tree) → checks.Refused n ≡ verdict a → let x : Read (List ℕ) = also a (λ t. also (reduced t) (λ u. fitted (length out) (encode u))) in
-        (Refused n ≡ answer x) × ((out ≡ leaves out x) × (heard (Refused n) ≡ said x))
-    go (refused m) z = let q : n ≡ m = cc in (ap Refused q, (refl, ap (λ (k : Refusal). heard (Refused k)) q))
+        (Err n ≡ answer x) × ((out ≡ leaves out x) × (heard (Err n) ≡ said x))
+    go (refused m) z = let q : n ≡ m = cc in (ap Err q, (refl, ap (λ (k : Refusal). heard (Err k)) q))
     go (got t) z = absurd (let v : ◌≡◌ {A = ℕ} 0 1 = cc in let w : ⊥ = omega arith in w)
 
 -- The room: n zeros.
@@ -104,11 +103,11 @@ record Came (x : Read Tree) (l m : List ℕ) (end : ℕ) : Type 0 where
 
 module _ {l m : List ℕ} {f : Folded} {x : Read Tree} (w : Meets 0 x l m f) where
   -- 14
-  pub clash_answers : (out : List ℕ) → f ≡ Fails → Answers (decided x out) out out (Refused ConstantOperands)
+  pub clash_answers : (out : List ℕ) → f ≡ Fails → Answers (decided x out) out out (Err ConstantOperands)
   unfolding done_at also answer leaves
   clash_answers out e = go w
     where
-      go : Meets 0 x l m f → Answers (decided x out) out out (Refused ConstantOperands)
+      go : Meets 0 x l m f → Answers (decided x out) out out (Err ConstantOperands)
       go (fails p q k) = rw p (record { says = refl; bytes = refl })
       go (done u p h) = absurd (let z : ◌≡◌ {A = ℕ} 0 1 = cc (h.answers, e) in let w : ⊥ = omega arith in w)
 
@@ -124,7 +123,7 @@ module _ {l m : List ℕ} {f : Folded} {x : Read Tree} (w : Meets 0 x l m f) whe
   end_fits e = let c = came e in omega (arith, c.size, c.holds.fits)
 
   -- 9
-  pub short_answers : {end a k : ℕ} (out : List ℕ) → f ≡ Done end a k → length out < end → Answers (decided x out) out out (Refused BufferTooShort)
+  pub short_answers : {end a k : ℕ} (out : List ℕ) → f ≡ Done end a k → length out < end → Answers (decided x out) out out (Err BufferTooShort)
   unfolding answer leaves
   short_answers out e h =
       let c = came e in
@@ -133,7 +132,7 @@ module _ {l m : List ℕ} {f : Folded} {x : Read Tree} (w : Meets 0 x l m f) whe
 
   -- the record, copied
   pub whole_answers : {end a k r : ℕ} (out exit : List ℕ) → f ≡ Done end a k → end ≤ length out → length l ≤ tree_limit → Puts count_limit 0 (part m 0 end) out exit r
-      → Answers (decided x out) out exit (Written end)
+      → Answers (decided x out) out exit (Ok end)
   unfolding answer leaves
   whole_answers {end} out exit e h k p =
       let c = came e in
@@ -143,6 +142,6 @@ module _ {l m : List ℕ} {f : Folded} {x : Read Tree} (w : Meets 0 x l m f) whe
       let q : length (part m 0 end) ≡ length (encode c.u) = ap length y in
       let v = wrote (record { inside = omega (arith, q, c.size); counted = omega (arith, q, c.size, c.holds.fits) }) p in
       record {
-        says = ap Written c.size ∙ ap answer d;
+        says = ap Ok c.size ∙ ap answer d;
         bytes = v.laid ∙ ap (λ (t : List ℕ). sets out 0 t) y ∙ sets_front out (encode c.u) (omega (arith, c.size)) ∙ ap (leaves out) d;
       }

@@ -1,6 +1,6 @@
 -- Laws of specs/Reducing.antt: what is heard is what was decided; a result is never longer than the tree, is accepted again by 2 to 7 and reduced to
 -- itself; which refusals the call can give, and that the size of the buffer decides nothing but 9: document 02, slip 8.
-use Rattle.std.specs.Prelude.{ℕ, ◌≤◌, ◌<◌, ◌≡◌, List, [], ◌∷◌, ◌++◌, Bool, true, false, ltb, length}
+use Rattle.std.specs.Prelude.{ℕ, Result, ◌≤◌, ◌<◌, ◌≡◌, List, [], ◌∷◌, ◌++◌, Bool, true, false, ltb, length}
 use Rattle.std.proofs.Math.Path.{refl, ap}
 use Rattle.std.proofs.Common.{sym, ◌∙◌, subst, arith, ltb-true, ltb-false, le-ltb}
 use Rattle.std.proofs.lemmas.Bool.{false≢true}
@@ -19,7 +19,6 @@ use Rattle.tree.specs.RefusalLaws.{of_tree, gives, also-gives, later, tree_gives
 use Rattle.tree.specs.Written.{said}
 use Rattle.reduce.specs.declared.Meet.{Meet}
 use Rattle.reduce.specs.declared.Meet.TheVariants.{Keeps, MeetNull, MeetBool, Clash}
-use Rattle.reduce.specs.declared.Reduced as call
 use Rattle.reduce.specs.Sort.{sort_of, key_of}
 use Rattle.reduce.specs.Rules.{meet}
 use Rattle.reduce.specs.Reduced.{met, one_reduced, two_reduced, reduced, reduceds}
@@ -35,7 +34,7 @@ unfolding answer
 heard-answer (refused n) = refl
 heard-answer (got x) = refl
 
-pub heard-said : {r : call.Reduced} (x : Read (List ℕ)) → r ≡ answer x → heard r ≡ said x
+pub heard-said : {r : Result ℕ Refusal} (x : Read (List ℕ)) → r ≡ answer x → heard r ≡ said x
 heard-said x e = ap heard e ∙ heard-answer x
 
 -- ---- What is refused of a tree that 2 to 7 accept: of any refusals among which 14 is, it is one.

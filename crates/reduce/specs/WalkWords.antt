@@ -1,7 +1,8 @@
 -- The contracts of the walk (src/walk.rt, src/chains.rt, src/leaves.rt, src/records.rt): what is written of a record into the room, and what is known of
 -- it then.
-use Rattle.std.specs.Prelude.{ℕ, suc, ◌+◌, ◌*◌, ◌≤◌, ◌≡◌, List, [], ◌∷◌, ◌++◌, Bool, true, false, eqb, length, take, get_or}
+use Rattle.std.specs.Prelude.{ℕ, Result, suc, ◌+◌, ◌*◌, ◌≤◌, ◌≡◌, List, [], ◌∷◌, ◌++◌, Bool, true, false, eqb, length, take, get_or}
 use Rattle.prelude.specs.Choice.{pick, both}
+use Rattle.refusal.specs.declared.Refusal.{Refusal}
 use Rattle.refusal.specs.declared.Refusal.TheVariants.{ConstantOperands}
 use Rattle.record.specs.Record.{le, le16}
 use Rattle.op.specs.declared.Op.{Op}
@@ -18,7 +19,6 @@ use Rattle.reduce.specs.declared.Chain.{Chain}
 use Rattle.reduce.specs.declared.Chain.TheVariants.{Text, Twin, Other}
 use Rattle.reduce.specs.declared.Folded.{Folded}
 use Rattle.reduce.specs.declared.Folded.TheVariants.{Fails, Done}
-use Rattle.reduce.specs.declared.Reduced.{Reduced}
 use Rattle.reduce.specs.Sort.{case_sort, accent_sort, other_sort, sort_of, key_of}
 use Rattle.reduce.specs.Reduced.{and_case, and_accent, reduced}
 use Rattle.reduce.specs.Reducing.{answer}
@@ -207,6 +207,6 @@ name_of (array ts) = []
 name_of (interval t u) = []
 
 -- What is answered of the bytes that were decided, and what is left in the lent buffer.
-pub record Answers (x : Read (List ℕ)) (entry exit : List ℕ) (r : Reduced) : Type 0 where
+pub record Answers (x : Read (List ℕ)) (entry exit : List ℕ) (r : Result ℕ Refusal) : Type 0 where
   pub says : r ≡ answer x
   pub bytes : exit ≡ leaves entry x

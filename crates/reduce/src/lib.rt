@@ -67,32 +67,25 @@ enum Chain {
     Other,
 }
 
-#[derive(Clone, Copy)]
-pub enum Reduced {
-    // A tree of this length, at the buffer's front.
-    Tree(usize),
-    Refused(Refusal),
-}
-
 // Reduces an accepted tree in a room that is long enough, and copies what came of it.
-fn reduce_in(tree: &[u8], room: &mut [u8], out: &mut [u8]) -> Reduced
+fn reduce_in(tree: &[u8], room: &mut [u8], out: &mut [u8]) -> Result<usize, Refusal>
     requires { Placed tree.now 0 room.old }
     ensures { (t : Tree) (n : ℕ) → tree.now ≡ encode t → Good t n → Answers (also (reduced t) (λ u. fitted (length out.old) (encode u))) out.old out.new result }
 {
     match fold(tree, room, 0) {
-        Folded::Fails => Reduced::Refused(Refusal::ConstantOperands),
+        Folded::Fails => Err(Refusal::ConstantOperands),
         Folded::Done(end, _, _) => {
             if out.len() < end {
-                return Reduced::Refused(Refusal::BufferTooShort);
+                return Err(Refusal::BufferTooShort);
             }
             emit::put(&room[0..end], out, 0);
-            Reduced::Tree(end)
+            Ok(end)
         }
     }
 }
 
 // Reduces an accepted tree. A room has to be filled with something before it is used, so most filters get a small one.
-fn reduce_accepted(tree: &[u8], out: &mut [u8]) -> Reduced
+fn reduce_accepted(tree: &[u8], out: &mut [u8]) -> Result<usize, Refusal>
     requires { Recorded tree.now × (length tree.now ≤ tree_limit) }
     ensures { (t : Tree) (n : ℕ) → tree.now ≡ encode t → Good t n → Answers (also (reduced t) (λ u. fitted (length out.old) (encode u))) out.old out.new result }
 {
@@ -104,15 +97,15 @@ fn reduce_accepted(tree: &[u8], out: &mut [u8]) -> Reduced
     reduce_in(tree, &mut room, out)
 }
 
-// Reduces a tree: what comes of it as a record at the front of `out`, or the refusal that comes first, 2 to 7, then 14, then 9; a refusal writes
-// nothing.
-pub fn reduce(tree: &[u8], out: &mut [u8]) -> Reduced
+// Reduces a tree: what comes of it as a record at the front of `out`, and its length, or the refusal that comes first, 2 to 7, then 14, then 9; a
+// refusal writes nothing.
+pub fn reduce(tree: &[u8], out: &mut [u8]) -> Result<usize, Refusal>
     ensures says { result ≡ answer (reducing tree.now (length out.old)) }
     ensures bytes { out.new ≡ leaves out.old (reducing tree.now (length out.old)) }
     ensures hears { heard result ≡ said (reducing tree.now (length out.old)) }
 {
     match tree::check_tree(PLANNER, tree) {
-        Checked::Refused(e) => Reduced::Refused(e),
+        Checked::Refused(e) => Err(e),
         Checked::Valid => reduce_accepted(tree, out),
     }
 }

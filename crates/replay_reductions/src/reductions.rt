@@ -3,7 +3,6 @@
 use crate::Turn;
 use crate::buffers::{blank_buffer, refusal_found, text_found};
 use crate::lines::say;
-use reduce::Reduced;
 use refusal::Refusal;
 use std::io;
 
@@ -14,17 +13,17 @@ const TOO_SHORT: u8 = 9;
 
 const LARGE: usize = 65536;
 
-fn found_of<'a>(r: Reduced, record: &'a [u8], out: &'a [u8]) -> u8 {
+fn found_of<'a>(r: Result<usize, Refusal>, record: &'a [u8], out: &'a [u8]) -> u8 {
     match r {
-        Reduced::Tree(n) => text_found(n, record, out),
-        Reduced::Refused(e) => refusal_found(refusal::number(e), out),
+        Ok(n) => text_found(n, record, out),
+        Err(e) => refusal_found(u8::from(e), out),
     }
 }
 
 // A part of the buffer is lent. Where there is less than that, the refusal is one that reducing never gives, and so no stored one.
-fn reduce_part(tree: &[u8], out: &mut [u8], size: usize) -> Reduced {
+fn reduce_part(tree: &[u8], out: &mut [u8], size: usize) -> Result<usize, Refusal> {
     if out.len() < size {
-        return Reduced::Refused(Refusal::InputTooLong);
+        return Err(Refusal::InputTooLong);
     }
     reduce::reduce(tree, &mut out[..size])
 }

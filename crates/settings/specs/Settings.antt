@@ -1,8 +1,7 @@
 -- The record of the settings, with its limit of the precision, which refusal 1 asks for: document 01, "Records" and "What a caller hears".
-use Rattle.std.specs.Prelude.{ℕ, List, Bool, false, length, get_or, leb, eqb}
+use Rattle.std.specs.Prelude.{ℕ, List, Bool, false, length, get_or, leb, eqb, Option, None, Some}
 use Rattle.prelude.specs.Choice.{both}
 use Rattle.record.specs.declared.Frame.{Frame}
-use Rattle.record.specs.declared.Frame.TheVariants.{Broken, Whole}
 use Rattle.record.specs.Record.{frame}
 use Rattle.charset.specs.Named.{past, named_at}
 
@@ -13,9 +12,9 @@ abbrev pub precision_limit : ℕ
 precision_limit = 15
 
 -- one record of the settings' kind, and nothing after it
-unfoldable pub is_frame : ℕ → Frame → Bool
-is_frame n Broken = false
-is_frame n (Whole k e) = both (eqb k settings_kind) (eqb e n)
+unfoldable pub is_frame : ℕ → Option Frame → Bool
+is_frame n None = false
+is_frame n (Some f) = both (eqb f.kind settings_kind) (eqb f.end n)
 
 -- where the precision byte stands, and where the three names begin, with their length bytes
 abbrev pub precision_at : ℕ

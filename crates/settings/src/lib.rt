@@ -6,7 +6,6 @@ ghost use Rattle.settings.specs.Settings.{ai_at, cai_at, settings_body, is_setti
 ghost use Rattle.settings.specs.FlagWords.{collation_flags};
 
 use op::CASE_I;
-use record::Frame;
 
 const SETTINGS_KIND: usize = 100;
 
@@ -59,20 +58,14 @@ fn settings_body(s: &[u8]) -> bool
 }
 
 // One record of the settings' kind, and nothing after it.
+#[tactic(auto, using(crate::proofs::Tests::tests), unfolding(crate::specs::Settings::is_settings, crate::specs::Settings::is_frame))]
 pub fn is_settings(s: &[u8]) -> bool
     ensures { result ≡ is_settings s.now }
 {
-    match record::frame_at(s) {
-        Frame::Broken => false,
-        Frame::Whole { kind, end } => {
-            if kind == SETTINGS_KIND {
-                if end == s.len() {
-                    return settings_body(s);
-                }
-            }
-            false
-        }
-    }
+    let Some(frame) = record::frame_at(s) else {
+        return false;
+    };
+    frame.kind == SETTINGS_KIND && frame.end == s.len() && settings_body(s)
 }
 
 // The flags of the collation that CaseI, AccentI or both ask for.

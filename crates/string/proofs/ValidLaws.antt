@@ -3,7 +3,7 @@ use Rattle.std.specs.Prelude.{ℕ, ◌≡◌, refl, List, [], ◌∷◌, Bool, t
 use Rattle.std.proofs.Common.{sym, ap, ◌∙◌, eqb-true, ltb-true}
 use Rattle.std.proofs.lemmas.Bool.{lt-leb}
 use Rattle.prelude.specs.Choice.{pick, both, some, all}
-use Rattle.prelude.specs.ChoiceLaws.{both_true}
+use Rattle.prelude.specs.ChoiceLaws.{both_true, all_true}
 use Rattle.prelude.specs.Bytes.{apostrophe}
 use Rattle.string.specs.Utf8.{Range, within, sequences, goes_on, valid}
 use Rattle.string.specs.Quote.{doubled}
@@ -54,8 +54,8 @@ unfolding valid
 valid-doubled s = goes_doubled s [] refl
 
 pub unmarked-valid : (s : List ℕ) → all unmarked s ≡ true → valid s ≡ true
-unfolding all valid goes_on
+unfolding valid goes_on
 unmarked-valid [] e = refl
 unmarked-valid (b ∷ s) e =
-    let h = both_true (unmarked b) (all unmarked s) e in
+    let h = all_true unmarked b s e in
     plain_go b s (both_true (plain b) (no_mark b) h.0).0 ∙ unmarked-valid s h.1

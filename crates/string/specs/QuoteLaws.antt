@@ -4,7 +4,7 @@ use Rattle.std.proofs.Common.{sym, ap, ◌∙◌, arith, add-one, drop_of_length
 use Rattle.std.proofs.lemmas.Bool.{false≢true}
 use Rattle.std.proofs.Math.ListN.{get_or-eq_default}
 use Rattle.prelude.specs.Choice.{pick, both, negated, all}
-use Rattle.prelude.specs.ChoiceLaws.{both_true}
+use Rattle.prelude.specs.ChoiceLaws.{both_true, all_true}
 use Rattle.prelude.specs.Bytes.{apostrophe}
 use Rattle.string.specs.Utf8.{valid}
 use Rattle.string.specs.Quote.{doubled, undoubled, closing, quoted_size}
@@ -144,10 +144,10 @@ unnegate false q = refl
 
 -- doubling leaves them
 pub no_mark_doubled : (s : List ℕ) → all no_mark s ≡ true → doubled s ≡ s
-unfolding all doubled
+unfolding doubled
 no_mark_doubled [] e = refl
 no_mark_doubled (b ∷ s) e =
-    let h = both_true (no_mark b) (all no_mark s) e in
+    let h = all_true no_mark b s e in
     rw (unnegate (eqb b apostrophe) h.0) (ap (λ (l : List ℕ). b ∷ l) (no_mark_doubled s h.1))
 
 -- and of plain bytes they are valid (`unmarked-valid`, proofs/ValidLaws.antt)
@@ -155,11 +155,10 @@ abbrev pub unmarked : ℕ → Bool
 unmarked b = both (plain b) (no_mark b)
 
 pub unmarked-doubled : (s : List ℕ) → all unmarked s ≡ true → doubled s ≡ s
-unfolding all
 unmarked-doubled s e = no_mark_doubled s (without s e)
   where
     without : (s : List ℕ) → all unmarked s ≡ true → all no_mark s ≡ true
     without [] e = refl
     without (b ∷ s) e =
-        let h = both_true (unmarked b) (all unmarked s) e in
+        let h = all_true unmarked b s e in
         rw (both_true (plain b) (no_mark b) h.0).1 (without s h.1)

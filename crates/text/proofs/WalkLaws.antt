@@ -2,7 +2,7 @@
 use Prim.Native.Nat.{ℕ, zero, suc, ◌+◌, ◌-◌, ◌*◌, ◌%◌, ◌≤◌, ◌<◌, min}
 use mathlib.Core.Path.{◌≡◌, refl, ap, sym, ◌∙◌, subst}
 use mathlib.Core.List.{List, [], ◌∷◌, ◌++◌, append_assoc, append-nil}
-use mathlib.Core.Bool.{Bool, true, false}
+use mathlib.Core.Bool.{Bool, true, false, ◌&&◌}
 use native.Mathlib.Omega.{arith}
 use lib.ListN.{length, get_or, take, drop, length-drop, length-take, length-append, drop_of_length-le}
 use lib.Seq.{drop-drop, take-take, take-suc, take_all, take_at, drop_at}
@@ -197,11 +197,11 @@ clear : List ℕ → Bool
 clear l = all (λ b. negated (between 48 b 57)) l
 
 clear_fill : (f : ℕ → List ℕ) (l : List ℕ) → clear l ≡ true → fill f l ≡ l
-unfolding clear fill all
+unfolding clear fill
 clear_fill f [] e = refl
 clear_fill f (b ∷ l) e = go (between 48 b 57) e (clear_fill f l)
   where
-    go : (x : Bool) → both (negated x) (clear l) ≡ true → (clear l ≡ true → fill f l ≡ l) → pick x (f (b - 48)) (b ∷ []) ++ fill f l ≡ b ∷ l
+    go : (x : Bool) → (negated x && clear l) ≡ true → (clear l ≡ true → fill f l ≡ l) → pick x (f (b - 48)) (b ∷ []) ++ fill f l ≡ b ∷ l
     go true z h = never (cc)
     go false z h = ap (λ (x : List ℕ). b ∷ x) (h z)
 
@@ -210,7 +210,7 @@ each_clear [] = true
 each_clear (l ∷ ls) = both (clear l) (each_clear ls)
 
 all_clear : (ls : List (List ℕ)) → T (each_clear ls) → (k : ℕ) → clear (get_or ls k []) ≡ true
-unfolding each_clear clear all
+unfolding each_clear clear
 all_clear [] t k = refl
 all_clear (l ∷ ls) t zero = go (clear l) (both_left (clear l) (each_clear ls) t)
   where
@@ -220,7 +220,7 @@ all_clear (l ∷ ls) t zero = go (clear l) (both_left (clear l) (each_clear ls) 
 all_clear (l ∷ ls) t (suc k) = all_clear ls (both_right (clear l) (each_clear ls) t) k
 
 clear_part : (c : ℕ) → 4 ≤ c → clear (part_of c) ≡ true
-unfolding part_of parts each_clear all clear
+unfolding part_of parts each_clear clear
 clear_part zero h = absurd (let v : ⊥ = omega arith in v)
 clear_part (suc zero) h = absurd (let v : ⊥ = omega arith in v)
 clear_part (suc (suc zero)) h = absurd (let v : ⊥ = omega arith in v)

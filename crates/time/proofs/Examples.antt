@@ -99,7 +99,7 @@ turned = in_both Or refl (in_neg Neg refl (turn TAfter a (interval b c) refl)) (
 converse-admits :
     (time_filter filter ≡ true) × (time_filter filter' ≡ true) × (holds days filter ≡ true) × (truth_on Rust days filter ≡ True) × (truth_on Rust days filter' ≡ True)
     × (truth_on Rust sheet_n (dyadic TDisjoint a (interval b c)) ≡ Unknown) × (truth_on Rust sheet_n (dyadic TDisjoint (interval b c) a) ≡ Unknown)
-unfolding time_filter is_operand is_end op.is_temporal op.is_nullable holds look same some truth_on temporal_truth cond_truth translators.translate translators.t_after translators.t_before translators.t_disjoint sql.check_id sql.check_ids trees.is_interval trees.is_id trees.start_of trees.stop_of trees.ends_of value_on end_on order grammar.holds literal.date literal.low literal.open_end tree_atom end_atom grammar.value trees.by_operator trees.everywhere trees.first trees.second
+unfolding time_filter is_operand is_end op.is_temporal op.is_nullable holds look some truth_on temporal_truth cond_truth translators.translate translators.t_after translators.t_before translators.t_disjoint sql.check_id sql.check_ids trees.is_interval trees.is_id trees.start_of trees.stop_of trees.ends_of value_on end_on order grammar.holds literal.date literal.low literal.open_end tree_atom end_atom grammar.value trees.by_operator trees.everywhere trees.first trees.second
 converse-admits = (refl, refl, refl, refl, refl, refl, refl)
 
 converse_instance : truth_on Rust days filter ≡ truth_on Rust days filter'
@@ -119,14 +119,14 @@ negated-end = dyadic TAfter (monadic Neg a) b
 no-filter :
     (time_filter negated-end ≡ false) × (reads days negated-end ≡ SaysTrue) × (reads days (dyadic TBefore b (monadic Neg a)) ≡ Refused BadText)
     × (truth_on Rust days negated-end ≡ Unknown)
-unfolding time_filter is_operand op.is_temporal op.is_nullable op.is_spatial op.is_array some same truth_on temporal_truth cond_truth translators.translate translators.t_after translators.t_before trees.is_interval trees.is_id trees.is_literal trees.is_literal_or_id trees.start_of trees.stop_of trees.ends_of gpkg.text gpkg.monadic_text gpkg.dyadic_text spelling.spelled_as sql.print placed.is_between value_on end_on look order grammar.holds grammar.value grammar.eval grammar.atom_of grammar.not_null grammar.null_test grammar.from_atom grammar.simple grammar.or_e parse lex.run lex.word_kind lex.sign_kind lex.sign_more lex.quote_kind lex.lexeme lex.cut lex.tokens_in lex.tokens lex.kind lex.body lex.rest charset.letter charset.digit charset.name_start charset.name_byte case.upper keyword.reserved_words keywords.keywords keywords.keyword_texts keyword.reserved charset.name utf8.sequences utf8.goes_on utf8.valid quote.doubled quote.undoubled quote.closing quote.quoted_size choice.all literal.date literal.low tree_atom end_atom trees.by_operator trees.everywhere is_end trees.first trees.second
+unfolding time_filter is_operand op.is_temporal op.is_nullable op.is_spatial op.is_array some truth_on temporal_truth cond_truth translators.translate translators.t_after translators.t_before trees.is_interval trees.is_id trees.is_literal trees.is_literal_or_id trees.start_of trees.stop_of trees.ends_of gpkg.text gpkg.monadic_text gpkg.dyadic_text spelling.spelled_as sql.print placed.is_between value_on end_on look order grammar.holds grammar.value grammar.eval grammar.atom_of grammar.not_null grammar.null_test grammar.from_atom grammar.simple grammar.or_e parse lex.run lex.word_kind lex.sign_kind lex.sign_more lex.quote_kind lex.lexeme lex.cut lex.tokens_in lex.tokens lex.kind lex.body lex.rest charset.letter charset.digit charset.name_start charset.name_byte case.upper keyword.reserved_words keywords.keywords keywords.keyword_texts keyword.reserved charset.name utf8.sequences utf8.goes_on utf8.valid quote.doubled quote.undoubled quote.closing quote.quoted_size choice.all literal.date literal.low tree_atom end_atom trees.by_operator trees.everywhere is_end trees.first trees.second
 no-filter = (refl, refl, refl, refl)
 
 -- A row that lacks a column: both texts are refused (13), and say neither true nor false nor unknown.
 lacking-column :
     (holds [] (dyadic TAfter a b) ≡ false) × (reads [] (dyadic TAfter a b) ≡ Refused MissingColumn)
     × (reads [] (dyadic TBefore b a) ≡ Refused MissingColumn)
-unfolding time_filter is_operand op.is_temporal op.is_nullable op.is_spatial op.is_array some same truth_on temporal_truth cond_truth translators.translate translators.t_after translators.t_before trees.is_interval trees.is_id trees.is_literal trees.is_literal_or_id trees.start_of trees.stop_of trees.ends_of gpkg.text gpkg.monadic_text gpkg.dyadic_text spelling.spelled_as sql.print placed.is_between value_on end_on look order grammar.holds grammar.value grammar.eval grammar.atom_of grammar.not_null grammar.null_test grammar.from_atom grammar.simple grammar.or_e parse lex.run lex.word_kind lex.sign_kind lex.sign_more lex.quote_kind lex.lexeme lex.cut lex.tokens_in lex.tokens lex.kind lex.body lex.rest charset.letter charset.digit charset.name_start charset.name_byte case.upper keyword.reserved_words keywords.keywords keywords.keyword_texts keyword.reserved charset.name utf8.sequences utf8.goes_on utf8.valid quote.doubled quote.undoubled quote.closing quote.quoted_size choice.all literal.date literal.low tree_atom end_atom trees.by_operator trees.everywhere is_end trees.first trees.second holds
+unfolding time_filter is_operand op.is_temporal op.is_nullable op.is_spatial op.is_array some truth_on temporal_truth cond_truth translators.translate translators.t_after translators.t_before trees.is_interval trees.is_id trees.is_literal trees.is_literal_or_id trees.start_of trees.stop_of trees.ends_of gpkg.text gpkg.monadic_text gpkg.dyadic_text spelling.spelled_as sql.print placed.is_between value_on end_on look order grammar.holds grammar.value grammar.eval grammar.atom_of grammar.not_null grammar.null_test grammar.from_atom grammar.simple grammar.or_e parse lex.run lex.word_kind lex.sign_kind lex.sign_more lex.quote_kind lex.lexeme lex.cut lex.tokens_in lex.tokens lex.kind lex.body lex.rest charset.letter charset.digit charset.name_start charset.name_byte case.upper keyword.reserved_words keywords.keywords keywords.keyword_texts keyword.reserved charset.name utf8.sequences utf8.goes_on utf8.valid quote.doubled quote.undoubled quote.closing quote.quoted_size choice.all literal.date literal.low tree_atom end_atom trees.by_operator trees.everywhere is_end trees.first trees.second holds
 lacking-column = (refl, refl, refl)
 
 -- ---- Complement.
@@ -135,23 +135,23 @@ complement-admits :
     (is_operand b ≡ true) × (is_operand (interval a c) ≡ true) × (columns_non_null days b ≡ true) × (columns_non_null days (interval a c) ≡ true)
     × (temporal_truth Rust days TIntersects b (interval a c) ≡ True) × (temporal_truth Rust days TDisjoint b (interval a c) ≡ False)
     × (temporal_truth Rust days TIntersects null a ≡ Unknown) × (temporal_truth Rust days TDisjoint null a ≡ Unknown)
-unfolding temporal_truth cond_truth translators.translate translators.t_disjoint translators.t_intersects sql.check_id sql.check_ids trees.is_interval trees.is_id trees.start_of trees.stop_of trees.ends_of value_on end_on look same order grammar.holds some literal.date literal.low is_operand is_end columns_non_null is_value tree_atom end_atom grammar.value trees.everywhere trees.first trees.second
+unfolding temporal_truth cond_truth translators.translate translators.t_disjoint translators.t_intersects sql.check_id sql.check_ids trees.is_interval trees.is_id trees.start_of trees.stop_of trees.ends_of value_on end_on look order grammar.holds some literal.date literal.low is_operand is_end columns_non_null is_value tree_atom end_atom grammar.value trees.everywhere trees.first trees.second
 complement-admits = (refl, refl, refl, refl, refl, refl, refl, refl)
 
 complement_instance : temporal_truth Rust days TDisjoint b (interval a c) ≡ not3 (temporal_truth Rust days TIntersects b (interval a c))
-unfolding columns_non_null is_value look same literal.date value_on end_on tree_atom end_atom grammar.value trees.everywhere trees.is_id
+unfolding columns_non_null is_value look literal.date value_on end_on tree_atom end_atom grammar.value trees.everywhere trees.is_id
 complement_instance = disjoint_intersects Rust days b (interval a c) refl refl
 
 -- A NULL column: on sheet N's row TDisjoint(a, [b, c]) is unknown and TIntersects is false.
 null-column :
     (columns_non_null sheet_n (interval b c) ≡ false) × (temporal_truth Rust sheet_n TDisjoint a (interval b c) ≡ Unknown)
     × (temporal_truth Rust sheet_n TIntersects a (interval b c) ≡ False)
-unfolding temporal_truth cond_truth translators.translate translators.t_disjoint translators.t_intersects sql.check_id sql.check_ids trees.is_interval trees.is_id trees.start_of trees.stop_of trees.ends_of value_on end_on look same order grammar.holds some literal.date literal.low columns_non_null is_value tree_atom end_atom grammar.value trees.everywhere trees.first trees.second
+unfolding temporal_truth cond_truth translators.translate translators.t_disjoint translators.t_intersects sql.check_id sql.check_ids trees.is_interval trees.is_id trees.start_of trees.stop_of trees.ends_of value_on end_on look order grammar.holds some literal.date literal.low columns_non_null is_value tree_atom end_atom grammar.value trees.everywhere trees.first trees.second
 null-column = (refl, refl, refl)
 
 -- A column that the row lacks: both are missing (13).
 lacking : (columns_non_null [] a ≡ false) × (temporal_truth Rust [] TDisjoint a b ≡ Missing) × (temporal_truth Rust [] TIntersects a b ≡ Missing)
-unfolding temporal_truth cond_truth translators.translate translators.t_disjoint translators.t_intersects sql.check_id sql.check_ids trees.is_interval trees.is_id trees.start_of trees.stop_of trees.ends_of value_on end_on look same order grammar.holds some literal.date literal.low columns_non_null is_value tree_atom end_atom grammar.value trees.everywhere trees.first trees.second
+unfolding temporal_truth cond_truth translators.translate translators.t_disjoint translators.t_intersects sql.check_id sql.check_ids trees.is_interval trees.is_id trees.start_of trees.stop_of trees.ends_of value_on end_on look order grammar.holds some literal.date literal.low columns_non_null is_value tree_atom end_atom grammar.value trees.everywhere trees.first trees.second
 lacking = (refl, refl, refl)
 
 -- ---- Exactly one of thirteen.
@@ -159,18 +159,18 @@ lacking = (refl, refl, refl)
 one-admits :
     (proper Rust days a c ≡ true) × (proper Rust days b d ≡ true) × (temporal_truth Rust days TOverlaps (interval a c) (interval b d) ≡ True)
     × (temporal_truth Rust days TMeets (interval a c) (interval b d) ≡ False)
-unfolding temporal_truth cond_truth translators.translate translators.t_overlaps translators.t_meets sql.check_id sql.check_ids trees.is_interval trees.is_id trees.start_of trees.stop_of trees.ends_of value_on end_on look same order grammar.holds some literal.date literal.low lies_below below tree_atom end_atom grammar.value trees.first trees.second
+unfolding temporal_truth cond_truth translators.translate translators.t_overlaps translators.t_meets sql.check_id sql.check_ids trees.is_interval trees.is_id trees.start_of trees.stop_of trees.ends_of value_on end_on look order grammar.holds some literal.date literal.low lies_below below tree_atom end_atom grammar.value trees.first trees.second
 one-admits = (refl, refl, refl, refl)
 
 one_instance : ExactlyOne True False (λ o. temporal_truth Rust days o (interval a c) (interval b d))
-unfolding value_on end_on look same lies_below below order literal.date literal.low tree_atom end_atom grammar.value
+unfolding value_on end_on look lies_below below order literal.date literal.low tree_atom end_atom grammar.value
 one_instance = exactly_one Rust days a c b d refl refl
 
 -- An interval whose start is not below its end: [a, a] equals itself and meets itself.
 improper :
     (proper Rust days a a ≡ false) × (temporal_truth Rust days TEquals (interval a a) (interval a a) ≡ True)
     × (temporal_truth Rust days TMeets (interval a a) (interval a a) ≡ True)
-unfolding temporal_truth cond_truth translators.translate translators.t_equals translators.t_meets sql.check_id sql.check_ids trees.is_interval trees.is_id trees.start_of trees.stop_of trees.ends_of value_on end_on look same order grammar.holds some literal.date literal.low lies_below below tree_atom end_atom grammar.value trees.first trees.second
+unfolding temporal_truth cond_truth translators.translate translators.t_equals translators.t_meets sql.check_id sql.check_ids trees.is_interval trees.is_id trees.start_of trees.stop_of trees.ends_of value_on end_on look order grammar.holds some literal.date literal.low lies_below below tree_atom end_atom grammar.value trees.first trees.second
 improper = (refl, refl, refl)
 
 -- `..` as an end lies below its start in the first call: [a, ..] is no proper interval either, and both meets [.., a] and is met by it. In the
@@ -179,14 +179,14 @@ open_end_lem :
     (proper Rust days a unbounded ≡ false) × (temporal_truth Rust days TMeets (interval a unbounded) (interval unbounded a) ≡ True)
     × (temporal_truth Rust days TMetBy (interval a unbounded) (interval unbounded a) ≡ True)
     × (proper GeoPackage days a unbounded ≡ true) × (proper GeoPackage days unbounded unbounded ≡ true)
-unfolding temporal_truth cond_truth translators.translate translators.t_meets translators.t_met_by sql.check_id sql.check_ids trees.is_interval trees.is_id trees.start_of trees.stop_of trees.ends_of value_on end_on look same order grammar.holds some literal.date literal.low lies_below below literal.open_end tree_atom end_atom grammar.value trees.first trees.second
+unfolding temporal_truth cond_truth translators.translate translators.t_meets translators.t_met_by sql.check_id sql.check_ids trees.is_interval trees.is_id trees.start_of trees.stop_of trees.ends_of value_on end_on look order grammar.holds some literal.date literal.low lies_below below literal.open_end tree_atom end_atom grammar.value trees.first trees.second
 open_end_lem = (refl, refl, refl, refl, refl)
 
 -- A NULL end, written or in a column: whether such an interval equals itself is unknown.
 null_end :
     (proper Rust days a null ≡ false) × (temporal_truth Rust days TEquals (interval a null) (interval a null) ≡ Unknown)
     × (proper Rust sheet_n b d ≡ false) × (temporal_truth Rust sheet_n TEquals (interval b d) (interval b d) ≡ Unknown)
-unfolding temporal_truth cond_truth translators.translate translators.t_equals sql.check_id sql.check_ids trees.is_interval trees.is_id trees.start_of trees.stop_of trees.ends_of value_on end_on look same order grammar.holds some literal.date literal.low lies_below below tree_atom end_atom grammar.value trees.first trees.second
+unfolding temporal_truth cond_truth translators.translate translators.t_equals sql.check_id sql.check_ids trees.is_interval trees.is_id trees.start_of trees.stop_of trees.ends_of value_on end_on look order grammar.holds some literal.date literal.low lies_below below tree_atom end_atom grammar.value trees.first trees.second
 null_end = (refl, refl, refl, refl)
 
 -- ---- Agreement with OGC 21-065r2.
@@ -199,7 +199,7 @@ unfolding Good
 good n e = (omega arith, e)
 
 good_instants : Good (interval b c) 2
-unfolding Good charset.name charset.name_start charset.name_byte charset.letter charset.digit case.upper keyword.reserved keyword.reserved_words keywords.keywords keywords.keyword_texts some same choice.all
+unfolding Good charset.name charset.name_start charset.name_byte charset.letter charset.digit case.upper keyword.reserved keyword.reserved_words keywords.keywords keywords.keyword_texts some choice.all
 good_instants = (omega arith, good (bytes "b") refl, good (bytes "c") refl)
 
 good_week : Good first_week 2
@@ -210,24 +210,24 @@ ogc-admits :
     (instants ten days ≡ true) × (operands TDuring (interval b c) first_week ≡ true) × (ogc_operand ten (interval b c) ≡ true)
     × (ogc_operand ten first_week ≡ true) × (temporal_truth Rust days TDuring (interval b c) first_week ≡ True)
     × (ogc_on ten days TDuring (interval b c) first_week ≡ true) × (instants nineteen (row_of (second 1) (second 2) (second 3) (second 4)) ≡ true)
-unfolding temporal_truth cond_truth translators.translate translators.t_during sql.check_id sql.check_ids trees.is_interval trees.is_id trees.start_of trees.stop_of trees.ends_of value_on end_on look same order grammar.holds literal.date literal.low literal.timestamp literal.after_seconds literal.clock literal.open_end instants is_instant begins_date goes_on_time valid_date valid_time days_in leap charset.digit operands op.is_temporal op.is_instant_or_interval some ogc_operand is_start is_stop is_point ogc_on ogc earlier below moment_on fields tree_atom end_atom grammar.value is_end trees.first trees.second
+unfolding temporal_truth cond_truth translators.translate translators.t_during sql.check_id sql.check_ids trees.is_interval trees.is_id trees.start_of trees.stop_of trees.ends_of value_on end_on look order grammar.holds literal.date literal.low literal.timestamp literal.after_seconds literal.clock literal.open_end instants is_instant begins_date goes_on_time valid_date valid_time days_in leap charset.digit operands op.is_temporal op.is_instant_or_interval some ogc_operand is_start is_stop is_point ogc_on ogc earlier below moment_on fields tree_atom end_atom grammar.value is_end trees.first trees.second
 ogc-admits = (refl, refl, refl, refl, refl, refl, refl)
 
 ogc_instance : temporal_truth Rust days TDuring (interval b c) first_week ≡ truth_of (ogc_on ten days TDuring (interval b c) first_week)
-unfolding op.is_temporal op.is_instant_or_interval some operands trees.is_interval instants is_instant begins_date valid_date days_in leap charset.digit holds look same ogc_operand is_start is_stop is_point literal.date literal.low value_on end_on tree_atom end_atom grammar.value trees.everywhere trees.is_id trees.start_of trees.stop_of is_end trees.first trees.second
+unfolding op.is_temporal op.is_instant_or_interval some operands trees.is_interval instants is_instant begins_date valid_date days_in leap charset.digit holds look ogc_operand is_start is_stop is_point literal.date literal.low value_on end_on tree_atom end_atom grammar.value trees.everywhere trees.is_id trees.start_of trees.stop_of is_end trees.first trees.second
 ogc_instance = ogc_agrees ten days TDuring (interval b c) first_week 2 2 refl refl good_instants good_week refl refl refl refl refl
 
 -- A NULL literal, or a column that is NULL: unknown, where a predicate holds or does not.
 ogc-null :
     (ogc_operand ten null ≡ false) × (temporal_truth Rust days TEquals a null ≡ Unknown) × (instants ten sheet_n ≡ false) × (temporal_truth Rust sheet_n TEquals a b ≡ Unknown)
-unfolding temporal_truth cond_truth translators.translate translators.t_equals sql.check_id sql.check_ids trees.is_interval trees.is_id trees.start_of trees.stop_of trees.ends_of value_on end_on look same order grammar.holds literal.date literal.low instants is_instant begins_date valid_date days_in leap charset.digit some ogc_operand tree_atom end_atom grammar.value is_end trees.first trees.second is_start is_stop is_point
+unfolding temporal_truth cond_truth translators.translate translators.t_equals sql.check_id sql.check_ids trees.is_interval trees.is_id trees.start_of trees.stop_of trees.ends_of value_on end_on look order grammar.holds literal.date literal.low instants is_instant begins_date valid_date days_in leap charset.digit some ogc_operand tree_atom end_atom grammar.value is_end trees.first trees.second is_start is_stop is_point
 ogc-null = (refl, refl, refl, refl)
 
 -- Mixed widths: a date lies below its own midnight, as a shorter prefix comes first.
 ogc-mixed :
     (ogc_operand ten (timestamp 2024 1 1 0 0 0) ≡ false) × (ogc_operand nineteen (date 2024 1 1) ≡ false)
     × (temporal_truth Rust [] TBefore (date 2024 1 1) (timestamp 2024 1 1 0 0 0) ≡ True) × (temporal_truth Rust [] TEquals (date 2024 1 1) (timestamp 2024 1 1 0 0 0) ≡ False)
-unfolding temporal_truth cond_truth translators.translate translators.t_before translators.t_equals sql.check_id sql.check_ids trees.is_interval trees.is_id trees.start_of trees.stop_of trees.ends_of value_on end_on look same order grammar.holds some literal.date literal.low literal.timestamp literal.after_seconds literal.clock ogc_operand tree_atom end_atom grammar.value is_end trees.first trees.second is_start is_stop is_point
+unfolding temporal_truth cond_truth translators.translate translators.t_before translators.t_equals sql.check_id sql.check_ids trees.is_interval trees.is_id trees.start_of trees.stop_of trees.ends_of value_on end_on look order grammar.holds some literal.date literal.low literal.timestamp literal.after_seconds literal.clock ogc_operand tree_atom end_atom grammar.value is_end trees.first trees.second is_start is_stop is_point
 ogc-mixed = (refl, refl, refl, refl)
 
 -- A row of another width: two seconds of one day are ordered, their days are not.
@@ -235,7 +235,7 @@ abbrev seconds : List Column
 seconds = row_of (second 1) (second 2) (second 3) (second 4)
 
 ogc_width : (instants ten seconds ≡ false) × (temporal_truth Rust seconds TBefore a b ≡ True) × (ogc_on ten seconds TBefore a b ≡ false)
-unfolding temporal_truth cond_truth translators.translate translators.t_before sql.check_id sql.check_ids trees.is_interval trees.is_id trees.start_of trees.stop_of trees.ends_of value_on end_on look same order grammar.holds literal.date literal.low literal.timestamp literal.after_seconds literal.clock instants is_instant ogc_on ogc earlier below moment_on fields some tree_atom end_atom grammar.value trees.first trees.second
+unfolding temporal_truth cond_truth translators.translate translators.t_before sql.check_id sql.check_ids trees.is_interval trees.is_id trees.start_of trees.stop_of trees.ends_of value_on end_on look order grammar.holds literal.date literal.low literal.timestamp literal.after_seconds literal.clock instants is_instant ogc_on ogc earlier below moment_on fields some tree_atom end_atom grammar.value trees.first trees.second
 ogc_width = (refl, refl, refl)
 
 -- A value as GeoPackage stores it, in each call. In the first the text of its own instant sorts below it, so that it reads as after itself; in the
@@ -252,7 +252,7 @@ ogc-milliseconds :
     × (temporal_truth Rust timestamps TEquals a midnight ≡ False) × (temporal_truth Rust timestamps TAfter a midnight ≡ True)
     × (ogc_on twenty_four timestamps TAfter b midnight ≡ true) × (temporal_truth GeoPackage timestamps TAfter b midnight ≡ True)
     × (temporal_truth GeoPackage timestamps TBefore (date 2024 1 1) a ≡ True)
-unfolding temporal_truth cond_truth translators.translate translators.t_before translators.t_equals sql.check_id sql.check_ids trees.is_interval trees.is_id trees.start_of trees.stop_of trees.ends_of value_on end_on look same order grammar.holds some literal.date literal.low literal.timestamp literal.after_seconds literal.clock ogc_operand tree_atom end_atom grammar.value is_end trees.first trees.second is_start is_stop is_point instants is_instant ogc_on ogc earlier below moment_on fields charset.digit goes_on_time goes_on_milliseconds leap translators.t_after begins_date valid_date days_in valid_time same_moment
+unfolding temporal_truth cond_truth translators.translate translators.t_before translators.t_equals sql.check_id sql.check_ids trees.is_interval trees.is_id trees.start_of trees.stop_of trees.ends_of value_on end_on look order grammar.holds some literal.date literal.low literal.timestamp literal.after_seconds literal.clock ogc_operand tree_atom end_atom grammar.value is_end trees.first trees.second is_start is_stop is_point instants is_instant ogc_on ogc earlier below moment_on fields charset.digit goes_on_time goes_on_milliseconds leap translators.t_after begins_date valid_date days_in valid_time same_moment
 ogc-milliseconds = (refl, refl, refl, refl, refl, refl, refl, refl, refl, refl)
 
 -- `..` as an end. In the first call it is written as a start: [a, ..] reads as before b, though an open end lies above every instant. In the second
@@ -267,14 +267,14 @@ ogc-open-end :
     × (temporal_truth GeoPackage timestamps TMeets (interval a unbounded) (interval unbounded unbounded) ≡ False)
     × (ogc_on twenty_four timestamps TMeets (interval a unbounded) (interval unbounded unbounded) ≡ false)
     × (ogc_operand twenty_four unbounded ≡ false) × (temporal_truth Rust days TAfter a unbounded ≡ True) × (temporal_truth GeoPackage timestamps TAfter a unbounded ≡ True)
-unfolding temporal_truth cond_truth translators.translate translators.t_before translators.t_after translators.t_intersects translators.t_finishes translators.t_meets sql.check_id sql.check_ids trees.is_interval trees.is_id trees.start_of trees.stop_of trees.ends_of value_on end_on look same order grammar.holds some literal.date literal.low literal.open_end ogc_operand is_start is_stop is_point tree_atom end_atom grammar.value is_end trees.first trees.second ogc_on ogc earlier same_moment below moment_on fields
+unfolding temporal_truth cond_truth translators.translate translators.t_before translators.t_after translators.t_intersects translators.t_finishes translators.t_meets sql.check_id sql.check_ids trees.is_interval trees.is_id trees.start_of trees.stop_of trees.ends_of value_on end_on look order grammar.holds some literal.date literal.low literal.open_end ogc_operand is_start is_stop is_point tree_atom end_atom grammar.value is_end trees.first trees.second ogc_on ogc earlier same_moment below moment_on fields
 ogc-open-end = (refl, refl, refl, refl, refl, refl, refl, refl, refl, refl, refl, refl, refl)
 
 -- A row of 19-byte values in the second call: a lies at the second that is written, and reads as before it.
 ogc-seconds :
     (instants twenty_four seconds ≡ false) × (temporal_truth GeoPackage seconds TBefore a (timestamp 2024 1 1 0 0 1) ≡ True)
     × (temporal_truth Rust seconds TEquals a (timestamp 2024 1 1 0 0 1) ≡ True)
-unfolding temporal_truth cond_truth translators.translate translators.t_before translators.t_equals sql.check_id sql.check_ids trees.is_interval trees.is_id trees.start_of trees.stop_of trees.ends_of value_on end_on look same order grammar.holds some literal.date literal.low literal.timestamp literal.after_seconds literal.clock tree_atom end_atom grammar.value trees.first trees.second instants is_instant
+unfolding temporal_truth cond_truth translators.translate translators.t_before translators.t_equals sql.check_id sql.check_ids trees.is_interval trees.is_id trees.start_of trees.stop_of trees.ends_of value_on end_on look order grammar.holds some literal.date literal.low literal.timestamp literal.after_seconds literal.clock tree_atom end_atom grammar.value trees.first trees.second instants is_instant
 ogc-seconds = (refl, refl, refl)
 
 -- A value that is no date, `2024-01-0:` beside `2024-01-10`: bytes tell them apart, digits do not.
@@ -282,18 +282,18 @@ abbrev wrong : List Column
 wrong = row_of (val (bytes "2024-01-0:")) (day 10) (day 3) (day 4)
 
 ogc_invalid : (instants ten wrong ≡ false) × (temporal_truth Rust wrong TBefore a b ≡ True) × (ogc_on ten wrong TBefore a b ≡ false)
-unfolding temporal_truth cond_truth translators.translate translators.t_before sql.check_id sql.check_ids trees.is_interval trees.is_id trees.start_of trees.stop_of trees.ends_of value_on end_on look same order grammar.holds literal.date literal.low instants is_instant begins_date charset.digit ogc_on ogc earlier below moment_on fields some tree_atom end_atom grammar.value trees.first trees.second
+unfolding temporal_truth cond_truth translators.translate translators.t_before sql.check_id sql.check_ids trees.is_interval trees.is_id trees.start_of trees.stop_of trees.ends_of value_on end_on look order grammar.holds literal.date literal.low instants is_instant begins_date charset.digit ogc_on ogc earlier below moment_on fields some tree_atom end_atom grammar.value trees.first trees.second
 ogc_invalid = (refl, refl, refl)
 
 -- A written date that is none, day 100 (refusal 6): two of its digits are written.
 ogc-field :
     (valid_date 2024 1 100 ≡ false) × (temporal_truth Rust [] TBefore (date 2024 1 100) (date 2024 1 1) ≡ True)
     × (ogc_on ten [] TBefore (date 2024 1 100) (date 2024 1 1) ≡ false)
-unfolding temporal_truth cond_truth translators.translate translators.t_before sql.check_id sql.check_ids trees.is_interval trees.is_id trees.start_of trees.stop_of trees.ends_of value_on end_on look same order grammar.holds literal.date literal.low valid_date days_in leap ogc_on ogc earlier below moment_on fields some tree_atom end_atom grammar.value trees.first trees.second
+unfolding temporal_truth cond_truth translators.translate translators.t_before sql.check_id sql.check_ids trees.is_interval trees.is_id trees.start_of trees.stop_of trees.ends_of value_on end_on look order grammar.holds literal.date literal.low valid_date days_in leap ogc_on ogc earlier below moment_on fields some tree_atom end_atom grammar.value trees.first trees.second
 ogc-field = (refl, refl, refl)
 
 -- An operator that wants two intervals, between instants (refusal 7): its ends e1 and e3 are Null.
 ogc-instants :
     (operands TContains a b ≡ false) × (temporal_truth Rust days TContains a b ≡ Unknown)
-unfolding temporal_truth cond_truth translators.translate translators.t_contains sql.check_id sql.check_ids trees.is_interval trees.is_id trees.start_of trees.stop_of trees.ends_of value_on end_on look same order grammar.holds literal.date literal.low operands op.is_temporal op.is_instant_or_interval some tree_atom end_atom grammar.value trees.first trees.second
+unfolding temporal_truth cond_truth translators.translate translators.t_contains sql.check_id sql.check_ids trees.is_interval trees.is_id trees.start_of trees.stop_of trees.ends_of value_on end_on look order grammar.holds literal.date literal.low operands op.is_temporal op.is_instant_or_interval some tree_atom end_atom grammar.value trees.first trees.second
 ogc-instants = (refl, refl)

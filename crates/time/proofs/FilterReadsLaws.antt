@@ -8,7 +8,7 @@ use Rattle.std.proofs.lemmas.Bool.{false≢true}
 use native.Mathlib.Omega.{arith}
 use Rattle.prelude.specs.Choice.{pick, both, either, negated, all, some}
 use Rattle.prelude.specs.Bytes.{bytes}
-use Rattle.prelude.specs.ChoiceLaws.{both_true}
+use Rattle.prelude.specs.ChoiceLaws.{both_true, all_true}
 use Rattle.charset.specs.Charset.{name}
 use Rattle.string.specs.Quote.{doubled}
 use Rattle.string.specs.QuoteLaws.{unmarked}
@@ -55,45 +55,44 @@ end-value writing cs slot t = refl
 
 -- written instants are made of plain bytes, and none is an apostrophe
 all_append : (p : ℕ → Bool) (x y : List ℕ) → all p x ≡ true → all p y ≡ true → all p (x ++ y) ≡ true
-unfolding all
 all_append p [] y a b = b
-all_append p (c ∷ x) y a b = let h = both_true (p c) (all p x) a in rw h.0 (all_append p x y h.1 b)
+all_append p (c ∷ x) y a b = let h = all_true p c x a in rw h.0 (all_append p x y h.1 b)
 
 digit_str : (n : ℕ) → n < 10 → unmarked (48 + n) ≡ true
 digit_str n h = rw (le-leb 32 (48 + n) (omega arith), le-leb (48 + n) 126 (omega arith), ne_eqb (48 + n) 39 (λ e. omega arith))
 
 open_str : (writing : Writing) (slot : Slot) → all unmarked (literal.open_end writing slot) ≡ true
-unfolding all literal.open_end
+unfolding literal.open_end
 open_str writing alone = refl
 open_str writing first_end = refl
 open_str Rust second_end = refl
 open_str GeoPackage second_end = refl
 
 low_str : (w n : ℕ) → all unmarked (low w n) ≡ true
-unfolding low all
+unfolding low
 low_str zero n = refl
 low_str (suc w) n =
     all_append unmarked (low w (n / 10)) ((48 + n % 10) ∷ []) (low_str w (n / 10)) (rw (digit_str (n % 10) (omega arith)) refl)
 
 date_str : (y m d : ℕ) → all unmarked (literal.date y m d) ≡ true
-unfolding literal.date all
+unfolding literal.date
 date_str y m d =
     all_append unmarked (low 4 y) (bytes "-" ++ (low 2 m ++ (bytes "-" ++ low 2 d))) (low_str 4 y)
     (all_append unmarked (low 2 m) (bytes "-" ++ low 2 d) (low_str 2 m) (low_str 2 d))
 
 clock_str : (h i s : ℕ) → all unmarked (literal.clock h i s) ≡ true
-unfolding literal.clock all
+unfolding literal.clock
 clock_str h i s =
     all_append unmarked (low 2 h) (bytes ":" ++ (low 2 i ++ (bytes ":" ++ low 2 s))) (low_str 2 h)
     (all_append unmarked (low 2 i) (bytes ":" ++ low 2 s) (low_str 2 i) (low_str 2 s))
 
 after_seconds_str : (writing : Writing) → all unmarked (literal.after_seconds writing) ≡ true
-unfolding literal.after_seconds all
+unfolding literal.after_seconds
 after_seconds_str Rust = refl
 after_seconds_str GeoPackage = refl
 
 timestamp_str : (writing : Writing) (y m d h i s : ℕ) → all unmarked (literal.timestamp writing y m d h i s) ≡ true
-unfolding literal.timestamp all
+unfolding literal.timestamp
 timestamp_str writing y m d h i s =
     all_append unmarked (literal.date y m d) (bytes "T" ++ (literal.clock h i s ++ literal.after_seconds writing)) (date_str y m d)
     (all_append unmarked (literal.clock h i s) (literal.after_seconds writing) (clock_str h i s) (after_seconds_str writing))

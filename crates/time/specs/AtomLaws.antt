@@ -6,7 +6,7 @@ use Rattle.std.proofs.Math.Path.{ap}
 use Rattle.std.proofs.Math.Seq.{take-append_seam, drop-append_seam, get_or-append_seam, take-append-add, drop-append-add}
 use Rattle.prelude.specs.Bytes.{bytes, apostrophe}
 use Rattle.prelude.specs.Choice.{pick, both, negated, between, all, some, same}
-use Rattle.prelude.specs.ChoiceLaws.{both_true}
+use Rattle.prelude.specs.ChoiceLaws.{both_true, all_true}
 use Rattle.charset.specs.Charset.{letter, digit, name_start, name_byte, name}
 use Rattle.string.specs.Utf8.{valid}
 use Rattle.string.specs.Quote.{doubled, undoubled, closing, quoted_size}
@@ -25,10 +25,10 @@ use Rattle.time.specs.ReadBackLaws.{Break, at_end, at_space, at_close, Boundary,
 
 -- a run ends where the first byte of what follows fails the test
 run-all : (p : ℕ → Bool) (w k : List ℕ) → all p w ≡ true → run p k ≡ 0 → run p (w ++ k) ≡ length w
-unfolding run all
+unfolding run
 run-all p [] k a e = e
 run-all p (b ∷ w) k a e =
-    let h = both_true (p b) (all p w) a in
+    let h = all_true p b w a in
     rw h.0 (ap suc (run-all p w k h.1 e))
 
 name_break : {k : List ℕ} → Break k → run name_byte k ≡ 0
@@ -54,7 +54,6 @@ name-parts b r e =
     unnegate false q = refl
 
 name-bytes : (n : List ℕ) → name n ≡ true → all name_byte n ≡ true
-unfolding all
 name-bytes [] e = refl
 name-bytes (b ∷ r) e = (name-parts b r e).1
 
@@ -94,11 +93,11 @@ unfolding name
 no_name e = let z : ◌≡◌ {A = ℕ} 0 1 = cc in omega arith
 
 bare_token : (n k : List ℕ) → name n ≡ true → Break k → tokens (n ++ k) ≡ tok NAME n ∷ tokens k
-unfolding all lexeme
+unfolding lexeme
 bare_token [] k e c = absurd (no_name e)
 bare_token (b ∷ r) k e c =
     let h = name-parts b r e in
-    let a = both_true (name_byte b) (all name_byte r) h.1 in
+    let a = all_true name_byte b r h.1 in
     let q : run name_byte (r ++ k) ≡ length r = run-all name_byte r k a.1 (name_break c) in
     let l : lexeme b (r ++ k) ≡ (NAME, length r) = rw (h.0, q, take-append_seam r k, name-kind (b ∷ r) h.2 e) in
     tokens_one b (r ++ k) NAME (length r) (start_no_space b h.0) l
@@ -131,32 +130,32 @@ text_token s k e c =
     ∙ rw (take-append-add w (bytes "'" ++ k) 1, drop-append-add w (bytes "'" ++ k) 1)
 
 null_token_lem : {k : List ℕ} → Break k → tokens (bytes "NULL" ++ k) ≡ tok NULL (bytes "NULL") ∷ tokens k
-unfolding lexeme name_start name_byte letter digit run word_kind upper same
+unfolding lexeme name_start name_byte letter digit run word_kind upper
 null_token_lem at_end = tokens_one 78 (bytes "ULL") NULL 3 refl refl
 null_token_lem (at_space k) = tokens_one 78 (bytes "ULL " ++ k) NULL 3 refl refl
 null_token_lem (at_close k) = tokens_one 78 (bytes "ULL)" ++ k) NULL 3 refl refl
 
 true_token : {k : List ℕ} → Break k → tokens (bytes "TRUE" ++ k) ≡ tok TRUE (bytes "TRUE") ∷ tokens k
-unfolding lexeme name_start name_byte letter digit run word_kind upper same
+unfolding lexeme name_start name_byte letter digit run word_kind upper
 true_token at_end = tokens_one 84 (bytes "RUE") TRUE 3 refl refl
 true_token (at_space k) = tokens_one 84 (bytes "RUE " ++ k) TRUE 3 refl refl
 true_token (at_close k) = tokens_one 84 (bytes "RUE)" ++ k) TRUE 3 refl refl
 
 false_token : {k : List ℕ} → Break k → tokens (bytes "FALSE" ++ k) ≡ tok FALSE (bytes "FALSE") ∷ tokens k
-unfolding lexeme name_start name_byte letter digit run word_kind upper same
+unfolding lexeme name_start name_byte letter digit run word_kind upper
 false_token at_end = tokens_one 70 (bytes "ALSE") FALSE 4 refl refl
 false_token (at_space k) = tokens_one 70 (bytes "ALSE " ++ k) FALSE 4 refl refl
 false_token (at_close k) = tokens_one 70 (bytes "ALSE)" ++ k) FALSE 4 refl refl
 
 -- NULL, NOT NULL and IS NOT NULL, IS NULL after a name
 not_null_tokens : {k : List ℕ} → Break k → tokens (bytes " NOT NULL" ++ k) ≡ tok NOT (bytes "NOT") ∷ (tok NULL (bytes "NULL") ∷ tokens k)
-unfolding lexeme name_start name_byte letter digit run word_kind upper same
+unfolding lexeme name_start name_byte letter digit run word_kind upper
 not_null_tokens {k} c =
     tokens-space _ ∙ (tokens_one 78 (bytes "OT NULL" ++ k) NOT 2 refl refl
     ∙ ap (λ l. tok NOT (bytes "NOT") ∷ l) (tokens-space _ ∙ null_token_lem c))
 
 is_token_lem : (k : List ℕ) → tokens (bytes " IS " ++ k) ≡ tok IS (bytes "IS") ∷ tokens (bytes " " ++ k)
-unfolding lexeme name_start name_byte letter digit run word_kind upper same
+unfolding lexeme name_start name_byte letter digit run word_kind upper
 is_token_lem k = tokens-space _ ∙ tokens_one 73 (bytes "S " ++ k) IS 1 refl refl
 
 -- Atoms: the text s is one token, whatever word break follows it, and stands for the atom a.

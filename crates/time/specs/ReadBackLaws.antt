@@ -37,19 +37,19 @@ unfolding lexeme name_start letter sign_kind sign_more some
 close_token k = tokens_one 41 k CLOSE 0 refl refl
 
 and_token : (k : List ℕ) → tokens (bytes " AND " ++ k) ≡ tok AND (bytes "AND") ∷ tokens k
-unfolding lexeme name_start name_byte letter digit run word_kind upper same
+unfolding lexeme name_start name_byte letter digit run word_kind upper
 and_token k = tokens-space _ ∙ tokens_one 65 (bytes "ND " ++ k) AND 2 refl refl ∙ ap (λ l. tok AND (bytes "AND") ∷ l) (tokens-space k)
 
 or_token : (k : List ℕ) → tokens (bytes " OR " ++ k) ≡ tok OR (bytes "OR") ∷ tokens k
-unfolding lexeme name_start name_byte letter digit run word_kind upper same
+unfolding lexeme name_start name_byte letter digit run word_kind upper
 or_token k = tokens-space _ ∙ tokens_one 79 (bytes "R " ++ k) OR 1 refl refl ∙ ap (λ l. tok OR (bytes "OR") ∷ l) (tokens-space k)
 
 not_open_tokens : (k : List ℕ) → tokens (bytes "NOT(" ++ k) ≡ tok NOT (bytes "NOT") ∷ (tok OPEN (bytes "(") ∷ tokens k)
-unfolding lexeme name_start name_byte letter digit run word_kind upper same
+unfolding lexeme name_start name_byte letter digit run word_kind upper
 not_open_tokens k = tokens_one 78 (bytes "OT(" ++ k) NOT 2 refl refl ∙ ap (λ l. tok NOT (bytes "NOT") ∷ l) (open_token k)
 
 not_token_lem : (k : List ℕ) → tokens (bytes "NOT " ++ k) ≡ tok NOT (bytes "NOT") ∷ tokens k
-unfolding lexeme name_start name_byte letter digit run word_kind upper same
+unfolding lexeme name_start name_byte letter digit run word_kind upper
 not_token_lem k = tokens_one 78 (bytes "OT " ++ k) NOT 2 refl refl ∙ ap (λ l. tok NOT (bytes "NOT") ∷ l) (tokens-space k)
 
 -- a test without brackets, whatever stands after it

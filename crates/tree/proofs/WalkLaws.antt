@@ -1,5 +1,6 @@
 -- Laws of the walk's answers (specs/WalkWords.antt) that the proof of the cycle cites: what the record at the front, one record, two records and records
 -- to the end answer for the whole, and what each kind makes of the answers below it. Each is over plain lists and numbers.
+use Rattle.std.specs.Prelude.{Option, None, Some}
 use mathlib.Core.Path.{◌≡◌, refl, ap, sym, ◌∙◌}
 use mathlib.Core.List.{List, [], ◌∷◌}
 use mathlib.Core.Bool.{Bool, true, false}
@@ -13,8 +14,8 @@ use Rattle.prelude.specs.Choice.{pick, both, either, negated}
 use Rattle.refusal.specs.declared.Refusal.{Refusal}
 use Rattle.refusal.specs.declared.Refusal.TheVariants.{BadSettings, TreeTooLong, BadFrame, TooDeep, BadKindOrOperator, BadField, BadOperand}
 use Rattle.record.specs.declared.Frame.{Frame}
-use Rattle.record.specs.declared.Frame.TheVariants.{Broken, Whole}
-use Rattle.record.specs.Record.{le16, le32, frame}
+use Rattle.record.specs.Record.{le16, le32, frame, whole}
+use Rattle.record.specs.FrameLaws.{frame-within}
 use Rattle.charset.specs.Charset.{name}
 use Rattle.op.specs.declared.Op.{Op}
 use Rattle.op.specs.declared.Named.{Named}
@@ -41,7 +42,7 @@ use Rattle.tree.specs.Accepted.{settings, settings_in, accepted_tree, accepted, 
 use Rattle.tree.specs.AcceptedLaws.{accepted_parts}
 use Rattle.tree.specs.declared.Limits.{Limits}
 use Rattle.tree.specs.WalkWords.{shape_of, seen, seen_one, seen_two, seen_all, ended, framed, first_of, taken_by, taken, plain_shape, pair_shape, interval_shape, sound_shape, fits, or_misplaced, leaf_one, monadic_one, dyadic_one, function_one, array_one, interval_one}
-use Rattle.tree.specs.ParseLaws.{frame-whole, both_true}
+use Rattle.tree.specs.ParseLaws.{both_true}
 use Rattle.tree.proofs.Laws.{tail, tail-is}
 
 -- The record at the front.
@@ -56,27 +57,24 @@ unfolding ended
 ended_next j n a (refused m) h = let z : ◌≡◌ {A = ℕ} 0 1 = cc in absurd (omega arith)
 ended_next j n a (got t) h = (t, refl, cc, cc)
 
-framed_stop : (body : Body) (s : List ℕ) (f : Frame) (e : Refusal) (more : List ℕ → Read Trees) → framed body s f ≡ Stop e → cons body s f more ≡ refused e
+framed_stop : (body : Body) (s : List ℕ) (f : Option Frame) (e : Refusal) (more : List ℕ → Read Trees) → framed body s f ≡ Stop e → cons body s f more ≡ refused e
 unfolding framed cons
-framed_stop body s Broken e more h = cc
-framed_stop body s (Whole k j) e more h = ended_stop j e (body k (take (j - 6) (drop 6 s))) (λ t. also (more (drop j s)) (λ ts. got (t then ts))) h
+framed_stop body s None e more h = cc
+framed_stop body s (Some f) e more h = ended_stop f.end e (body f.kind (take (f.end - 6) (drop 6 s))) (λ t. also (more (drop f.end s)) (λ ts. got (t then ts))) h
 
-framed_next : (body : Body) (s : List ℕ) (f : Frame) (n : ℕ) (a : Shape) → framed body s f ≡ Next n a
-    → (t : Tree) × (k : ℕ) × (shape_of t ≡ a) × (f ≡ Whole k n) × ((more : List ℕ → Read Trees) → cons body s f more ≡ also (more (drop n s)) (λ ts. got (t then ts)))
+framed_next : (body : Body) (s : List ℕ) (f : Option Frame) (n : ℕ) (a : Shape) → framed body s f ≡ Next n a
+    → (t : Tree) × (k : ℕ) × (shape_of t ≡ a) × (f ≡ whole k n) × ((more : List ℕ → Read Trees) → cons body s f more ≡ also (more (drop n s)) (λ ts. got (t then ts)))
 unfolding framed cons also
-framed_next body s Broken n a h = let z : ◌≡◌ {A = ℕ} 0 1 = cc in absurd (omega arith)
-framed_next body s (Whole k j) n a h =
-    let p = ended_next j n a (body k (take (j - 6) (drop 6 s))) h in (
+framed_next body s None n a h = let z : ◌≡◌ {A = ℕ} 0 1 = cc in absurd (omega arith)
+framed_next body s (Some f) n a h =
+    let p = ended_next f.end n a (body f.kind (take (f.end - 6) (drop 6 s))) h in (
       p.0,
-      k,
+      f.kind,
       p.3,
-      ap (λ (i : ℕ). Whole k i) p.2,
-      λ more. ap (λ (r : Read Tree). also r (λ t. also (more (drop j s)) (λ ts. got (t then ts)))) p.1
+      ap (λ (i : ℕ). whole f.kind i) p.2,
+      λ more. ap (λ (r : Read Tree). also r (λ t. also (more (drop f.end s)) (λ ts. got (t then ts)))) p.1
           ∙ ap (λ (i : ℕ). also (more (drop i s)) (λ ts. got (p.0 then ts))) p.2,
     )
-
-pub frame-within : (s : List ℕ) (k e : ℕ) → frame s ≡ Whole k e → (6 ≤ e) × (e ≤ length s)
-frame-within s k e h = let w = frame-whole s k e h in (omega arith, omega arith)
 
 pub front-within : (body : Body) (s : List ℕ) (n : ℕ) (a : Shape) → first_of body s ≡ Next n a → (6 ≤ n) × (n ≤ length s)
 front-within body s n a h = let f = framed_next body s (frame s) n a h in frame-within s f.1 n f.3
@@ -97,15 +95,15 @@ unfolding seen ended
 seen_next j a (refused m) h = cc
 seen_next j a (got t) h = cc
 
-pub front_broken : (body : Body) (s : List ℕ) → frame s ≡ Broken → first_of body s ≡ Stop BadFrame
+pub front_broken : (body : Body) (s : List ℕ) → frame s ≡ None → first_of body s ≡ Stop BadFrame
 unfolding framed
 front_broken body s h = rw (h, framed)
 
-pub front_stop : (body : Body) (s : List ℕ) (k j : ℕ) (e : Refusal) → frame s ≡ Whole k j → seen (body k (take (j - 6) (drop 6 s))) ≡ OneBad e → first_of body s ≡ Stop e
+pub front_stop : (body : Body) (s : List ℕ) (k j : ℕ) (e : Refusal) → frame s ≡ whole k j → seen (body k (take (j - 6) (drop 6 s))) ≡ OneBad e → first_of body s ≡ Stop e
 unfolding framed
 front_stop body s k j e h b = rw (h, framed) (seen_stop j e (body k (take (j - 6) (drop 6 s))) b)
 
-pub front_next : (body : Body) (s : List ℕ) (k j : ℕ) (a : Shape) → frame s ≡ Whole k j → seen (body k (take (j - 6) (drop 6 s))) ≡ OneIs a → first_of body s ≡ Next j a
+pub front_next : (body : Body) (s : List ℕ) (k j : ℕ) (a : Shape) → frame s ≡ whole k j → seen (body k (take (j - 6) (drop 6 s))) ≡ OneIs a → first_of body s ≡ Next j a
 unfolding framed
 front_next body s k j a h b = rw (h, framed) (seen_next j a (body k (take (j - 6) (drop 6 s))) b)
 

@@ -1,12 +1,11 @@
 -- Laws of specs/Accepted.antt: what an accepted pair of settings and tree is, taken apart and put together again, and that the settings, too, are
 -- written as they were read.
-use Rattle.std.specs.Prelude.{◌≡◌, refl, List, [], ◌∷◌, ◌++◌, Bool, true, false, ℕ, ◌+◌, ◌-◌, ◌≤◌, ◌<◌, length, get_or, take, drop, ltb, leb, eqb}
+use Rattle.std.specs.Prelude.{◌≡◌, refl, List, [], ◌∷◌, ◌++◌, Bool, true, false, ℕ, ◌+◌, ◌-◌, ◌≤◌, ◌<◌, length, get_or, take, drop, ltb, leb, eqb, Option, None, Some}
 use Rattle.std.proofs.Common.{ap, sym, ◌∙◌, ⊎_elim, append-nil, arith, length-drop, take-append-drop, drop_of_length-le, length-take-le, drop-drop, take_all, ltb-false, le-ltb, eqb-true, leb-true}
 use Rattle.prelude.specs.Choice.{pick, both}
 use Rattle.refusal.specs.declared.Refusal.TheVariants.{BadSettings, TreeTooLong, BadOperand}
 use Rattle.record.specs.declared.Frame.{Frame}
-use Rattle.record.specs.declared.Frame.TheVariants.{Broken, Whole}
-use Rattle.record.specs.Record.{frame, record_of}
+use Rattle.record.specs.Record.{frame, record_of, whole}
 use Rattle.charset.specs.Charset.{name}
 use Rattle.settings.specs.Settings.{precision_limit, settings_kind, is_frame, ci_at, ai_at, cai_at, settings_body, is_settings}
 use Rattle.charset.specs.Named.{name_at, past, named_at}
@@ -115,14 +114,14 @@ named-front s i e =
     let d : drop (i + 1) s ≡ b ++ drop (past s i) s = sym (take-append-drop m (drop (i + 1) s)) ∙ ap (λ (r : List ℕ). b ++ r) (drop-drop m (i + 1) s) in
     reads-drop 1 i s (omega arith) ∙ ap (λ (r : List ℕ). m ∷ r) d ∙ ap (λ (j : ℕ). j ∷ (b ++ drop (past s i) s)) (sym k)
 
-frame_is : (n : ℕ) (f : Frame) → is_frame n f ≡ true → f ≡ Whole settings_kind n
+frame_is : (n : ℕ) (f : Option Frame) → is_frame n f ≡ true → f ≡ whole settings_kind n
 unfolding is_frame
-frame_is n Broken e = cc
-frame_is n (Whole k j) e =
-    let p = both_true (eqb k settings_kind) (eqb j n) e in
-    let a : k ≡ settings_kind = eqb-true k settings_kind p.0 in
-    let b : j ≡ n = eqb-true j n p.1 in
-    cc
+frame_is n None e = cc
+frame_is n (Some f) e =
+    let p = both_true (eqb f.kind settings_kind) (eqb f.end n) e in
+    let a : f.kind ≡ settings_kind = eqb-true f.kind settings_kind p.0 in
+    let b : f.end ≡ n = eqb-true f.end n p.1 in
+    ap (λ (k : ℕ). whole k f.end) a ∙ ap (λ (i : ℕ). whole settings_kind i) b
 
 -- what a precision and three names are written as
 pub names_bytes : (c : List ℕ) → settings_body c ≡ true
@@ -154,7 +153,7 @@ settings_encode c g h e =
     (λ w. let p = both_true (is_frame (length c) (frame c)) (settings_body c) w.0 in
     let k : Settings = settings_in c in
     let z : k ≡ g = cc w.1 in
-    let f : frame c ≡ Whole settings_kind (length c) = frame_is (length c) (frame c) p.0 in
+    let f : frame c ≡ whole settings_kind (length c) = frame_is (length c) (frame c) p.0 in
     let n : length c ≤ length c = omega arith in
     let d : drop (length c) c ≡ [] = drop_of_length-le c n in
     let b : take (length c - 6) (drop 6 c) ≡ drop 6 c = take_all (length c - 6) (drop 6 c) (omega (arith, length-drop 6 c)) in

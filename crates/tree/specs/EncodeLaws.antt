@@ -1,10 +1,9 @@
 -- Laws of parse, second half: a good tree that is written is parsed back to it. By induction on the tree: its record has a kind and a body,
 -- and the reader of records, given the kind and the body, gives the tree.
-use Rattle.std.specs.Prelude.{◌≡◌, refl, List, [], ◌∷◌, ◌++◌, Bool, true, false, ℕ, zero, suc, ◌+◌, ◌-◌, ◌≤◌, ◌<◌, ℤ, nat_abs, length, get_or, take, drop, leb, eqb}
+use Rattle.std.specs.Prelude.{◌≡◌, refl, List, [], ◌∷◌, ◌++◌, Bool, true, false, ℕ, zero, suc, ◌+◌, ◌-◌, ◌≤◌, ◌<◌, ℤ, nat_abs, length, get_or, take, drop, leb, eqb, Option}
 use Rattle.std.proofs.Common.{ap, sym, ◌∙◌, append-nil, arith, length-append, take_at, drop_at, drop-drop, le-ltb, le-leb}
 use Rattle.record.specs.declared.Frame.{Frame}
-use Rattle.record.specs.declared.Frame.TheVariants.{Whole}
-use Rattle.record.specs.Record.{le16, le32, frame, le, record_of, signed}
+use Rattle.record.specs.Record.{le16, le32, frame, le, record_of, signed, whole}
 use Rattle.prelude.specs.Choice.{pick, both, between, all}
 use Rattle.charset.specs.Charset.{name, spatial_byte}
 use Rattle.string.specs.Utf8.{valid}
@@ -26,11 +25,11 @@ abbrev pub size_limit : ℕ
 size_limit = 4294967296
 
 -- the frame, from what the tests find
-frame_is : (s : List ℕ) (n k : ℕ) → 6 ≤ length s → n ≡ le32 s 0 → k ≡ le16 s 4 → 2 ≤ n → n ≤ length s - 4 → frame s ≡ Whole k (n + 4)
+frame_is : (s : List ℕ) (n k : ℕ) → 6 ≤ length s → n ≡ le32 s 0 → k ≡ le16 s 4 → 2 ≤ n → n ≤ length s - 4 → frame s ≡ whole k (n + 4)
 unfolding frame
 frame_is s n k l e f g h = simp (le-ltb (length s) 6 l, ← e, ← f, le-ltb n 2 g, le-ltb (length s - 4) n h)
 
-pub frame_of_lem : (k : ℕ) (b r : List ℕ) → k < 65536 → length b + 2 < size_limit → frame (record_of k b ++ r) ≡ Whole k (length b + 2 + 4)
+pub frame_of_lem : (k : ℕ) (b r : List ℕ) → k < 65536 → length b + 2 < size_limit → frame (record_of k b ++ r) ≡ whole k (length b + 2 + 4)
 unfolding record_of
 frame_of_lem k b r p q =
     frame_is (record_of k b ++ r) (length b + 2) k (omega arith) (sym (le32-le (length b + 2) q)) (sym (le16-le k p)) (omega arith) (omega (arith, length-append b r))
@@ -46,7 +45,7 @@ cons_of body more k b r t ts p q c d =
     let x : take (n + 4 - 6) (b ++ r) ≡ b = take_at b r (n + 4 - 6) (sym e) in
     let g : 6 + length b ≡ n + 4 = omega arith in
     let y : drop (n + 4) s ≡ r = ap (λ (i : ℕ). drop i s) (sym g) ∙ sym (drop-drop (length b) 6 s) ∙ drop_at b r (length b) refl in
-    ap (λ (f : Frame). cons body s f more) (frame_of_lem k b r p q)
+    ap (λ (f : Option Frame). cons body s f more) (frame_of_lem k b r p q)
     ∙ ap (λ (l : List ℕ). also (body k l) (λ t. also (more (drop (n + 4) s)) (λ ts. got (t then ts)))) x
     ∙ ap (λ (u : Read Tree). also u (λ t. also (more (drop (n + 4) s)) (λ ts. got (t then ts)))) c
     ∙ ap (λ (l : List ℕ). also (more l) (λ ts. got (t then ts))) y

@@ -1,7 +1,7 @@
 -- What other limits change in the reading of a tree: nothing, but for a 2 or a 4 (document 02, slip 7). Along the recursion of the definitions: each
 -- step with fewer levels decides the same, or stops with a 4.
 use Prim.Native.Nat.{ℕ, zero, suc, ◌≤◌, min}
-use Rattle.std.specs.Prelude.{◌≡◌, Bool, true, false, length, drop, ltb, eqb}
+use Rattle.std.specs.Prelude.{◌≡◌, Bool, true, false, length, drop, ltb, eqb, Option, None, Some}
 use Rattle.std.proofs.Math.Path.{refl, subst}
 use Rattle.std.proofs.Common.{sym, ap, ◌∙◌, arith, ltb-true, ltb-false}
 use Rattle.std.proofs.lemmas.Bool.{false≢true}
@@ -11,7 +11,6 @@ use Rattle.refusal.specs.declared.Refusal.{Refusal}
 use Rattle.refusal.specs.declared.Refusal.TheVariants.{BadSettings, TreeTooLong, BadFrame, TooDeep, BadKindOrOperator, BadField, BadOperand, TextTooLong, BufferTooShort, InputTooLong, BadRow, BadText, MissingColumn, ConstantOperands}
 use Rattle.refusal.specs.Number.{number_of}
 use Rattle.record.specs.declared.Frame.{Frame}
-use Rattle.record.specs.declared.Frame.TheVariants.{Broken, Whole}
 use Rattle.record.specs.Record.{frame, le16}
 use Rattle.charset.specs.Named.{past, named_at}
 use Rattle.op.specs.declared.Op.{Op}
@@ -60,10 +59,10 @@ module _ (rs : List Refusal) where
 
   -- Records below which each body decides the same, or stops.
   module _ (body other : Body) (below : (j : ℕ) (s : List ℕ) → Else rs (body j s) (other j s)) where
-    cons_else : (s : List ℕ) (f : Frame) (more same : List ℕ → Read Trees) → ((t : List ℕ) → Else rs (more t) (same t)) → Else rs (cons body s f more) (cons other s f same)
+    cons_else : (s : List ℕ) (f : Option Frame) (more same : List ℕ → Read Trees) → ((t : List ℕ) → Else rs (more t) (same t)) → Else rs (cons body s f more) (cons other s f same)
     unfolding cons
-    cons_else s Broken more same h = alike refl
-    cons_else s (Whole k e) more same h = also_else _ _ _ _ (below k _) (λ t. also_else _ _ _ _ (h (drop e s)) (λ ts. alike refl))
+    cons_else s None more same h = alike refl
+    cons_else s (Some f) more same h = also_else _ _ _ _ (below f.kind _) (λ t. also_else _ _ _ _ (h (drop f.end s)) (λ ts. alike refl))
 
     exactly_else : (n : ℕ) (s : List ℕ) → Else rs (exactly body n s) (exactly other n s)
     unfolding exactly

@@ -1,10 +1,9 @@
 -- What bytes mean as a tree, with refusals 3 to 6 in reading order: document 01, "Records" and "What a caller hears".
-use Rattle.std.specs.Prelude.{ℕ, zero, suc, ◌+◌, ◌-◌, List, [], ◌∷◌, Bool, ℤ, nat_abs, length, get_or, take, drop, ltb, leb, eqb}
+use Rattle.std.specs.Prelude.{ℕ, zero, suc, ◌+◌, ◌-◌, List, [], ◌∷◌, Bool, ℤ, nat_abs, length, get_or, take, drop, ltb, leb, eqb, Option, None, Some}
 use Rattle.prelude.specs.Choice.{pick, both, either, negated, between}
 use Rattle.refusal.specs.declared.Refusal.{Refusal}
 use Rattle.refusal.specs.declared.Refusal.TheVariants.{BadFrame, TooDeep, BadKindOrOperator, BadField}
 use Rattle.record.specs.declared.Frame.{Frame}
-use Rattle.record.specs.declared.Frame.TheVariants.{Broken, Whole}
 use Rattle.record.specs.Record.{le16, le32, le64, signed, frame}
 use Rattle.charset.specs.Charset.{name, spatial_text}
 use Rattle.charset.specs.Named.{name_at, past, named_at}
@@ -37,10 +36,10 @@ Body = ℕ → List ℕ → Read Tree
 -- Records.
 
 -- the record at the front of s, whose frame is given, and the records that `more` reads from what follows it
-unfoldable pub cons : Body → List ℕ → Frame → (List ℕ → Read Trees) → Read Trees
-cons body s Broken more = refused BadFrame
-cons body s (Whole k e) more =
-    also (body k (take (e - 6) (drop 6 s))) (λ t. also (more (drop e s)) (λ ts. got (t then ts)))
+unfoldable pub cons : Body → List ℕ → Option Frame → (List ℕ → Read Trees) → Read Trees
+cons body s None more = refused BadFrame
+cons body s (Some f) more =
+    also (body f.kind (take (f.end - 6) (drop 6 s))) (λ t. also (more (drop f.end s)) (λ ts. got (t then ts)))
 
 -- no byte may be left
 unfoldable pub end : List ℕ → Read Trees

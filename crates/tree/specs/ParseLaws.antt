@@ -1,6 +1,6 @@
 -- Laws of parse, first half: bytes that parse as a tree are the tree's own, and the tree is good. By induction on the levels; each list of
 -- records by its frames, each kind by its row of the table.
-use Rattle.std.specs.Prelude.{◌≡◌, refl, ◌⊎◌, Bool, true, false, nat_abs, ltb, leb, eqb}
+use Rattle.std.specs.Prelude.{◌≡◌, refl, ◌⊎◌, Bool, true, false, nat_abs, ltb, leb, eqb, Option, None, Some}
 use Rattle.std.proofs.Math.Path.{ap, sym, subst}
 use Rattle.std.proofs.Common.{◌∙◌, inl, inr, arith, take-append-drop, drop_of_length-le, drop-drop}
 use Rattle.std.proofs.Math.Logic.{⊎_elim}
@@ -12,8 +12,8 @@ use borrow.Author.Tests.{ltb-false, eqb-true, leb-true}
 use Rattle.refusal.specs.declared.Refusal.{Refusal}
 use Rattle.refusal.specs.declared.Refusal.TheVariants.{BadFrame, TooDeep, BadKindOrOperator, BadField}
 use Rattle.record.specs.declared.Frame.{Frame}
-use Rattle.record.specs.declared.Frame.TheVariants.{Broken, Whole}
-use Rattle.record.specs.Record.{le16, le32, frame, le, record_of, le64}
+use Rattle.record.specs.Record.{le16, le32, frame, le, record_of, le64, whole}
+use Rattle.record.specs.FrameLaws.{frame-whole}
 use Rattle.prelude.specs.Choice.{pick, both, between, all}
 use Rattle.charset.specs.Charset.{name, spatial_byte}
 use Rattle.string.specs.Utf8.{valid}
@@ -55,20 +55,8 @@ within a n b e = let p = both_true (leb a n) (leb n b) e in (leb-true a n p.0, l
 drop_all : (s : List ℕ) (n : ℕ) → length s ≤ n → drop n s ≡ []
 drop_all s n l = drop_of_length-le s l
 
--- Frames.
-
-pub frame-whole : (s : List ℕ) (k e : ℕ) → frame s ≡ Whole k e → (6 ≤ length s) × (2 ≤ le32 s 0) × (le32 s 0 ≤ length s - 4) × (k ≡ le16 s 4) × (e ≡ le32 s 0 + 4)
-unfolding frame
-frame-whole s k e = go (ltb (length s) 6) refl (ltb (le32 s 0) 2) refl (ltb (length s - 4) (le32 s 0)) refl
-  where
-    go : (a : Bool) → ltb (length s) 6 ≡ a → (b : Bool) → ltb (le32 s 0) 2 ≡ b → (d : Bool) → ltb (length s - 4) (le32 s 0) ≡ d → pick a Broken (pick b Broken (pick d Broken (Whole (le16 s 4) (le32 s 0 + 4)))) ≡ Whole k e → (6 ≤ length s) × (2 ≤ le32 s 0) × (le32 s 0 ≤ length s - 4) × (k ≡ le16 s 4) × (e ≡ le32 s 0 + 4)
-    go true p b q d r h = let z : ◌≡◌ {A = ℕ} 0 1 = cc in absurd (omega arith)
-    go false p true q d r h = let z : ◌≡◌ {A = ℕ} 0 1 = cc in absurd (omega arith)
-    go false p false q true r h = let z : ◌≡◌ {A = ℕ} 0 1 = cc in absurd (omega arith)
-    go false p false q false r h = (ltb-false (length s) 6 p, ltb-false (le32 s 0) 2 q, ltb-false (length s - 4) (le32 s 0) r, cc, cc)
-
 -- a record's bytes are its length, its kind and its body
-pub frame_record : (s : List ℕ) (k e : ℕ) → Bytes s → frame s ≡ Whole k e → s ≡ record_of k (take (e - 6) (drop 6 s)) ++ drop e s
+pub frame_record : (s : List ℕ) (k e : ℕ) → Bytes s → frame s ≡ whole k e → s ≡ record_of k (take (e - 6) (drop 6 s)) ++ drop e s
 unfolding record_of
 frame_record s k e h f =
     let w = frame-whole s k e f in
@@ -89,17 +77,17 @@ Sound n body = (k : ℕ) (s : List ℕ) (t : Tree) → Bytes s → body k s ≡ 
 abbrev pub Reads : ℕ → (List ℕ → Read Trees) → Type 0
 Reads n more = (s : List ℕ) (ts : Trees) → Bytes s → more s ≡ got ts → (s ≡ encodes ts) × AllGood ts n
 
-cons_sound : (n : ℕ) (body : Body) (more : List ℕ → Read Trees) → Sound n body → Reads n more → (s : List ℕ) (f : Frame) → frame s ≡ f → (ts : Trees) → Bytes s → cons body s f more ≡ got ts → (s ≡ encodes ts) × AllGood ts n
+cons_sound : (n : ℕ) (body : Body) (more : List ℕ → Read Trees) → Sound n body → Reads n more → (s : List ℕ) (f : Option Frame) → frame s ≡ f → (ts : Trees) → Bytes s → cons body s f more ≡ got ts → (s ≡ encodes ts) × AllGood ts n
 unfolding cons encodes AllGood
-cons_sound n body more S M s Broken g ts h c = not_got BadFrame ts c
-cons_sound n body more S M s (Whole k e) g ts h c =
-    let p = also_got (body k (take (e - 6) (drop 6 s))) (λ t. also (more (drop e s)) (λ us. got (t then us))) ts c in
-    let q = also_got (more (drop e s)) (λ us. got (p.0 then us)) ts p.2 in
+cons_sound n body more S M s None g ts h c = not_got BadFrame ts c
+cons_sound n body more S M s (Some f) g ts h c =
+    let p = also_got (body f.kind (take (f.end - 6) (drop 6 s))) (λ t. also (more (drop f.end s)) (λ us. got (t then us))) ts c in
+    let q = also_got (more (drop f.end s)) (λ us. got (p.0 then us)) ts p.2 in
     let z : p.0 then q.0 ≡ ts = cc q.2 in
-    let x = S k (take (e - 6) (drop 6 s)) p.0 (bytes_take (e - 6) (drop 6 s) (bytes_drop 6 s h)) p.1 in
-    let y = M (drop e s) q.0 (bytes_drop e s h) q.1 in
+    let x = S f.kind (take (f.end - 6) (drop 6 s)) p.0 (bytes_take (f.end - 6) (drop 6 s) (bytes_drop 6 s h)) p.1 in
+    let y = M (drop f.end s) q.0 (bytes_drop f.end s h) q.1 in
     let w : Good p.0 n × AllGood q.0 n = (x.1, y.1) in (
-      frame_record s k e h g ∙ ap (λ (l : List ℕ). l ++ drop e s) x.0 ∙ ap (λ (l : List ℕ). encode p.0 ++ l) y.0 ∙ ap (λ (l : Trees). encodes l) z,
+      frame_record s f.kind f.end h g ∙ ap (λ (l : List ℕ). l ++ drop f.end s) x.0 ∙ ap (λ (l : List ℕ). encode p.0 ++ l) y.0 ∙ ap (λ (l : Trees). encodes l) z,
       subst (λ (l : Trees). AllGood l n) z w,
     )
 
@@ -119,14 +107,14 @@ many_sound n body S zero s ts h c = end_sound n s ts h c
 many_sound n body S (suc f) [] ts h c = let z : none ≡ ts = cc in (ap (λ (l : Trees). encodes l) z, subst (λ (l : Trees). AllGood l n) z tt)
 many_sound n body S (suc f) (x ∷ s) ts h c = cons_sound n body (λ r. many body f r) S (many_sound n body S f) (x ∷ s) (frame (x ∷ s)) refl ts h c
 
-cons-count : (body : Body) (more : List ℕ → Read Trees) (n : ℕ) (s : List ℕ) (f : Frame) (ts : Trees) → ((r : List ℕ) (us : Trees) → more r ≡ got us → count us ≡ n) → cons body s f more ≡ got ts → count ts ≡ suc n
+cons-count : (body : Body) (more : List ℕ → Read Trees) (n : ℕ) (s : List ℕ) (f : Option Frame) (ts : Trees) → ((r : List ℕ) (us : Trees) → more r ≡ got us → count us ≡ n) → cons body s f more ≡ got ts → count ts ≡ suc n
 unfolding cons count
-cons-count body more n s Broken ts M c = not_got BadFrame ts c
-cons-count body more n s (Whole k e) ts M c =
-    let p = also_got (body k (take (e - 6) (drop 6 s))) (λ t. also (more (drop e s)) (λ us. got (t then us))) ts c in
-    let q = also_got (more (drop e s)) (λ us. got (p.0 then us)) ts p.2 in
+cons-count body more n s None ts M c = not_got BadFrame ts c
+cons-count body more n s (Some f) ts M c =
+    let p = also_got (body f.kind (take (f.end - 6) (drop 6 s))) (λ t. also (more (drop f.end s)) (λ us. got (t then us))) ts c in
+    let q = also_got (more (drop f.end s)) (λ us. got (p.0 then us)) ts p.2 in
     let z : ts ≡ p.0 then q.0 = cc q.2 in
-    ap (λ (l : Trees). count l) z ∙ ap suc (M (drop e s) q.0 q.1)
+    ap (λ (l : Trees). count l) z ∙ ap suc (M (drop f.end s) q.0 q.1)
 
 end-count : (s : List ℕ) (ts : Trees) → end s ≡ got ts → count ts ≡ 0
 unfolding end count

@@ -1,7 +1,7 @@
 -- Which refusals a check of settings and tree can give: of a tree 2 to 7, with its settings 1 to 7 (document 01, "What a caller hears"). Along the
 -- recursion of the definitions: each step gives a value or one of these.
 use Prim.Native.Nat.{ℕ, zero, suc}
-use Rattle.std.specs.Prelude.{◌≡◌, Bool, false, length, get_or, drop, ltb, eqb}
+use Rattle.std.specs.Prelude.{◌≡◌, Bool, false, length, get_or, drop, ltb, eqb, Option, None, Some}
 use Rattle.std.proofs.Math.Path.{refl}
 use Rattle.std.proofs.Common.{sym, ap, ◌∙◌}
 use Rattle.std.proofs.Math.Bool.{true}
@@ -12,7 +12,6 @@ use Rattle.refusal.specs.declared.Refusal.{Refusal}
 use Rattle.refusal.specs.declared.Refusal.TheVariants.{BadSettings, TreeTooLong, BadFrame, TooDeep, BadKindOrOperator, BadField, BadOperand}
 use Rattle.refusal.specs.Number.{number_of}
 use Rattle.record.specs.declared.Frame.{Frame}
-use Rattle.record.specs.declared.Frame.TheVariants.{Broken, Whole}
 use Rattle.record.specs.Record.{frame, le16, le32}
 use Rattle.charset.specs.Charset.{name}
 use Rattle.charset.specs.Named.{name_at, past, named_at}
@@ -64,10 +63,10 @@ choose-gives k s (r ∷ rs) e = pick_gives of_tree (eqb k r.kind) (r.read s) (ch
 
 -- Records below which each body gives one of 2 to 7.
 module _ (body : Body) (below : (j : ℕ) (s : List ℕ) → gives of_tree (body j s) ≡ true) where
-  cons-gives : (s : List ℕ) (f : Frame) (more : List ℕ → Read Trees) → ((t : List ℕ) → gives of_tree (more t) ≡ true) → gives of_tree (cons body s f more) ≡ true
+  cons-gives : (s : List ℕ) (f : Option Frame) (more : List ℕ → Read Trees) → ((t : List ℕ) → gives of_tree (more t) ≡ true) → gives of_tree (cons body s f more) ≡ true
   unfolding cons
-  cons-gives s Broken more h = refl
-  cons-gives s (Whole k e) more h = also-gives of_tree _ _ (below k _) (λ t. also-gives of_tree _ _ (h (drop e s)) (λ ts. refl))
+  cons-gives s None more h = refl
+  cons-gives s (Some f) more h = also-gives of_tree _ _ (below f.kind _) (λ t. also-gives of_tree _ _ (h (drop f.end s)) (λ ts. refl))
 
   end-gives : (s : List ℕ) → gives of_tree (end s) ≡ true
   unfolding end

@@ -1,9 +1,8 @@
 -- What the code's walk answers about a reading: the refusal, or what has to be known of a tree to decide refusal 7 above it. Document 01, "What a caller hears".
-use Rattle.std.specs.Prelude.{ℕ, ◌-◌, List, Bool, true, false, length, take, drop, ltb, eqb}
+use Rattle.std.specs.Prelude.{ℕ, ◌-◌, List, Bool, true, false, length, take, drop, ltb, eqb, Option, None, Some}
 use Rattle.prelude.specs.Choice.{pick, both}
 use Rattle.refusal.specs.declared.Refusal.TheVariants.{BadFrame, BadKindOrOperator, BadField}
 use Rattle.record.specs.declared.Frame.{Frame}
-use Rattle.record.specs.declared.Frame.TheVariants.{Broken, Whole}
 use Rattle.record.specs.Record.{le16, frame}
 use Rattle.op.specs.declared.Op.{Op}
 use Rattle.op.specs.declared.Named.{Named}
@@ -51,9 +50,9 @@ unfoldable pub ended : ℕ → Read Tree → First
 ended e (refused n) = Stop n
 ended e (got t) = Next e (shape_of t)
 
-unfoldable pub framed : Body → List ℕ → Frame → First
-framed body s Broken = Stop BadFrame
-framed body s (Whole k e) = ended e (body k (take (e - 6) (drop 6 s)))
+unfoldable pub framed : Body → List ℕ → Option Frame → First
+framed body s None = Stop BadFrame
+framed body s (Some f) = ended f.end (body f.kind (take (f.end - 6) (drop 6 s)))
 
 abbrev pub first_of : Body → List ℕ → First
 first_of body s = framed body s (frame s)

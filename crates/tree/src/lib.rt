@@ -477,8 +477,8 @@ fn check_first(s: &[u8], levels: usize) -> First
     ensures { result ≡ first_of (node levels) s.now }
 {
     match record::frame_at(s) {
-        Frame::Broken => First::Stop(Refusal::BadFrame),
-        Frame::Whole { kind, end } => match check_node(kind, &s[record::BODY..end], levels) {
+        None => First::Stop(Refusal::BadFrame),
+        Some(Frame { kind, end }) => match check_node(kind, &s[record::BODY..end], levels) {
             One::OneBad(e) => First::Stop(e),
             One::OneIs(a) => First::Next(end, a),
         },

@@ -5,5 +5,5 @@ use Rattle.spelling.specs.SpellingLaws.{spells}
 use Rattle.spelling.proofs.spellings.Goals as goal
 
 pub returns : goal.returns
-unfolding place_in standing same
+unfolding place_in standing
 returns c = spells _ tt

@@ -3,10 +3,10 @@ use native.Mathlib.Omega.{arith}
 use mathlib.Core.Path.{refl, sym, ap, ◌∙◌}
 use Prim.Native.Nat.{◌-◌}
 use lib.ListN.{length}
+use Rattle.record.specs.FrameLaws as frames
 use Rattle.tree.proofs.WalkLaws as walk
 use Rattle.tree.specs.Parse.{choose, kinds}
 use Rattle.tree.specs.WalkWords.{monadic_one, dyadic_one, function_one, array_one, interval_one}
-use borrow.Fn.PlainCycle.{is}
 use Rattle.tree.proofs.+checks.Goals as goal
 
 pub check_dyadic-slice_bounds-check_two-count : goal.check_dyadic-slice_bounds-check_two-count
@@ -31,27 +31,27 @@ check_dyadic-returns-in-Takes t c = c.dyadic_one.ensures ∙ ap (dyadic_one _) c
 
 pub check_first-slice_bounds-check_node-count : goal.check_first-slice_bounds-check_node-count
 unfolding choose kinds
-check_first-slice_bounds-check_node-count t c = (walk.frame-within _ _ _ (sym c.frame_at.ensures ∙ c.in-Whole.is)).0
+check_first-slice_bounds-check_node-count t c = (frames.frame-within _ _ _ (sym c.frame_at.ensures ∙ c.in-Some.is)).0
 
 pub check_first-slice_bounds-check_node-start : goal.check_first-slice_bounds-check_node-start
 unfolding choose kinds
-check_first-slice_bounds-check_node-start t c = (walk.frame-within _ _ _ (sym c.frame_at.ensures ∙ c.in-Whole.is)).0
+check_first-slice_bounds-check_node-start t c = (frames.frame-within _ _ _ (sym c.frame_at.ensures ∙ c.in-Some.is)).0
 
 pub check_first-slice_bounds-check_node-end : goal.check_first-slice_bounds-check_node-end
 unfolding choose kinds
-check_first-slice_bounds-check_node-end t c = (walk.frame-within _ _ _ (sym c.frame_at.ensures ∙ c.in-Whole.is)).1
+check_first-slice_bounds-check_node-end t c = (frames.frame-within _ _ _ (sym c.frame_at.ensures ∙ c.in-Some.is)).1
 
-pub check_first-returns-in-Broken : goal.check_first-returns-in-Broken
+pub check_first-returns-in-None : goal.check_first-returns-in-None
 unfolding choose kinds
-check_first-returns-in-Broken t c = sym (walk.front_broken _ _ (sym c.frame_at.ensures ∙ c.in-Broken.is))
+check_first-returns-in-None t c = sym (walk.front_broken _ _ (sym c.frame_at.ensures ∙ c.in-None.is))
 
 pub check_first-returns-in-OneBad : goal.check_first-returns-in-OneBad
 unfolding choose kinds
-check_first-returns-in-OneBad t c = sym (walk.front_stop _ _ _ _ _ (sym c.frame_at.ensures ∙ c.in-Whole.is) (sym c.check_node.ensures ∙ c.in-OneBad.is))
+check_first-returns-in-OneBad t c = sym (walk.front_stop _ _ _ _ _ (sym c.frame_at.ensures ∙ c.in-Some.is) (sym c.check_node.ensures ∙ c.in-OneBad.is))
 
 pub check_first-returns-in-OneIs : goal.check_first-returns-in-OneIs
 unfolding choose kinds
-check_first-returns-in-OneIs t c = sym (walk.front_next _ _ _ _ _ (sym c.frame_at.ensures ∙ c.in-Whole.is) (sym c.check_node.ensures ∙ c.in-OneIs.is))
+check_first-returns-in-OneIs t c = sym (walk.front_next _ _ _ _ _ (sym c.frame_at.ensures ∙ c.in-Some.is) (sym c.check_node.ensures ∙ c.in-OneIs.is))
 
 pub check_function-bounds-s-0 : goal.check_function-bounds-s-0
 unfolding choose kinds

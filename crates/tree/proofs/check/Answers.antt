@@ -1,6 +1,6 @@
 -- `tree::check` meets its contract: 1, and behind right settings what the tree says.
 -- what is heard of the answer is what was decided
-use mathlib.Core.Path.{◌≡◌, sym, ap, ◌∙◌}
+use mathlib.Core.Path.{sym, ap, ◌∙◌}
 use Rattle.tree.specs.Accepted.{heard}
 use Rattle.tree.specs.AcceptedLaws.{heard-verdict}
 use Rattle.tree.proofs.WalkLaws as walk

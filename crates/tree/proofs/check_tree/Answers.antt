@@ -1,6 +1,6 @@
 -- `tree::check_tree` meets its contract: 2, then what the walk found, and 7 only where it found nothing else.
 -- what is heard of the answer is what was decided
-use mathlib.Core.Path.{◌≡◌, sym, ap, ◌∙◌}
+use mathlib.Core.Path.{sym, ap, ◌∙◌}
 use mathlib.Core.Bool.{Bool}
 use Rattle.prelude.specs.Choice.{pick}
 use Rattle.refusal.specs.declared.Refusal.TheVariants.{BadOperand}

@@ -9,5 +9,5 @@ use Rattle.keyword.proofs.TableLaws.{lists}
 use Rattle.keyword.proofs.table.reserved_words.Goals as goal
 
 pub returns : goal.returns
-unfolding some same reserved_words keywords keyword_texts place_in count_in
+unfolding some reserved_words keywords keyword_texts place_in count_in
 returns c = lists _ (leb-true 54 _ refl) refl
