@@ -1,10 +1,9 @@
 -- Laws of specs/Emit.antt and specs/LaysWords.antt: when a text is laid, and texts laid one after the other. Counting stops at the cap, so a place is
 -- exact wherever the text after it has room.
-use Rattle.std.specs.Prelude.{ℕ, suc, ◌+◌, ◌-◌, ◌≤◌, ◌<◌, min, ◌≡◌, refl, List, [], ◌∷◌, ◌++◌, Bool, true, false, length, take, drop, get_or, set}
-use Rattle.std.proofs.Common.{ap, sym, ◌∙◌, subst, add-zero, add-one, arith, append_assoc, drop-drop, length-append, length-drop, length-take-le, take-suc, lt-ltb, le-ltb, ltb-true, ltb-false}
+use Rattle.std.specs.Prelude.{ℕ, suc, ◌+◌, ◌≤◌, ◌<◌, min, ◌≡◌, refl, List, [], ◌∷◌, ◌++◌, Bool, true, false, length, take, drop, get_or, set}
+use Rattle.std.proofs.Common.{ap, sym, ◌∙◌, subst, add-zero, add-one, arith, length-append, take-suc, length-take-le, lt-ltb, le-ltb, ltb-true, ltb-false}
 use Rattle.std.proofs.lemmas.List.Edits.{sets, sets-eq}
 use Rattle.std.proofs.Math.Seq.{length-sets}
-use borrow.Rule.Slice.PartMut.{put_mid}
 use Rattle.prelude.specs.Choice.{pick}
 use Rattle.emit.specs.Emit.{ended, lacks, placed, Puts}
 use Rattle.emit.specs.LaysWords.{Lays}
@@ -33,18 +32,6 @@ sets_more s l i k h =
     rw (add-one, take-suc s k 0)
     (sym (sets_append (take k s) (get_or s k 0 ∷ []) l i)
     ∙ ap (λ (j : ℕ). set (sets l i (take k s)) (i + j) (get_or s k 0)) (length-take-le k s (omega arith)))
-
--- a run of bytes that is copied into a part of a slice
-pub mid_sets : (xs ys : List ℕ) (a e : ℕ) → e ≤ length xs → a + length ys ≡ e → put_mid a (e - a) xs ys ≡ sets xs a ys
-mid_sets xs ys a e h p =
-    let z : a + (e - a) ≡ a + length ys = omega arith in
-    ap (λ (x : List ℕ). take a xs ++ (ys ++ x)) (drop-drop (e - a) a xs ∙ ap (λ (k : ℕ). drop k xs) z)
-    ∙ sym (append_assoc (take a xs) ys (drop (a + length ys) xs))
-    ∙ sym (sets-eq ys xs a (omega arith))
-
--- how long such a part is
-pub mid_length : (xs : List ℕ) (a e : ℕ) → a ≤ e → e ≤ length xs → length (take (e - a) (drop a xs)) ≡ e - a
-mid_length xs a e h g = length-take-le (e - a) (drop a xs) (rw length-drop (omega arith))
 
 -- ---- a text that has room, and one that lacks it
 
@@ -116,17 +103,6 @@ pub puts_over : (cap at n : ℕ) (t entry : List ℕ) {r : ℕ} {b : Bool} → n
 puts_over cap at n t entry e f g h =
     let l : min (length entry) cap < at + n = ltb-true (min (length entry) cap) (at + n) (sym f ∙ g) in
     record { laid = sym (placed_over cap entry at t (omega arith)); end = h ∙ ap (λ (k : ℕ). ended cap at k) e }
-
--- there is room, and the text is copied into its part
-pub puts_copied : (cap at : ℕ) (t entry part : List ℕ) → Room cap (length entry) at (length t) → part ≡ t
-    → Puts cap at t entry (put_mid at (at + length t - at) entry part) (at + length t)
-puts_copied cap at t entry part h e =
-    let i : at + length t ≤ length entry = h.inside in
-    let j : at + length t ≤ cap = h.counted in
-    record {
-      laid = mid_sets entry part at (at + length t) i (ap (λ (x : List ℕ). at + length x) e) ∙ ap (λ (x : List ℕ). sets entry at x) e ∙ sym (placed-fits entry at t h);
-      end = omega arith;
-    }
 
 -- several writes with room for all: what is there then, and the place after it
 pub record Wrote (cap : ℕ) (out : List ℕ) (at : ℕ) (t exit : List ℕ) (r : ℕ) : Type 0 where

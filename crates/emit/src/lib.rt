@@ -1,7 +1,8 @@
 // Laying texts over lent bytes and counting where each ends: the one way in which every writer writes.
 #![tactic(auto)]
 
-ghost use Rattle.std.specs.Prelude.{◌≡◌, min, length, flat_map};
+ghost use Rattle.std.specs.Prelude.{◌≡◌, ◌+◌, ◌≤◌, min, length, flat_map};
+ghost use Rattle.std.proofs.lemmas.List.Edits.{sets};
 ghost use Rattle.prelude.specs.Choice.{pick};
 ghost use Rattle.emit.specs.Emit.{count_limit, ended, lacks, Puts};
 
@@ -31,6 +32,16 @@ fn len_of(texts: &[&[u8]]) -> usize
         .fold(0, |n: usize, text| n.saturating_add(text.len()))
 }
 
+// Lays s over out from `at`, where it has room. No `copy_from_slice`, which is a memmove: include/wenduulig.h says that the calls need memcpy and memset alone.
+fn copy(s: &[u8], out: &mut [u8], at: usize)
+    requires { at + length s.now ≤ length out.old }
+    ensures { out.new ≡ sets out.old at s.now }
+{
+    for (i, b) in s.iter().enumerate() {
+        out[at + i] = *b;
+    }
+}
+
 // Lays texts over out from `at`, one after the other, all of them or none; answers the place after the last.
 pub fn put_all(texts: &[&[u8]], out: &mut [u8], at: usize) -> usize
     ensures { Puts count_limit at (flat_map (λ t. t.now) texts.now) out.old out.new result }
@@ -41,9 +52,8 @@ pub fn put_all(texts: &[&[u8]], out: &mut [u8], at: usize) -> usize
     }
     let mut here = at;
     for text in texts {
-        let end = here + text.len();
-        out[here..end].copy_from_slice(text);
-        here = end;
+        copy(text, out, here);
+        here += text.len();
     }
     here
 }
@@ -59,5 +69,9 @@ pub fn put(s: &[u8], out: &mut [u8], at: usize) -> usize
 pub fn put_either(first: bool, a: &[u8], b: &[u8], out: &mut [u8], at: usize) -> usize
     ensures { Puts count_limit at (pick first a.now b.now) out.old out.new result }
 {
-    if first { put(a, out, at) } else { put(b, out, at) }
+    if first {
+        put(a, out, at)
+    } else {
+        put(b, out, at)
+    }
 }
