@@ -1,6 +1,5 @@
 -- A text without an apostrophe is put as it is; any other between quotation marks, if there is room for all.
-use Rattle.std.proofs.Common.{arith, length, ap, sym, ◌∙◌}
-use Rattle.std.proofs.Math.Seq.{length-sets}
+use Rattle.std.proofs.Common.{arith, ap, sym, ◌∙◌}
 use Rattle.prelude.specs.Bytes.{bytes}
 use Rattle.string.specs.Quote.{doubled}
 use Rattle.emit.specs.EmitLaws.{puts_of, wrote, wrote_then, wrote_puts}
