@@ -48,14 +48,14 @@ pub(crate) fn put_infix(a: bool, op: usize, b: bool, out: &mut [u8], at: usize) 
     let word = word_of(op);
     if a {
         if b {
-            return emit::put_three(b" ", word, b" ", out, at);
+            return emit::put_all(&[b" ", word, b" "], out, at);
         }
-        return emit::put_three(b" ", word, b" (", out, at);
+        return emit::put_all(&[b" ", word, b" ("], out, at);
     }
     if b {
-        return emit::put_three(b") ", word, b" ", out, at);
+        return emit::put_all(&[b") ", word, b" "], out, at);
     }
-    emit::put_three(b") ", word, b" (", out, at)
+    emit::put_all(&[b") ", word, b" ("], out, at)
 }
 
 // An operator of two sides stands between them unless it is spatial or BETWEEN. Most stand before the spatial ones in the enum.
