@@ -11,9 +11,7 @@ use lib.Dec.{ltb, leb}
 use borrow.Author.Tests.{ltb-true, ltb-false, le-ltb, lt-ltb, le-leb, lt-leb, eq-eqb}
 use Rattle.prelude.specs.Choice.{pick}
 use Rattle.tree.specs.Limits.{mantissa_limit}
-use Rattle.record.specs.Record.{le16, signed}
-use Rattle.civil.specs.Civil.{valid_date, valid_time}
-use Rattle.tree.specs.Parse.{timestamp_body}
+use Rattle.record.specs.Record.{signed}
 
 -- The bytes from `at` on, as the code's `&s[at..]` has them.
 abbrev pub tail : ℕ → List ℕ → List ℕ
@@ -39,9 +37,3 @@ limit_high n h l = go (ltb n 9223372036854775808) refl
         high : (b : Bool) → ltb (18446744073709551615 - mantissa_limit) n ≡ b → b ≡ leb (suc (18446744073709551615 - n)) mantissa_limit
         high true f = sym (le-leb (suc (18446744073709551615 - n)) mantissa_limit (omega (arith, ltb-true (18446744073709551615 - mantissa_limit) n f)))
         high false f = sym (lt-leb (suc (18446744073709551615 - n)) mantissa_limit (omega (arith, ltb-false (18446744073709551615 - mantissa_limit) n f)))
-
--- Fields.
-
-pub timestamp-is : (s : List ℕ) (y m d h i x : ℕ) → length s ≡ 7 → y ≡ le16 s 0 → m ≡ get_or s 2 0 → d ≡ get_or s 3 0 → h ≡ get_or s 4 0 → i ≡ get_or s 5 0 → x ≡ get_or s 6 0 → valid_date y m d ≡ true → valid_time h i x ≡ timestamp_body s
-unfolding timestamp_body
-timestamp-is s y m d h i x l ey em ed eh ei ex v = simp (eq-eqb (length s) 7 l, ← ey, ← em, ← ed, v, eh, ei, ex)
