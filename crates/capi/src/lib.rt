@@ -22,7 +22,7 @@ use truth::Reading;
 fn negative(r: Refusal) -> i32
     ensures { (result ≡ minus (number_of r)) × (number_of r < 256) }
 {
-    -(refusal::number(r) as i32)
+    -i32::from(u8::from(r))
 }
 
 // The text's length, or minus the number of a refusal.

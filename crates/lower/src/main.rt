@@ -39,7 +39,7 @@ fn answer(
         Lowered::Text(n) => rt.write_all(input::first(out, n))?,
         Lowered::Refused(r) => {
             rt.write_all(b"refused ")?;
-            rt.print(refusal::number(r))?;
+            rt.print(u8::from(r))?;
         }
     }
     rt.write_all(b"\n")

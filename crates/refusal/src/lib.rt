@@ -1,10 +1,13 @@
 #![tactic(auto)]
 
-ghost use Rattle.std.specs.Prelude.{◌≡◌};
+ghost use Rattle.std.specs.Prelude.{◌≡◌, Some};
+ghost use Rattle.std.specs.Fmt.{decimal};
 ghost use Rattle.refusal.specs.Number.{number_of};
 
+use std::fmt;
+
 // The refusals of document 01, "What a caller hears", in its order, and that of document 02, slip 8.
-#[derive(Clone, Copy)]
+#[derive(Clone, Copy, Debug, PartialEq, Eq)]
 pub enum Refusal {
     // 1: the settings are not exactly one settings record.
     BadSettings,
@@ -37,23 +40,34 @@ pub enum Refusal {
 }
 
 // The number by which the papers name a refusal.
-pub fn number(r: Refusal) -> u8
-    ensures { result ≡ number_of r }
-{
-    match r {
-        Refusal::BadSettings => 1,
-        Refusal::TreeTooLong => 2,
-        Refusal::BadFrame => 3,
-        Refusal::TooDeep => 4,
-        Refusal::BadKindOrOperator => 5,
-        Refusal::BadField => 6,
-        Refusal::BadOperand => 7,
-        Refusal::TextTooLong => 8,
-        Refusal::BufferTooShort => 9,
-        Refusal::InputTooLong => 10,
-        Refusal::BadRow => 11,
-        Refusal::BadText => 12,
-        Refusal::MissingColumn => 13,
-        Refusal::ConstantOperands => 14,
+impl From<Refusal> for u8 {
+    ghost from_gives = { λ r n. n ≡ number_of r };
+
+    fn from(r: Refusal) -> u8 {
+        match r {
+            Refusal::BadSettings => 1,
+            Refusal::TreeTooLong => 2,
+            Refusal::BadFrame => 3,
+            Refusal::TooDeep => 4,
+            Refusal::BadKindOrOperator => 5,
+            Refusal::BadField => 6,
+            Refusal::BadOperand => 7,
+            Refusal::TextTooLong => 8,
+            Refusal::BufferTooShort => 9,
+            Refusal::InputTooLong => 10,
+            Refusal::BadRow => 11,
+            Refusal::BadText => 12,
+            Refusal::MissingColumn => 13,
+            Refusal::ConstantOperands => 14,
+        }
+    }
+}
+
+// A refusal is printed as its number.
+impl fmt::Display for Refusal {
+    ghost output = { λ r. Some (decimal (number_of r)) };
+
+    fn fmt<W: fmt::Write>(&self, f: &mut fmt::Formatter<W>) -> fmt::Result {
+        write!(f, "{}", u8::from(*self))
     }
 }

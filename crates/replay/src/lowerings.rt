@@ -33,7 +33,7 @@ pub(crate) enum Call {
 fn found_of<'a>(r: Lowered, text: &'a [u8], out: &'a [u8]) -> u8 {
     match r {
         Lowered::Text(n) => text_found(n, text, out),
-        Lowered::Refused(e) => refusal_found(refusal::number(e), out),
+        Lowered::Refused(e) => refusal_found(u8::from(e), out),
     }
 }
 
@@ -82,7 +82,7 @@ fn lowered(
 fn number_of(r: Lowered) -> usize {
     match r {
         Lowered::Text(n) => n,
-        Lowered::Refused(e) => LENGTH_LIMIT + refusal::number(e) as usize,
+        Lowered::Refused(e) => LENGTH_LIMIT + u8::from(e) as usize,
     }
 }
 

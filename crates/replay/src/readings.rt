@@ -9,7 +9,7 @@ fn code(r: Reading) -> u8 {
         Reading::False => 0,
         Reading::True => 1,
         Reading::Unknown => 2,
-        Reading::Refused(x) => refusal::number(x),
+        Reading::Refused(x) => u8::from(x),
     }
 }
 

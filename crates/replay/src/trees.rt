@@ -8,7 +8,7 @@ use tree::Checked;
 fn number_of(c: Checked) -> u8 {
     match c {
         Checked::Valid => 0,
-        Checked::Refused(r) => refusal::number(r),
+        Checked::Refused(r) => u8::from(r),
     }
 }
 

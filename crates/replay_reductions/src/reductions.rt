@@ -16,7 +16,7 @@ const LARGE: usize = 65536;
 fn found_of<'a>(r: Result<usize, Refusal>, record: &'a [u8], out: &'a [u8]) -> u8 {
     match r {
         Ok(n) => text_found(n, record, out),
-        Err(e) => refusal_found(refusal::number(e), out),
+        Err(e) => refusal_found(u8::from(e), out),
     }
 }
 
