@@ -7,11 +7,12 @@ use native.Mathlib.Omega.{arith}
 use lib.Dec.{eqb}
 use lib.ListN.{get_or}
 use borrow.Author.Tests.{ne_eqb}
+use Rattle.std.specs.Prelude.{Some}
 use Rattle.prelude.specs.Choice.{pick, negated, some}
 use Rattle.op.specs.declared.Op.{Op}
 use Rattle.op.specs.declared.Op.TheVariants.{Neg}
-use Rattle.op.specs.Op.{op_number, is_instant_or_interval}
-use Rattle.op.specs.OpLaws.{number_same}
+use Rattle.op.specs.Op.{op_number, op_of, is_instant_or_interval}
+use Rattle.op.specs.OpLaws.{number_of}
 use Rattle.reduce.specs.declared.Turn.{Turn}
 use Rattle.reduce.specs.declared.Turn.TheVariants.{ToBool}
 use Rattle.reduce.specs.declared.Meet.{Meet}
@@ -51,8 +52,11 @@ no_logic sort.CaseI n m = refl
 no_logic sort.AccentI n m = refl
 no_logic sort.Other n m = refl
 
+pub op_is : (o p : Op) → op_number o ≡ op_number p → o ≡ p
+op_is o p e = let z : Some o ≡ Some p = sym (number_of o) ∙ ap op_of e ∙ number_of p in cc
+
 pub op_apart : (o p : Op) → (o ≡ p → ⊥) → eqb (op_number o) (op_number p) ≡ false
-op_apart o p n = ne_eqb (op_number o) (op_number p) (λ e. n (number_same o p e))
+op_apart o p n = ne_eqb (op_number o) (op_number p) (λ e. n (op_is o p e))
 
 pub neg_bool : (b : Bool) → ToBool (not b) ≡ turn Neg (sort.Bool b)
 unfolding turn some

@@ -10,13 +10,12 @@ use lib.Seq.{sets, take_all, drop_at}
 use borrow.Author.Tests.{eqb-true}
 use Rattle.prelude.specs.Choice.{pick, both, some}
 use Rattle.prelude.specs.ChoiceLaws.{both_true}
-use Rattle.std.specs.Prelude.{Result, Ok, Err, Some}
+use Rattle.std.specs.Prelude.{Result, Ok, Err}
 use Rattle.refusal.specs.declared.Refusal.{Refusal}
 use Rattle.record.specs.Record.{le16, le32, record_of}
 use Rattle.op.specs.declared.Op.{Op}
 use Rattle.op.specs.declared.Op.TheVariants.{CaseI, AccentI}
-use Rattle.op.specs.Op.{op_number, op_of, one_of}
-use Rattle.op.specs.OpLaws.{number_of, number_same}
+use Rattle.op.specs.Op.{op_number, one_of}
 use Rattle.tree.specs.Limits.{tree_limit}
 use Rattle.tree.specs.TestsLaws.{OfKind, of_num, of_monadic, of_dyadic, kind-is}
 use Rattle.tree.specs.GoodWords.{Good}
@@ -35,6 +34,7 @@ use Rattle.reduce.specs.Reduced.{and_case, and_accent, turned, met, one_reduced,
 use Rattle.reduce.specs.ReducedLaws.{least_size, reduced_good, reduced_short}
 use Rattle.reduce.specs.WalkWords.{Recorded, Operated, Placed, Holds, Writes, Meets, fails, done, Folds, Kept, Pair, chain_of, joined, operator_of, twin, way_of, written, operand, done_at}
 use Rattle.reduce.proofs.NodeLaws.{part, kind_of_lem, one_op, one_part, one_good, two_op, two_size, two_good, two_middle, two_first, two_second}
+use Rattle.reduce.proofs.RuleLaws.{op_is}
 use Rattle.reduce.proofs.ChainLaws.{Names, below_recorded, below_length}
 use Rattle.reduce.proofs.RoomLaws.{holds_sets, holds_then}
 use Rattle.reduce.proofs.TwiceLaws.{case_twice, accent_twice, case_of_str, accent_of_str}
@@ -153,10 +153,6 @@ other_way s at {l} {m} {r} k f h w t n e g = go t (kind-is 9 t (sym (kind_of_lem
   where
     go : (t : Tree) → OfKind 9 t → s ≡ encode t → Good t n → Folds at t l m r
     go t (of_monadic o u) e g = w o u (n - 1) e (one_good o u n g) (sym (f o u e) ∙ h)
-
--- the operators of a twin are one
-op_is : (o p : Op) → op_number o ≡ op_number p → o ≡ p
-op_is = number_same
 
 pub data Twins (o : Op) : Tree → Type 0 where
   case_twins : (u : Tree) → o ≡ CaseI → Twins o (monadic CaseI u)

@@ -29,8 +29,14 @@ fn joined(c: Chain, op: Op) -> Chain
 {
     match c {
         Chain::Text { len, flags } => match op {
-            Op::CaseI => Chain::Text { len, flags: flags / 2 * 2 + 1 },
-            _ => Chain::Text { len, flags: 2 + flags % 2 },
+            Op::CaseI => Chain::Text {
+                len,
+                flags: flags / 2 * 2 + 1,
+            },
+            _ => Chain::Text {
+                len,
+                flags: 2 + flags % 2,
+            },
         },
         Chain::Twin | Chain::Other => Chain::Other,
     }
@@ -44,7 +50,10 @@ fn text_below(s: &[u8]) -> Chain
     let kind = record::word_at(s, KIND);
     if kind == STR {
         let flags = record::byte_at(s, BODY);
-        return Chain::Text { len: s.len(), flags };
+        return Chain::Text {
+            len: s.len(),
+            flags,
+        };
     }
     if kind != MONADIC {
         return Chain::Other;
@@ -79,5 +88,9 @@ pub(crate) fn chain(s: &[u8]) -> Chain
     requires { Recorded s.now × (le16 s.now 4 ≡ 9) }
     ensures { (o : Op) (t : Tree) → s.now ≡ encode (monadic o t) → result ≡ way_of o t }
 {
-    if is_twin(s) { Chain::Twin } else { text_below(s) }
+    if is_twin(s) {
+        Chain::Twin
+    } else {
+        text_below(s)
+    }
 }

@@ -79,7 +79,10 @@ fn put_null(room: &mut [u8], at: usize) -> Operand
     ensures { (result ≡ done_at at null) × (room.new ≡ sets room.old at (encode null)) }
 {
     let end = put(b"\x02\x00\x00\x00\x00\x00", room, at);
-    Operand { end, sort: Sort::Null }
+    Operand {
+        end,
+        sort: Sort::Null,
+    }
 }
 
 fn put_bool(b: bool, room: &mut [u8], at: usize) -> Operand
@@ -88,10 +91,16 @@ fn put_bool(b: bool, room: &mut [u8], at: usize) -> Operand
 {
     if b {
         let end = put(b"\x03\x00\x00\x00\x02\x00\x01", room, at);
-        return Operand { end, sort: Sort::Bool(true) };
+        return Operand {
+            end,
+            sort: Sort::Bool(true),
+        };
     }
     let end = put(b"\x03\x00\x00\x00\x02\x00\x00", room, at);
-    Operand { end, sort: Sort::Bool(false) }
+    Operand {
+        end,
+        sort: Sort::Bool(false),
+    }
 }
 
 // Two's complement of a mantissa with its sign changed.
@@ -128,7 +137,10 @@ fn put_num(n: usize, scale: usize, room: &mut [u8], at: usize) -> Operand
         low(scale),
     ];
     let end = put(&record, room, at);
-    Operand { end, sort: Sort::Num }
+    Operand {
+        end,
+        sort: Sort::Num,
+    }
 }
 
 // The Num that stands eight bytes behind `at`, with its sign changed.
@@ -147,7 +159,10 @@ pub(crate) fn put_str(s: &[u8], flags: usize, room: &mut [u8], at: usize) -> Ope
     ensures { (f : ℕ) (x : List ℕ) → s.now ≡ encode (str f x) → flags < 256 → (result ≡ done_at at (str flags x)) × (room.new ≡ sets room.old at (encode (str flags x))) }
 {
     let end = emit::put_three(&s[0..BODY], &[low(flags)], &s[TEXT..], room, at);
-    Operand { end, sort: Sort::Str }
+    Operand {
+        end,
+        sort: Sort::Str,
+    }
 }
 
 // The sort of a Monadic that is kept.
@@ -173,7 +188,10 @@ pub(crate) fn put_turn(c: Turn, op: Op, end: usize, room: &mut [u8], at: usize) 
         // It stays. What CaseI and AccentI make of a Str and of themselves was seen before anything was written (chains.rt).
         _ => {
             put_head(MONADIC, op, end - at - OPERAND, room, at);
-            Operand { end, sort: kept_sort(op) }
+            Operand {
+                end,
+                sort: kept_sort(op),
+            }
         }
     }
 }
@@ -195,7 +213,10 @@ pub(crate) fn put_meet(
         Meet::MeetBool(b) => Ok(put_bool(b, room, at)),
         Meet::Keeps => {
             put_head(DYADIC, op, end - at - OPERAND, room, at);
-            Ok(Operand { end, sort: Sort::Other })
+            Ok(Operand {
+                end,
+                sort: Sort::Other,
+            })
         }
     }
 }

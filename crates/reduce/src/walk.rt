@@ -27,7 +27,10 @@ fn fold_leaf(s: &[u8], kind: usize, room: &mut [u8], at: usize) -> Operand
     ensures { (t : Tree) (n : ℕ) → s.now ≡ encode t → Good t n → kind ≡ le16 s.now 4 → kind < 9 → Folds at t room.old room.new (Ok result) }
 {
     let end = put(s, room, at);
-    Operand { end, sort: leaf_sort(s, kind) }
+    Operand {
+        end,
+        sort: leaf_sort(s, kind),
+    }
 }
 
 // A Monadic whose operand decides.
@@ -101,7 +104,10 @@ fn fold_items(s: &[u8], kind: usize, room: &mut [u8], at: usize) -> Result<Opera
     let from = put(&s[BODY..p], room, at + BODY);
     let end = fold_list(&s[p..], room, from)?;
     put_frame(kind, end - at - BODY, room, at);
-    Ok(Operand { end, sort: Sort::Other })
+    Ok(Operand {
+        end,
+        sort: Sort::Other,
+    })
 }
 
 // Reduces the record s and writes what comes of it at `at`, unless that is refused.
