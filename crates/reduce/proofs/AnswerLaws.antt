@@ -26,7 +26,6 @@ use Rattle.reduce.specs.Reduced.{reduced}
 use Rattle.reduce.specs.Reducing.{fitted, reducing, answer, heard}
 use Rattle.reduce.specs.ReducingLaws.{heard-said}
 use Rattle.reduce.specs.WalkWords.{Recorded, Placed, Holds, Meets, Answers}
-use Rattle.reduce.proofs.NodeLaws.{part}
 use Rattle.reduce.proofs.StepLaws.{Found, failed, found}
 
 -- What the checker accepts is a tree.
@@ -115,15 +114,15 @@ module _ {l m : List ℕ} {x : Read Tree} {d : Operand} (w : Meets 0 x l m (Ok d
       record { says = ap answer y; bytes = ap (leaves out) y }
 
   -- the record, copied
-  pub whole_answers : {r : ℕ} (out exit : List ℕ) → d.end ≤ length out → length l ≤ tree_limit → Puts count_limit 0 (part m 0 d.end) out exit r
+  pub whole_answers : {r : ℕ} (out exit : List ℕ) → d.end ≤ length out → length l ≤ tree_limit → Puts count_limit 0 (take d.end m) out exit r
       → Answers (decided x out) out exit (Ok d.end)
   unfolding answer leaves
   whole_answers out exit h k p =
       let c = came in
       let y = sym (decided-whole c.tree out c.is (omega (arith, c.stops))) in
-      let z : d.end - 0 ≡ 0 + length (encode c.tree) = omega (arith, c.stops) in
-      let a : part m 0 d.end ≡ encode c.tree = ap (λ (i : ℕ). take i m) z ∙ c.holds.front in
-      let q : length (part m 0 d.end) ≡ length (encode c.tree) = ap length a in
+      let z : d.end ≡ 0 + length (encode c.tree) = omega (arith, c.stops) in
+      let a : take d.end m ≡ encode c.tree = ap (λ (i : ℕ). take i m) z ∙ c.holds.front in
+      let q : length (take d.end m) ≡ length (encode c.tree) = ap length a in
       let size : d.end ≡ length (encode c.tree) = omega (arith, c.stops) in
       let v = wrote (record { inside = omega (arith, q, c.stops); counted = omega (arith, q, c.stops, c.holds.fits) }) p in
       record {

@@ -3,7 +3,7 @@
 use Prim.Native.Nat.{ℕ, suc, ◌-◌, ◌≤◌}
 use mathlib.Core.Path.{◌≡◌, refl, ap, sym, ◌∙◌, subst}
 use mathlib.Core.List.{List, [], ◌∷◌}
-use mathlib.Core.Bool.{Bool, true, false, false≢true, ◌&&◌}
+use mathlib.Core.Bool.{Bool, true, false, false≢true}
 use native.Mathlib.Omega.{arith}
 use lib.Dec.{eqb}
 use lib.ListN.{length, get_or}
@@ -197,27 +197,25 @@ module _ (s : List ℕ) (n : ℕ) (o : Op) (t : Tree) (e : s ≡ encode (monadic
       go t (of_monadic q u) e =
           ap (λ (x : ℕ). eqb x n) (h ∙ ap (λ (l : List ℕ). le16 l 14) e ∙ below_op o q u) ∙ ap (λ (x : ℕ). eqb (op_number q) x) number ∙ twin-is o q u (let z = number in omega arith) (let z = number in omega arith)
 
-  -- the three tests of the code
-  pub twin_tests : {op : Op} {b : Bool} {i j : ℕ} → op_number op ≡ n → b ≡ one_of op (CaseI ∷ AccentI ∷ []) → j ≡ le16 s 12 → i ≡ le16 s 14 → (b && (eqb j 9 && eqb i n)) ≡ twin o t
-  unfolding some
-  twin_tests {op} {b} {i} {j} a f g h = go b (eqb j 9) (eqb (op_number op) 16) (eqb (op_number op) 17) refl refl refl f
-    where
-      go : (b m x y : Bool) → eqb j 9 ≡ m → eqb (op_number op) 16 ≡ x → eqb (op_number op) 17 ≡ y → b ≡ pick x true (pick y true false) → (b && (m && eqb i n)) ≡ twin o t
-      go true true x y p q r k = twin-same j i (low x y q r k) (high x y q r k) g (eqb-true j 9 p) h
-        where
-          low : (x y : Bool) → eqb (op_number op) 16 ≡ x → eqb (op_number op) 17 ≡ y → true ≡ pick x true (pick y true false) → 16 ≤ n
-          low true y q r k = let z = eqb-true (op_number op) 16 q in omega (arith, a)
-          low false true q r k = let z = eqb-true (op_number op) 17 r in omega (arith, a)
-          low false false q r k = absurd (false≢true (sym k))
+  -- whether the operator is one of the two
+  module _ (op : Op) {b : Bool} (i : op_number op ≡ n) (f : b ≡ one_of op (CaseI ∷ AccentI ∷ [])) where
+    pub twin_none : b ≡ false → false ≡ twin o t
+    unfolding some
+    twin_none g = go (eqb (op_number op) 16) (eqb (op_number op) 17) refl refl (sym g ∙ f)
+      where
+        go : (x y : Bool) → eqb (op_number op) 16 ≡ x → eqb (op_number op) 17 ≡ y → false ≡ pick x true (pick y true false) → false ≡ twin o t
+        go true y p q h = absurd (false≢true h)
+        go false true p q h = absurd (false≢true h)
+        go false false p q h = twin_not (λ z. eqb-false (op_number op) 16 p (i ∙ z)) (λ z. eqb-false (op_number op) 17 q (i ∙ z))
 
-          high : (x y : Bool) → eqb (op_number op) 16 ≡ x → eqb (op_number op) 17 ≡ y → true ≡ pick x true (pick y true false) → n ≤ 17
-          high true y q r k = let z = eqb-true (op_number op) 16 q in omega (arith, a)
-          high false true q r k = let z = eqb-true (op_number op) 17 r in omega (arith, a)
-          high false false q r k = absurd (false≢true (sym k))
-      go true false x y p q r k = twin_alone j g (eqb-false j 9 p)
-      go false m true y p q r k = absurd (false≢true k)
-      go false m false true p q r k = absurd (false≢true k)
-      go false m false false p q r k = twin_not (λ z. eqb-false (op_number op) 16 q (a ∙ z)) (λ z. eqb-false (op_number op) 17 r (a ∙ z))
+    pub twin_either : b ≡ true → (16 ≤ n) × (n ≤ 17)
+    unfolding some
+    twin_either g = go (eqb (op_number op) 16) (eqb (op_number op) 17) refl refl (sym g ∙ f)
+      where
+        go : (x y : Bool) → eqb (op_number op) 16 ≡ x → eqb (op_number op) 17 ≡ y → true ≡ pick x true (pick y true false) → (16 ≤ n) × (n ≤ 17)
+        go true y p q h = let z = eqb-true (op_number op) 16 p in (omega (arith, i), omega (arith, i))
+        go false true p q h = let z = eqb-true (op_number op) 17 q in (omega (arith, i), omega (arith, i))
+        go false false p q h = absurd (false≢true (sym h))
 
 -- ---- The way of a Monadic.
 

@@ -271,6 +271,10 @@ listed (interval t u) n l g = interval_listed t u n g
 abbrev pub At : List ℕ → ℕ → ℕ → Type 0
 At s kind p = (t : Tree) → s ≡ encode t → kind ≡ le16 s 4 → 11 ≤ kind → p ≡ 6 + length (name_of t)
 
+-- what the call of `fold_list` ensures
+abbrev pub Items : List ℕ → ℕ → ℕ → List ℕ → List ℕ → Result ℕ Refusal → Type 0
+Items s p from m m' r = (ts : Trees) (n : ℕ) → part s p (length s) ≡ encodes ts → AllGood ts n → Lists from (reduceds ts) m m' r
+
 record_body : (k : ℕ) (x : List ℕ) → drop 6 (record_of k x) ≡ x
 unfolding record_of
 record_body k x = refl
@@ -340,23 +344,19 @@ module _ (s : List ℕ) (at kind p : ℕ) (l : List ℕ) (a : At s kind p) (k : 
           small = omega (arith, y.small);
         }
 
-    module _ {from : ℕ} {m m' : List ℕ} (e : from ≡ at + 6 + length (part s 6 p)) (f : m ≡ sets l (at + 6) (part s 6 p)) where
+    module _ {from : ℕ} {m : List ℕ} (e : from ≡ at + 6 + length (part s 6 p)) (f : m ≡ sets l (at + 6) (part s 6 p)) where
       same : length m ≡ length l
       same = ap length f ∙ length-sets l (at + 6) (part s 6 p)
 
-      -- what the call of `fold_list` ensures
-      abbrev pub Items : Result ℕ Refusal → Type 0
-      Items r = (ts : Trees) (n : ℕ) → part s p (length s) ≡ encodes ts → AllGood ts n → Lists from (reduceds ts) m m' r
-
-      pub items_fail : {v : Refusal} {r : Result Operand Refusal} → Items (Err v) → r ≡ Err v → Reduces at s l m' r
-      items_fail {v} {r} w z t n i g = let x = parts t n i g in go t x (w x.of.items (n - 1) x.body x.of.good)
+      pub items_fail : {m' : List ℕ} {v : Refusal} {r : Result Operand Refusal} → Items s p from m m' (Err v) → r ≡ Err v → Reduces at s l m' r
+      items_fail {m'} {v} {r} w z t n i g = let x = parts t n i g in go t x (w x.of.items (n - 1) x.body x.of.good)
         where
           go : (t : Tree) (x : Parts t n) → Lists from (reduceds x.of.items) m m' (Err v) → Folds at t l m' r
           go t x (stops k q c u) = let o : v ≡ k = cc in fails v (x.of.refuses v (q ∙ ap refused (sym o))) z (u ∙ same)
           go t x (lists us q c u) = let o : ◌≡◌ {A = ℕ} 0 1 = cc in absurd (omega arith)
 
-      pub items-frame : {end : ℕ} → Items (Ok end) → (at + 6 ≤ end) × (end ≤ length m') × (length m' ≡ length l) × (length l ≤ tree_limit)
-      items-frame {end} w = go (w known.of.items (y.of.levels - 1) known.body known.of.good)
+      pub items-frame : {m' : List ℕ} {end : ℕ} → Items s p from m m' (Ok end) → (at + 6 ≤ end) × (end ≤ length m') × (length m' ≡ length l) × (length l ≤ tree_limit)
+      items-frame {m'} {end} w = go (w known.of.items (y.of.levels - 1) known.body known.of.good)
         where
           go : Lists from (reduceds known.of.items) m m' (Ok end) → (at + 6 ≤ end) × (end ≤ length m') × (length m' ≡ length l) × (length l ≤ tree_limit)
           go (stops k q c u) = let o : ◌≡◌ {A = ℕ} 0 1 = cc in absurd (omega arith)
@@ -364,8 +364,8 @@ module _ (s : List ℕ) (at kind p : ℕ) (l : List ℕ) (a : At s kind p) (k : 
               let o : end ≡ from + length (encodes us) = cc in
               (omega arith, omega (arith, u.fits, u.kept), u.kept ∙ same, y.small)
 
-      pub items_done : {end : ℕ} {k' : List ℕ} → Items (Ok end) → k' ≡ sets m' at (frame_of kind (end - at - 6)) → Reduces at s l k' (Ok (operand end sort.Other))
-      items_done {end} {k'} w v t n q g = let x = parts t n q g in go t x (high t q) (kind_of_lem s t q) (w x.of.items (n - 1) x.body x.of.good)
+      pub items_done : {m' : List ℕ} {end : ℕ} {k' : List ℕ} → Items s p from m m' (Ok end) → k' ≡ sets m' at (frame_of kind (end - at - 6)) → Reduces at s l k' (Ok (operand end sort.Other))
+      items_done {m'} {end} {k'} w v t n q g = let x = parts t n q g in go t x (high t q) (kind_of_lem s t q) (w x.of.items (n - 1) x.body x.of.good)
         where
           go : (t : Tree) (x : Parts t n) → 11 ≤ kind_of t → le16 s 4 ≡ kind_of t → Lists from (reduceds x.of.items) m m' (Ok end) → Folds at t l k' (Ok (operand end sort.Other))
           go t x hi ki (stops o q c u) = let z : ◌≡◌ {A = ℕ} 0 1 = cc in absurd (omega arith)

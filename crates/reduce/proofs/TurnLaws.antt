@@ -28,6 +28,7 @@ use Rattle.reduce.specs.Rules.{turn}
 use Rattle.reduce.specs.Reduced.{minus, turned}
 use Rattle.reduce.specs.ReducedLaws.{monadic_size}
 use Rattle.reduce.specs.WalkWords.{Holds, Kept, Writes, operand, done_at, head_of, written}
+use Rattle.reduce.proofs.RuleLaws.{op_apart}
 use Rattle.reduce.proofs.WayLaws.{negate_sort, turns}
 use Rattle.reduce.proofs.RoomLaws.{holds_stands, keep_one, fold_over}
 
@@ -139,6 +140,18 @@ kept_arm Negate f g h e = absurd (h refl)
 kept_arm Stay f g h e = absurd (false≢true e)
 kept_arm NoCase f g h e = absurd (false≢true e)
 kept_arm NoAccent f g h e = absurd (false≢true e)
+
+pub kept_case : {o : Op} (v : Tree) → o ≡ CaseI → sort.CaseI ≡ sort_of (monadic o v)
+unfolding sort_of some
+kept_case v e = rw e refl
+
+pub kept_accent : {o : Op} (v : Tree) → o ≡ AccentI → sort.AccentI ≡ sort_of (monadic o v)
+unfolding sort_of some
+kept_accent v e = rw e refl
+
+pub kept_other : {o : Op} (v : Tree) → (o ≡ CaseI → ⊥) → (o ≡ AccentI → ⊥) → sort.Other ≡ sort_of (monadic o v)
+unfolding sort_of some
+kept_other {o} v n m = simp (op_apart o CaseI n, op_apart o AccentI m)
 
 monadic_done : (at end : ℕ) (o : Op) (v : Tree) {q : Sort} → end ≡ at + 8 + length (encode v) → q ≡ sort_of (monadic o v) → operand end q ≡ done_at at (monadic o v)
 unfolding done_at

@@ -78,8 +78,10 @@ fn is_twin(s: &[u8]) -> bool
     requires { Operated s.now }
     ensures { (o : Op) (t : Tree) → s.now ≡ encode (monadic o t) → result ≡ twin o t }
 {
-    folds(op_at(s))
-        && record::word_at(s, OPERAND + KIND) == MONADIC
+    if !folds(op_at(s)) {
+        return false;
+    }
+    record::word_at(s, OPERAND + KIND) == MONADIC
         && record::word_at(s, OPERAND + BODY) == record::word_at(s, BODY)
 }
 

@@ -32,4 +32,4 @@ pub returns-in-6 : goal.returns-in-6
 returns-in-6 c = λ t n e g f h. timestamp-key n e g c.second_key.ensures (leaf-kind t e f 6 c.in-6.is)
 
 pub returns-in_default : goal.returns-in_default
-returns-in_default c = λ t n e g f h. id_sort (leaf-kind t e f 8 (omega (arith, h, c.in_default)))
+returns-in_default c = λ t n e g f h. id_sort (leaf-kind t e f 8 (omega (arith, h)))

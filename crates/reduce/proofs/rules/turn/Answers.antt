@@ -51,9 +51,9 @@ pub returns-in-Str : goal.returns-in-Str
 unfolding turn some
 returns-in-Str c = rw (c.in-CaseI.is, c.in-Str.is) refl
 
-pub returns-in-CaseI : goal.returns-in-CaseI
+pub returns-in-CaseI-a : goal.returns-in-CaseI-a
 unfolding turn some
-returns-in-CaseI c = rw (c.in-CaseI.is, c.in-CaseI.is) refl
+returns-in-CaseI-a c = rw (c.in-CaseI.is, c.in-CaseI-a.is) refl
 
 pub returns-in_default-a-5 : goal.returns-in_default-a-5
 unfolding turn some
@@ -63,9 +63,9 @@ pub returns-in-Str-a : goal.returns-in-Str-a
 unfolding turn some
 returns-in-Str-a c = rw (c.in-AccentI.is, c.in-Str-a.is) refl
 
-pub returns-in-AccentI : goal.returns-in-AccentI
+pub returns-in-AccentI-a : goal.returns-in-AccentI-a
 unfolding turn some
-returns-in-AccentI c = rw (c.in-AccentI.is, c.in-AccentI.is) refl
+returns-in-AccentI-a c = rw (c.in-AccentI.is, c.in-AccentI-a.is) refl
 
 pub returns-in_default-a-6 : goal.returns-in_default-a-6
 unfolding turn some
