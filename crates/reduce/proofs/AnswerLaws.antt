@@ -5,7 +5,7 @@ use mathlib.Core.Path.{◌≡◌, refl, sym, ap, ◌∙◌}
 use mathlib.Core.List.{List}
 use native.Mathlib.Omega.{arith}
 use borrow.Author.Tests.{lt-ltb, le-ltb}
-use lib.ListN.{length, replicate, length-replicate, take}
+use lib.ListN.{length, replicate, length-replicate, length-take, take}
 use lib.Seq.{sets}
 use Rattle.std.specs.Prelude.{Result, Ok, Err}
 use Rattle.refusal.specs.declared.Refusal.{Refusal}
@@ -104,6 +104,9 @@ module _ {l m : List ℕ} {x : Read Tree} {d : Operand} (w : Meets 0 x l m (Ok d
 
   pub end_fits : d.end ≤ length l
   end_fits = let c = came in omega (arith, c.stops, c.holds.fits)
+
+  pub end_whole : length (take d.end m) ≡ d.end
+  end_whole = let c = came in omega (arith, length-take d.end m, c.stops, c.holds.fits, c.holds.kept)
 
   -- 9
   pub short_answers : (out : List ℕ) → length out < d.end → Answers (decided x out) out out (Err BufferTooShort)

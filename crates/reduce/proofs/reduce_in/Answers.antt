@@ -3,7 +3,7 @@ use mathlib.Core.Path.{ap, ◌∙◌}
 use native.Mathlib.Omega.{arith}
 use Rattle.std.specs.Prelude.{Err}
 use Rattle.std.proofs.lemmas.Result.{err_from_is_err_and}
-use Rattle.reduce.proofs.AnswerLaws.{clash_answers, end_fits, short_answers, whole_answers}
+use Rattle.reduce.proofs.AnswerLaws.{clash_answers, end_fits, end_whole, short_answers, whole_answers}
 use Rattle.reduce.proofs.reduce_in.Goals as goal
 
 pub returns-in_err-end : goal.returns-in_err-end
@@ -16,7 +16,7 @@ pub slice_bounds-put-end : goal.slice_bounds-put-end
 slice_bounds-put-end c = let a = c.requires.of in let h = end_fits (c.in_ok-end.ensures a.tree a.levels a.whole a.good) in omega (arith, h, c.fold.auto.room)
 
 pub slice_bounds-put-end-2 : goal.slice_bounds-put-end-2
-slice_bounds-put-end-2 c = let a = c.requires.of in let h = end_fits (c.in_ok-end.ensures a.tree a.levels a.whole a.good) in omega (arith, h, c.fold.auto.room)
+slice_bounds-put-end-2 c = let a = c.requires.of in let h = end_whole (c.in_ok-end.ensures a.tree a.levels a.whole a.good) in omega (arith, h)
 
 pub returns : goal.returns
 returns c = λ t n e g. whole_answers (c.in_ok-end.ensures t n e g) _ _ (omega (arith, c.if-out-end.false)) c.requires.small c.put.ensures
