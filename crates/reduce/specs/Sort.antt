@@ -8,6 +8,22 @@ use Rattle.tree.specs.Tree.{Tree, null, unbounded, bool, num, str, date, timesta
 use Rattle.reduce.specs.declared.Sort.{Sort}
 use Rattle.reduce.specs.declared.Sort.TheVariants as sort
 
+-- Sorts, as another crate can name them.
+abbrev pub null_sort : Sort
+null_sort = sort.Null
+
+abbrev pub instant_sort : Sort
+instant_sort = sort.Instant 0
+
+abbrev pub case_sort : Sort
+case_sort = sort.CaseI
+
+abbrev pub accent_sort : Sort
+accent_sort = sort.AccentI
+
+abbrev pub other_sort : Sort
+other_sort = sort.Other
+
 -- by number, false before true
 abbrev pub sort_number : Sort → ℕ
 sort_number sort.Null = 0

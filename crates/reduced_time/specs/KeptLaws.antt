@@ -36,8 +36,7 @@ use Rattle.time.specs.Ogc.{ten}
 use Rattle.time.specs.InstantLaws.{date-instant}
 use Rattle.time.specs.OperatorLaws.{done, ◌also◌, among}
 use Rattle.time.proofs.ConverseLaws.{predicate_truth}
-use Rattle.reduce.specs.declared.Sort.TheVariants as sort
-use Rattle.reduce.specs.Sort.{same_sort, is_logic, sort_of, key_of, key}
+use Rattle.reduce.specs.Sort.{same_sort, is_logic, sort_of, key_of, key, null_sort, instant_sort, case_sort, accent_sort, other_sort}
 use Rattle.reduce.specs.Rules.{turn, meet, meet_and, meet_or, happens}
 use Rattle.reduce.specs.Reduced.{turned, met, one_reduced, two_reduced, reduced}
 use Rattle.reduce.specs.ReducedLaws.{same_tree}
@@ -70,7 +69,7 @@ logic_is null_filter e = unknown
 logic_is (bool_filter b) e = known b
 logic_is (monadic_filter o t) e = absurd (go (one_of o (CaseI ∷ [])) (one_of o (AccentI ∷ [])) e)
   where
-    go : (a b : Bool) → is_logic (pick a sort.CaseI (pick b sort.AccentI sort.Other)) ≡ true → ⊥
+    go : (a b : Bool) → is_logic (pick a case_sort (pick b accent_sort other_sort)) ≡ true → ⊥
     go true b q = false≢true q
     go false true q = false≢true q
     go false false q = false≢true q
@@ -95,7 +94,7 @@ operand_is t e = go (is_interval t) refl e
 
 -- ---- What is compared stays as it is.
 
-comparable-same : {t : Tree} → ComparableIs t → (reduced t ≡ got t) × (same_sort (sort_of t) sort.Null ≡ false)
+comparable-same : {t : Tree} → ComparableIs t → (reduced t ≡ got t) × (same_sort (sort_of t) null_sort ≡ false)
 unfolding reduced sort_of
 comparable-same (comparable_str f s e) = (refl, refl)
 comparable-same (comparable-date y m d) = (refl, refl)
@@ -115,7 +114,7 @@ unfolding reduced parse.also
 operand_same (end_operand p) = end_same p
 operand_same (interval_operand p q) = let x = end_same p in let y = end_same q in rw (x, y) refl
 
-operand_sort : {t : Tree} → OperandIs t → is_not NULL t ≡ true → same_sort (sort_of t) sort.Null ≡ false
+operand_sort : {t : Tree} → OperandIs t → is_not NULL t ≡ true → same_sort (sort_of t) null_sort ≡ false
 unfolding sort_of
 operand_sort (end_operand null_end) e = absurd (false≢true e)
 operand_sort (end_operand open_end_lem) e = refl
@@ -145,7 +144,7 @@ are_timestamps : (dates : Bool) → negated (eqb TIMESTAMP (unwritten dates)) �
 are_timestamps true e = absurd (false≢true e)
 are_timestamps false e = refl
 
-written_is : (dates : Bool) (n : ℕ) {t : Tree} → OperandIs t → same_sort (sort_of t) (sort.Instant 0) ≡ true → Good t n → lacks (unwritten dates) t ≡ true → Written dates t
+written_is : (dates : Bool) (n : ℕ) {t : Tree} → OperandIs t → same_sort (sort_of t) instant_sort ≡ true → Good t n → lacks (unwritten dates) t ≡ true → Written dates t
 unfolding sort_of Good lacks everywhere
 written_is dates n (end_operand null_end) e g f = absurd (false≢true e)
 written_is dates n (end_operand open_end_lem) e g f = unbound
@@ -236,7 +235,7 @@ module _ (w : Writing) (cs : List Column) where
   neg_turned (bool_filter false) f = record { filter = refl; truth = refl }
   neg_turned (monadic_filter o t) f = go (one_of o (CaseI ∷ [])) (one_of o (AccentI ∷ []))
     where
-      go : (a b : Bool) → Kept w cs (monadic Neg (monadic o t)) (turned (turn Neg (pick a sort.CaseI (pick b sort.AccentI sort.Other))) Neg (monadic o t))
+      go : (a b : Bool) → Kept w cs (monadic Neg (monadic o t)) (turned (turn Neg (pick a case_sort (pick b accent_sort other_sort))) Neg (monadic o t))
       go true b = record { filter = f; truth = refl }
       go false true = record { filter = f; truth = refl }
       go false false = record { filter = f; truth = refl }
