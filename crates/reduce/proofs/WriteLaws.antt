@@ -24,7 +24,7 @@ use Rattle.reduce.specs.declared.Meet.{Meet}
 use Rattle.reduce.specs.declared.Meet.TheVariants.{Keeps, MeetNull, MeetBool, Clash}
 use Rattle.reduce.specs.Sort.{sort_of}
 use Rattle.reduce.specs.Reduced.{met}
-use Rattle.reduce.specs.WalkWords.{Meets, fails, done, Pair, operand, done_at, frame_of, head_of}
+use Rattle.reduce.specs.WalkWords.{Meets, fails, done, Pair, operand, done_at, head_of, num_of}
 use Rattle.reduce.proofs.RoomLaws.{keep_pair, fold_over}
 
 -- a text that has room below the cap is laid whole
@@ -33,19 +33,6 @@ pub put_whole : {at : ℕ} (s l : List ℕ) {m : List ℕ} {r : ℕ} → at + le
 put_whole {at} s l h k p =
     let w = wrote (record { inside = h; counted = let z : at + length s ≤ count_limit = omega arith in z }) p in
     (w.end, w.laid)
-
--- Heads.
-
-pub frame-written : {a b c d e f : ℕ} (at k n : ℕ) (l : List ℕ) {m : List ℕ} → a ≡ (n + 2) % 256 → b ≡ (n + 2) / 256 % 256 → c ≡ (n + 2) / 256 / 256 % 256
-    → d ≡ (n + 2) / 256 / 256 / 256 % 256 → e ≡ k % 256 → f ≡ k / 256 % 256 → m ≡ sets l at (a ∷ b ∷ c ∷ d ∷ e ∷ f ∷ []) → m ≡ sets l at (frame_of k n)
-frame-written at k n l ea eb ec ed ee ef w = w ∙ rw (ea, eb, ec, ed, ee, ef) refl
-
-pub head_written : {a b c d e f g h : ℕ} (at k o n : ℕ) (l : List ℕ) {m : List ℕ} → a ≡ (n + 4) % 256 → b ≡ (n + 4) / 256 % 256 → c ≡ (n + 4) / 256 / 256 % 256
-    → d ≡ (n + 4) / 256 / 256 / 256 % 256 → e ≡ k % 256 → f ≡ k / 256 % 256 → g ≡ o % 256 → h ≡ o / 256 % 256
-    → m ≡ sets l at (a ∷ b ∷ c ∷ d ∷ e ∷ f ∷ g ∷ h ∷ []) → m ≡ sets l at (head_of k o n)
-head_written at k o n l ea eb ec ed ee ef eg eh w =
-    let z : suc (suc n) + 2 ≡ n + 4 = omega arith in
-    w ∙ rw (ea, eb, ec, ed, ee, ef, eg, eh, z) refl
 
 -- Null and Bools.
 
@@ -66,27 +53,16 @@ false_written at l e p = rw e (ap (λ (i : ℕ). operand i (sort.Bool false)) p.
 
 -- A Num.
 
-pub num_written : {r b0 b1 b2 b3 b4 b5 b6 b7 b8 : ℕ} (at n s : ℕ) (l : List ℕ) {m : List ℕ} → b0 ≡ n % 256 → b1 ≡ n / 256 % 256 → b2 ≡ n / 256 / 256 % 256
-    → b3 ≡ n / 256 / 256 / 256 % 256 → b4 ≡ n / 256 / 256 / 256 / 256 % 256 → b5 ≡ n / 256 / 256 / 256 / 256 / 256 % 256
-    → b6 ≡ n / 256 / 256 / 256 / 256 / 256 / 256 % 256 → b7 ≡ n / 256 / 256 / 256 / 256 / 256 / 256 / 256 % 256 → b8 ≡ s % 256
-    → (r ≡ at + 15) × (m ≡ sets l at (11 ∷ 0 ∷ 0 ∷ 0 ∷ 3 ∷ 0 ∷ b0 ∷ b1 ∷ b2 ∷ b3 ∷ b4 ∷ b5 ∷ b6 ∷ b7 ∷ b8 ∷ []))
-    → (k : ℤ) → n ≡ twos k → s < 256 → (operand r sort.Num ≡ done_at at (num k s)) × (m ≡ sets l at (encode (num k s)))
+pub num_written : {r : Operand} (at n s : ℕ) (l : List ℕ) {m : List ℕ} (k : ℤ) → n ≡ twos k → s < 256 → (r ≡ operand (at + 15) sort.Num) × (m ≡ sets l at (num_of n s))
+    → (r ≡ done_at at (num k s)) × (m ≡ sets l at (encode (num k s)))
 unfolding done_at encode record_of sort_of
-num_written at n s l e0 e1 e2 e3 e4 e5 e6 e7 e8 p k e h =
-    let z : s % 256 ≡ s = omega arith in
-    (ap (λ (i : ℕ). operand i sort.Num) p.0, p.1 ∙ rw (e0, e1, e2, e3, e4, e5, e6, e7, e8, z, ← e) refl)
+num_written at n s l k e h p = let z : s % 256 ≡ s = omega arith in (p.0, p.1 ∙ rw (z, ← e) refl)
 
-pub opposite_zero : {n : ℕ} (m : ℤ) → nat_abs m ≤ mantissa_limit → n ≡ 0 → n ≡ twos m → 0 ≡ twos (neg_ℤ m)
+pub opposite_is : {n r : ℕ} (m : ℤ) → nat_abs m ≤ mantissa_limit → n ≡ twos m → (r + n) % 18446744073709551616 ≡ 0 → r < 18446744073709551616 → r ≡ twos (neg_ℤ m)
 unfolding twos
-opposite_zero (pos zero) h z e = refl
-opposite_zero (pos (suc k)) h z e = absurd (let v : ⊥ = omega (arith, z, e) in v)
-opposite_zero (negsuc k) h z e = absurd (let v : ⊥ = omega (arith, z, e, h) in v)
-
-pub opposite_other : {n : ℕ} (m : ℤ) → nat_abs m ≤ mantissa_limit → (n ≡ 0 → ⊥) → n ≡ twos m → 18446744073709551615 - (n - 1) ≡ twos (neg_ℤ m)
-unfolding twos
-opposite_other (pos zero) h z e = absurd (z e)
-opposite_other {n} (pos (suc k)) h z e = omega (arith, e)
-opposite_other {n} (negsuc k) h z e = omega (arith, e, h)
+opposite_is (pos zero) h e f g = omega (arith, e, f, g)
+opposite_is (pos (suc k)) h e f g = omega (arith, e, f, g, h)
+opposite_is (negsuc k) h e f g = omega (arith, e, f, g, h)
 
 -- A Str.
 

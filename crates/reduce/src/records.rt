@@ -6,10 +6,11 @@ ghost use Rattle.tree.specs.Limits.{mantissa_limit, tree_limit};
 ghost use Rattle.tree.specs.Tree.{Tree, encode, null, bool, monadic, num, str, twos};
 ghost use Rattle.tree.specs.GoodWords.{Good};
 ghost use Rattle.reduce.specs.declared.Turn.TheVariants.{Negate};
+ghost use Rattle.reduce.specs.declared.Sort.TheVariants.{Num};
 ghost use Rattle.reduce.specs.Sort.{sort_number, sort_of};
 ghost use Rattle.reduce.specs.Rules.{turn};
 ghost use Rattle.reduce.specs.Reduced.{met, minus, turned};
-ghost use Rattle.reduce.specs.WalkWords.{Holds, Kept, Meets, Pair, Writes, done_at, frame_of, head_of, written};
+ghost use Rattle.reduce.specs.WalkWords.{Holds, Kept, Meets, Pair, Writes, done_at, frame_of, head_of, num_of, operand, written};
 
 use crate::{Meet, Operand, Sort, Turn};
 use op::Op;
@@ -39,39 +40,23 @@ pub(crate) fn put(s: &[u8], room: &mut [u8], at: usize) -> usize
 
 // Length and kind, before a body of n bytes.
 pub(crate) fn put_frame(kind: usize, n: usize, room: &mut [u8], at: usize)
-    requires { (at + 6 ≤ length room.old) × (length room.old ≤ tree_limit) × (n ≤ tree_limit) }
+    requires { (at + 6 ≤ length room.old) × (length room.old ≤ tree_limit) × (n ≤ tree_limit) × (kind < 65536) }
     ensures { room.new ≡ sets room.old at (frame_of kind n) }
 {
-    let len = n + 2;
-    let frame = [
-        low(len),
-        low(len / 256),
-        low(len / 256 / 256),
-        low(len / 256 / 256 / 256),
-        low(kind),
-        low(kind / 256),
-    ];
-    put(&frame, room, at);
+    let [a, b, c, d] = ((n + 2) as u32).to_le_bytes();
+    let [e, f] = (kind as u16).to_le_bytes();
+    put(&[a, b, c, d, e, f], room, at);
 }
 
 // Length, kind and operator, before operands of n bytes.
 fn put_head(kind: usize, op: Op, n: usize, room: &mut [u8], at: usize)
-    requires { (at + 8 ≤ length room.old) × (length room.old ≤ tree_limit) × (n ≤ tree_limit) }
+    requires { (at + 8 ≤ length room.old) × (length room.old ≤ tree_limit) × (n ≤ tree_limit) × (kind < 65536) }
     ensures { room.new ≡ sets room.old at (head_of kind (op_number op) n) }
 {
-    let len = n + 4;
-    let op = op::op_number(op);
-    let head = [
-        low(len),
-        low(len / 256),
-        low(len / 256 / 256),
-        low(len / 256 / 256 / 256),
-        low(kind),
-        low(kind / 256),
-        low(op),
-        low(op / 256),
-    ];
-    put(&head, room, at);
+    let [a, b, c, d] = ((n + 4) as u32).to_le_bytes();
+    let [e, f] = (kind as u16).to_le_bytes();
+    let [g, h] = (op as u16).to_le_bytes();
+    put(&[a, b, c, d, e, f, g, h], room, at);
 }
 
 fn put_null(room: &mut [u8], at: usize) -> Operand
@@ -103,39 +88,13 @@ fn put_bool(b: bool, room: &mut [u8], at: usize) -> Operand
     }
 }
 
-// Two's complement of a mantissa with its sign changed.
-fn opposite(n: usize) -> usize
-    ensures { (m : ℤ) → nat_abs m ≤ mantissa_limit → n ≡ twos m → result ≡ twos (neg_ℤ m) }
-{
-    if n == 0 {
-        return 0;
-    }
-    18446744073709551615 - (n - 1)
-}
-
 // A Num of these eight bytes and this scale.
 fn put_num(n: usize, scale: usize, room: &mut [u8], at: usize) -> Operand
     requires { (at + 15 ≤ length room.old) × (length room.old ≤ tree_limit) }
-    ensures { (m : ℤ) → n ≡ twos m → scale < 256 → (result ≡ done_at at (num m scale)) × (room.new ≡ sets room.old at (encode (num m scale))) }
+    ensures { (result ≡ operand (at + 15) Num) × (room.new ≡ sets room.old at (num_of n scale)) }
 {
-    let mid = n / 256 / 256 / 256 / 256;
-    let record = [
-        11u8,
-        0,
-        0,
-        0,
-        3,
-        0,
-        low(n),
-        low(n / 256),
-        low(n / 256 / 256),
-        low(n / 256 / 256 / 256),
-        low(mid),
-        low(mid / 256),
-        low(mid / 256 / 256),
-        low(mid / 256 / 256 / 256),
-        low(scale),
-    ];
+    let [a, b, c, d, e, f, g, h] = n.to_le_bytes();
+    let record = [11, 0, 0, 0, 3, 0, a, b, c, d, e, f, g, h, low(scale)];
     let end = put(&record, room, at);
     Operand {
         end,
@@ -148,7 +107,7 @@ fn negate(room: &mut [u8], at: usize) -> Operand
     requires { (at + 23 ≤ length room.old) × (length room.old ≤ tree_limit) }
     ensures { (v : Tree) (k : ℕ) (l : List ℕ) → Holds (at + 8) (encode v) l room.old → Good v k → sort_number (sort_of v) ≡ 4 → Writes at (minus v) l room.new result }
 {
-    let n = opposite(record::qword_at(room, at + 14));
+    let n = record::qword_at(room, at + 14).wrapping_neg();
     let scale = record::byte_at(room, at + 22);
     put_num(n, scale, room, at)
 }

@@ -97,7 +97,7 @@ fn fold_list(s: &[u8], room: &mut [u8], at: usize) -> Result<usize, Refusal>
 // A Function, Array or Interval: its items, and then its length and kind.
 #[cycle(folds)]
 fn fold_items(s: &[u8], kind: usize, room: &mut [u8], at: usize) -> Result<Operand, Refusal>
-    requires { Placed s.now at room.old × (kind ≡ le16 s.now 4) × (FUNCTION ≤ kind) }
+    requires { Placed s.now at room.old × (kind ≡ le16 s.now 4) × (FUNCTION ≤ kind) × (kind < 65536) }
     ensures { (t : Tree) (n : ℕ) → s.now ≡ encode t → Good t n → Folds at t room.old room.new result }
 {
     let p = items_at(s, kind);

@@ -30,7 +30,7 @@ pub fold-returns-in-10 : goal.fold-returns-in-10
 fold-returns-in-10 t c = c.fold_dyadic.ensures
 
 pub fold-fold_items-requires : goal.fold-fold_items-requires
-fold-fold_items-requires t c = (let m = c.decreases in omega arith, (c.requires, c.word_at-kind.ensures.0, omega (arith, c.if-kind-lt-MONADIC.false)))
+fold-fold_items-requires t c = (let m = c.decreases in omega arith, (c.requires, c.word_at-kind.ensures.0, omega (arith, c.if-kind-lt-MONADIC.false), c.word_at-kind.ensures.1))
 
 pub fold-returns-in_default : goal.fold-returns-in_default
 fold-returns-in_default t c = c.fold_items.ensures
@@ -102,7 +102,7 @@ pub fold_items-overflow_sub-end-2 : goal.fold_items-overflow_sub-end-2
 fold_items-overflow_sub-end-2 t c = let q = item.items-frame c.args.s.now c.args.at c.args.kind _ c.args.room.now c.items_at-p.ensures c.requires.1 c.requires.2 c.requires.0 c.put-from.ensures.0 c.put-from.ensures.1 c.in_ok-end.ensures in omega (arith, q.0)
 
 pub fold_items-put_frame-requires : goal.fold_items-put_frame-requires
-fold_items-put_frame-requires t c = let q = item.items-frame c.args.s.now c.args.at c.args.kind _ c.args.room.now c.items_at-p.ensures c.requires.1 c.requires.2 c.requires.0 c.put-from.ensures.0 c.put-from.ensures.1 c.in_ok-end.ensures in (omega (arith, q.0, q.1), omega (arith, q.2, q.3), omega (arith, q.1, q.2, q.3))
+fold_items-put_frame-requires t c = let q = item.items-frame c.args.s.now c.args.at c.args.kind _ c.args.room.now c.items_at-p.ensures c.requires.1 c.requires.2 c.requires.0 c.put-from.ensures.0 c.put-from.ensures.1 c.in_ok-end.ensures in (omega (arith, q.0, q.1), omega (arith, q.2, q.3), omega (arith, q.1, q.2, q.3), c.requires.3)
 
 pub fold_items-returns-in_err-end : goal.fold_items-returns-in_err-end
 fold_items-returns-in_err-end t c = let p = err_from_is_err_and c.from_residual.result c.from_residual.ensures.1 in item.items_fail c.args.s.now c.args.at c.args.kind _ c.args.room.now c.items_at-p.ensures c.requires.1 c.requires.2 c.requires.0 c.put-from.ensures.0 c.put-from.ensures.1 c.in_err-end.ensures (p.1 ∙ ap Err p.2)
