@@ -150,7 +150,7 @@ pub fold_monadic-overflow_sub-s : goal.fold_monadic-overflow_sub-s
 fold_monadic-overflow_sub-s t c = let q = step.text_room c.args.s.now c.args.at _ _ c.args.room.now c.requires.0 c.requires.1 c.chain.ensures c.in-Text.is in omega (arith, q.0)
 
 pub fold_monadic-put_str-requires : goal.fold_monadic-put_str-requires
-fold_monadic-put_str-requires t c = let q = step.text_room c.args.s.now c.args.at _ _ c.args.room.now c.requires.0 c.requires.1 c.chain.ensures c.in-Text.is in (q.1, q.2, c.requires.0.small)
+fold_monadic-put_str-requires t c = let q = step.text_room c.args.s.now c.args.at _ _ c.args.room.now c.requires.0 c.requires.1 c.chain.ensures c.in-Text.is in (q.1, q.2, c.requires.0.small, q.3)
 
 pub fold_monadic-slice_bounds-fold-count : goal.fold_monadic-slice_bounds-fold-count
 fold_monadic-slice_bounds-fold-count t c = let h = below_length c.args.s.now c.requires.0.of c.requires.1 in omega arith
