@@ -1,9 +1,9 @@
-use Rattle.std.proofs.Common.{rules, ◌≡◌, ◌++◌, ◌+◌, ◌≤◌, ℕ, Bool, length, ◌-◌, ◌*◌, ◌<◌, ◌/◌, ◌%◌, true, false, nat_eq, nat_lt, List, [], ◌∷◌, slice_index_or, slice_set, bit_and, bit_or, Fits, w8, w32, w64, Bor, MutBor}
-use Rattle.operand.specs.Ends.{columns}
-use Rattle.sql.specs.Template.{held, spelt, part_of, place, template_of, guarded_text, guarded_both_text, check_id_text, check_ids_text, both_text, neither_text, either_text}
-use Rattle.sql.specs.Translators.{t_after, t_before, t_contains, t_disjoint, t_during, t_equals, t_finished_by, t_finishes, t_intersects, t_meets, t_met_by, t_overlapped_by, t_overlaps, t_started_by, t_starts, translate}
+-- The parts that were laid one after the other, spelt.
+use Rattle.std.proofs.Common.{◌∙◌}
+use Rattle.sql.proofs.Laws.{either_spelt}
 use Rattle.sql.proofs.either.Goals as goal
 
--- src/lib.rt:146:1
 pub returns : goal.returns
-returns c = ?
+returns c =
+    rw (c.push-2.ensures.items, c.append-2.ensures, c.as_slice-2.ensures.value, c.push.ensures.items, c.append.ensures, c.as_slice.ensures.value, c.sql-both.ensures)
+    (either_spelt c.args.t.items c.args.u.items)

@@ -1,21 +1,35 @@
-use Rattle.std.proofs.Common.{rules, ◌≡◌, ◌++◌, ◌+◌, ◌≤◌, ℕ, Bool, length, ◌-◌, ◌*◌, ◌<◌, ◌/◌, ◌%◌, true, false, nat_eq, nat_lt, List, [], ◌∷◌, slice_index_or, slice_set, bit_and, bit_or, Fits, w8, w32, w64, Bor, MutBor}
-use Rattle.operand.specs.Ends.{columns}
-use Rattle.sql.specs.Template.{held, spelt, part_of, place, template_of, guarded_text, guarded_both_text, check_id_text, check_ids_text, both_text, neither_text, either_text}
-use Rattle.sql.specs.Translators.{t_after, t_before, t_contains, t_disjoint, t_during, t_equals, t_finished_by, t_finishes, t_intersects, t_meets, t_met_by, t_overlapped_by, t_overlaps, t_started_by, t_starts, translate}
+-- Each side is what its guard spells, and the two are joined.
+use Rattle.std.proofs.Common.{◌∙◌, ap}
+use Rattle.sql.specs.Condition.{Cond, test, gt, lt, print, check_id, check_ids}
+use Rattle.sql.specs.Template.{spelt, part_of}
+use Rattle.sql.specs.Translators.{t_disjoint}
+use Rattle.sql.proofs.Laws.{one_guard, two_guards, either_of, either_or}
 use Rattle.sql.proofs.t_disjoint_sql.Goals as goal
 
--- src/lib.rt:182:1
 pub returns-in-true-true : goal.returns-in-true-true
-returns-in-true-true c = ?
+unfolding t_disjoint spelt part_of print
+returns-in-true-true c =
+    rw (c.in-true-true.is-0, c.in-true-true.is-1)
+    (c.either.ensures
+    ∙ either_of (c.check_ids-before.ensures.0 ∙ two_guards _ 0 3 (test 1 lt 2)) (c.check_ids.ensures.0 ∙ two_guards _ 1 2 (test 0 gt 3))
+    ∙ either_or (check_ids _ 0 3 (test 1 lt 2)) (check_ids _ 1 2 (test 0 gt 3)))
 
--- src/lib.rt:182:1
 pub returns-in-true-false : goal.returns-in-true-false
-returns-in-true-false c = ?
+unfolding t_disjoint spelt part_of print
+returns-in-true-false c =
+    rw (c.in-true-false.is-0, c.in-true-false.is-1)
+    (c.either-in-true-false.ensures
+    ∙ either_of (c.check_id-before.ensures.0 ∙ one_guard _ 0 (test 1 lt 2)) (c.check_id.ensures.0 ∙ one_guard _ 1 (test 0 gt 2))
+    ∙ either_or (check_id _ 0 (test 1 lt 2)) (check_id _ 1 (test 0 gt 2)))
 
--- src/lib.rt:182:1
 pub returns-in-false-true : goal.returns-in-false-true
-returns-in-false-true c = ?
+unfolding t_disjoint spelt part_of print
+returns-in-false-true c =
+    rw (c.in-false-true.is-0, c.in-false-true.is-1)
+    (c.either-in-false-true.ensures
+    ∙ either_of (c.check_id-before-in-false-true.ensures.0 ∙ one_guard _ 3 (test 0 lt 2)) (c.check_id-in-false-true.ensures.0 ∙ one_guard _ 2 (test 0 gt 3))
+    ∙ either_or (check_id _ 3 (test 0 lt 2)) (check_id _ 2 (test 0 gt 3)))
 
--- src/lib.rt:182:1
 pub returns-in-false-false : goal.returns-in-false-false
-returns-in-false-false c = ?
+unfolding t_disjoint spelt part_of print
+returns-in-false-false c = rw (c.in-false-false.is-0, c.in-false-false.is-1) (ap spelt c.sql.ensures)
