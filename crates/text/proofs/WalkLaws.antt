@@ -294,12 +294,12 @@ name_piece writing g {s} {es} {xs} a c p z e = go (ltb (place c) 4) refl e
     go false q y = never (cc)
 
 -- one part more of a template
-fill_next : (f : ℕ → List ℕ) (ps : List Part) (k : ℕ) (d : Part) → k < length ps → fill f (spelt (take (k + 1) ps)) ≡ fill f (spelt (take k ps)) ++ fill f (part_of (slice_index_or ps k d))
+fill_next : (f : ℕ → List ℕ) (ps : List Part) (k : ℕ) (d : Part) → k < length ps → fill f (spelt (take (k + 1) ps)) ≡ fill f (spelt (take k ps)) ++ fill f (part_of (get_or ps k d))
 unfolding spelt
 fill_next f ps k d l =
     ap (λ (x : List Part). fill f (spelt x)) (ap (λ (j : ℕ). take j ps) (add-one k) ∙ take-suc ps k d l)
-    ∙ ap (fill f) (spelt-append (take k ps) (slice_index_or ps k d ∷ []) ∙ ap (λ (x : List ℕ). spelt (take k ps) ++ x) (append-nil (part_of (slice_index_or ps k d))))
-    ∙ fill-append f (spelt (take k ps)) (part_of (slice_index_or ps k d))
+    ∙ ap (fill f) (spelt-append (take k ps) (get_or ps k d ∷ []) ∙ ap (λ (x : List ℕ). spelt (take k ps) ++ x) (append-nil (part_of (get_or ps k d))))
+    ∙ fill-append f (spelt (take k ps)) (part_of (get_or ps k d))
 
 -- Nodes with operands.
 
@@ -480,18 +480,18 @@ fourteen s (function y ts) k e q a b = absurd (let w = kind-whole s (function y 
 fourteen s (array ts) k e q a b = absurd (let w = kind-whole s (array ts) e in let v : ⊥ = omega arith in v)
 fourteen s (interval x y) k e q a b = absurd (let w = kind-whole s (interval x y) e in let v : ⊥ = omega arith in v)
 
-module _ (writing : Writing) (g : Settings) {s : List ℕ} {es : List end.End} {xs : List Tree} (a : Are s es xs) (ps : List Part) (k : ℕ) (c : Part) (l : k < length ps) {at here r : ℕ} {l₀ out m : List ℕ} (laid : Lays count_limit at (fill (slot writing g xs) (spelt (take k ps))) l₀ out here) where
-  next : (b : List ℕ) → slice_index_or ps k c ≡ c → fill (slot writing g xs) (part_of c) ≡ b → fill (slot writing g xs) (spelt (take k ps)) ++ b ≡ fill (slot writing g xs) (spelt (take (k + 1) ps))
-  next b i e = sym (fill_next (slot writing g xs) ps k c l ∙ ap (λ (y : List ℕ). fill (slot writing g xs) (spelt (take k ps)) ++ y) (ap (λ (q : Part). fill (slot writing g xs) (part_of q)) i ∙ e))
+next : (f : ℕ → List ℕ) (ps : List Part) (k : ℕ) (d : Part) → k < length ps → (b : List ℕ) → fill f (part_of (get_or ps k d)) ≡ b → fill f (spelt (take k ps)) ++ b ≡ fill f (spelt (take (k + 1) ps))
+next f ps k d l b e = sym (fill_next f ps k d l ∙ ap (λ (y : List ℕ). fill f (spelt (take k ps)) ++ y) e)
 
-  pub plain_step : slice_index_or ps k c ≡ c → (f : flat.Flat) → piece_of c es ≡ pieces.Plain f → Lays count_limit here (flat_text writing f) out m r → Lays count_limit at (fill (slot writing g xs) (spelt (take (k + 1) ps))) l₀ m r
-  plain_step i f e x = lays_of (next (flat_text writing f) i (plain_piece writing g a c f e)) (lays_then laid x)
+module _ (writing : Writing) (g : Settings) {s : List ℕ} {es : List end.End} {xs : List Tree} (a : Are s es xs) (ps : List Part) (k : ℕ) (d : Part) (l : k < length ps) {at here r : ℕ} {l₀ out m : List ℕ} (laid : Lays count_limit at (fill (slot writing g xs) (spelt (take k ps))) l₀ out here) where
+  pub plain_step : (f : flat.Flat) → piece_of (get_or ps k d) es ≡ pieces.Plain f → Lays count_limit here (flat_text writing f) out m r → Lays count_limit at (fill (slot writing g xs) (spelt (take (k + 1) ps))) l₀ m r
+  plain_step f e x = lays_of (next (slot writing g xs) ps k d l (flat_text writing f) (plain_piece writing g a (get_or ps k d) f e)) (lays_then laid x)
 
-  pub node-step : slice_index_or ps k c ≡ c → (p z : ℕ) (e : piece_of c es ≡ pieces.Node p z) → Lays count_limit here (text writing g (node_piece writing g a c p z e).x) out m r → Lays count_limit at (fill (slot writing g xs) (spelt (take (k + 1) ps))) l₀ m r
-  node-step i p z e x = lays_of (next (text writing g (node_piece writing g a c p z e).x) i (node_piece writing g a c p z e).filled) (lays_then laid x)
+  pub node-step : (p z : ℕ) (e : piece_of (get_or ps k d) es ≡ pieces.Node p z) → Lays count_limit here (text writing g (node_piece writing g a (get_or ps k d) p z e).x) out m r → Lays count_limit at (fill (slot writing g xs) (spelt (take (k + 1) ps))) l₀ m r
+  node-step p z e x = lays_of (next (slot writing g xs) ps k d l (text writing g (node_piece writing g a (get_or ps k d) p z e).x) (node_piece writing g a (get_or ps k d) p z e).filled) (lays_then laid x)
 
-  pub name-step : slice_index_or ps k c ≡ c → (p z : ℕ) (e : piece_of c es ≡ pieces.Name p z) → Lays count_limit here (drop 6 (part s p z)) out m r → Lays count_limit at (fill (slot writing g xs) (spelt (take (k + 1) ps))) l₀ m r
-  name-step i p z e x = lays_of (next (drop 6 (part s p z)) i (name_piece writing g a c p z e).filled) (lays_then laid x)
+  pub name-step : (p z : ℕ) (e : piece_of (get_or ps k d) es ≡ pieces.Name p z) → Lays count_limit here (drop 6 (part s p z)) out m r → Lays count_limit at (fill (slot writing g xs) (spelt (take (k + 1) ps))) l₀ m r
+  name-step p z e x = lays_of (next (slot writing g xs) ps k d l (drop 6 (part s p z)) (name_piece writing g a (get_or ps k d) p z e).filled) (lays_then laid x)
 
 -- the items are shorter than their node
 rest-length : (s : List ℕ) (to : ℕ) → to ≤ length s → length (take (length s - to) (drop to s)) ≡ length s - to
