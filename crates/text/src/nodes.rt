@@ -26,7 +26,7 @@ use crate::records::{
 use class::reduce_precision;
 use emit::COUNT_LIMIT;
 use literal::Writing;
-use part::{ENDS, Piece, piece_of, put_flat};
+use part::{Piece, piece_of, put_flat};
 use record::{BODY, KIND};
 use tree::{ARRAY, DATE, FUNCTION, ID, MONADIC};
 
@@ -219,18 +219,11 @@ fn write_operands(s: &[u8], set: &[u8], writing: Writing, out: &mut [u8], at: us
         return write_others(s, kind, op, m, set, writing, out, at);
     }
     let e = temporal_ends(s, m);
-    let t = template_of(s, op, m, e);
-    let codes = t.codes;
-    let n = t.len;
+    let t = template_of(s, op, m, &e);
+    let parts = t.as_slice();
     let mut here = emit::ended(at, 0);
-    let mut k = 0;
-    while k < n {
-        let code = codes[k];
-        k += 1;
-        let j = (code % ENDS) as usize;
-        let end = e[j];
-        let piece = piece_of(code, end);
-        match piece {
+    for &part in parts {
+        match piece_of(part, &e) {
             Piece::Plain(flat) => {
                 here = put_flat(flat, writing, out, here);
             }
