@@ -6,8 +6,8 @@ ghost use Rattle.tree.specs.Written.{leaves};
 ghost use Rattle.text.specs.Lowered.{answer, lowering_within};
 ghost use Rattle.calls.specs.Callers.{limits_of};
 
-use gpkg::Lowered;
 use literal::Writing;
+use refusal::Refusal;
 use std::env::FillError;
 use std::io;
 use std::rt::Env;
@@ -26,7 +26,7 @@ pub struct Call {
 }
 
 impl Call {
-    pub fn lower(self, settings: &[u8], tree: &[u8], out: &mut [u8]) -> Lowered
+    pub fn lower(self, settings: &[u8], tree: &[u8], out: &mut [u8]) -> Result<usize, Refusal>
         ensures says { result ≡ answer (lowering_within (limits_of self.caller) self.writing settings.now tree.now (length out.old)) }
         ensures bytes { out.new ≡ leaves out.old (lowering_within (limits_of self.caller) self.writing settings.now tree.now (length out.old)) }
     {
@@ -41,7 +41,7 @@ impl Call {
     }
 
     // What `lower` answers with a buffer of this size; nothing is written.
-    pub fn preview(self, settings: &[u8], tree: &[u8], size: usize) -> Lowered
+    pub fn preview(self, settings: &[u8], tree: &[u8], size: usize) -> Result<usize, Refusal>
         ensures { result ≡ answer (lowering_within (limits_of self.caller) self.writing settings.now tree.now size) }
     {
         match self.caller {
@@ -87,12 +87,12 @@ pub fn from_args(rt: &impl Env) -> Option<Call> {
 }
 
 // Prints what was lowered into the buffer: the text or `refused N`, on a line.
-pub fn print_line(rt: &impl Print, lowered: Lowered, out: &[u8]) -> io::Result<()> {
+pub fn print_line(rt: &impl Print, lowered: Result<usize, Refusal>, out: &[u8]) -> io::Result<()> {
     match lowered {
-        Lowered::Text(n) => {
+        Ok(n) => {
             rt.write_all(input::first(out, n))?;
             rt.write_all(b"\n")
         }
-        Lowered::Refused(r) => println!(rt; "refused {r}"),
+        Err(r) => println!(rt; "refused {r}"),
     }
 }

@@ -1,97 +1,112 @@
-// The class tests of src/op.rs, and which side of a spatial operator is reduced. Operators of one class stand together in the enum, so a class is a
-// range or two of numbers.
-#![tactic(auto)]
+// The class tests of src/op.rs, and which side of a spatial operator is reduced.
+#![tactic(auto, using(op::specs::OpLaws::one_of_lem, op::specs::OpLaws::none_of_lem), unfolding(op::specs::Op::is_arithmetic, op::specs::Op::is_array, op::specs::Op::is_comparison, op::specs::Op::is_xtd_comparison, op::specs::Op::is_spatial, op::specs::Op::is_temporal, op::specs::Op::is_instant_or_interval, op::specs::Op::is_nullable))]
 
 ghost use Rattle.std.specs.Prelude.{◌≡◌};
-ghost use Rattle.prelude.specs.Choice.{between, both, negated};
+ghost use Rattle.prelude.specs.Choice.{both, negated};
 ghost use Rattle.op.specs.Op.{is_arithmetic, is_array, is_comparison, is_xtd_comparison, is_spatial, is_temporal, is_instant_or_interval, is_nullable};
 ghost use Rattle.class.specs.ClassWords.{reduced_number};
 
-use op::{
-    A_EQUALS, A_OVERLAPS, EQ, EXP, GTE, IS_LIKE, IS_NOT_IN_LIST, IS_NOT_NULL, IS_NULL, Op, PLUS,
-    S_CONTAINS, S_INTERSECTS, S_OVERLAPS, S_TOUCHES, T_AFTER, T_BEFORE, T_DISJOINT, T_EQUALS,
-    T_INTERSECTS, T_STARTS,
-};
-
-fn within(lo: usize, n: usize, hi: usize) -> bool
-    ensures { result ≡ between lo n hi }
-{
-    if lo <= n { n <= hi } else { false }
-}
+use op::{Op, S_OVERLAPS, S_TOUCHES};
 
 pub fn arithmetic(op: Op) -> bool
     ensures { result ≡ is_arithmetic op }
 {
-    within(PLUS, op::op_number(op), EXP)
+    matches!(
+        op,
+        Op::Plus | Op::Minus | Op::Mult | Op::Div | Op::Mod | Op::IntDiv | Op::Exp
+    )
 }
 
 pub fn array(op: Op) -> bool
     ensures { result ≡ is_array op }
 {
-    within(A_EQUALS, op::op_number(op), A_OVERLAPS)
+    matches!(
+        op,
+        Op::AContainedBy | Op::AContains | Op::AEquals | Op::AOverlaps
+    )
 }
 
 pub fn comparison(op: Op) -> bool
     ensures { result ≡ is_comparison op }
 {
-    let n = op::op_number(op);
-    if within(EQ, n, GTE) {
-        return true;
-    }
-    within(IS_NULL, n, IS_NOT_NULL)
+    matches!(
+        op,
+        Op::Eq | Op::Neq | Op::Lt | Op::Lte | Op::Gt | Op::Gte | Op::IsNull | Op::IsNotNull
+    )
 }
 
 pub fn xtd_comparison(op: Op) -> bool
     ensures { result ≡ is_xtd_comparison op }
 {
-    within(IS_LIKE, op::op_number(op), IS_NOT_IN_LIST)
+    matches!(
+        op,
+        Op::IsLike
+            | Op::IsNotLike
+            | Op::IsBetween
+            | Op::IsNotBetween
+            | Op::IsInList
+            | Op::IsNotInList
+    )
 }
 
 pub fn spatial(op: Op) -> bool
     ensures { result ≡ is_spatial op }
 {
-    within(S_INTERSECTS, op::op_number(op), S_CONTAINS)
+    matches!(
+        op,
+        Op::SIntersects
+            | Op::SContains
+            | Op::SCrosses
+            | Op::SDisjoint
+            | Op::SEquals
+            | Op::SOverlaps
+            | Op::STouches
+            | Op::SWithin
+    )
 }
 
 pub fn temporal(op: Op) -> bool
     ensures { result ≡ is_temporal op }
 {
-    within(T_AFTER, op::op_number(op), T_STARTS)
+    matches!(
+        op,
+        Op::TAfter
+            | Op::TBefore
+            | Op::TContains
+            | Op::TDisjoint
+            | Op::TDuring
+            | Op::TEquals
+            | Op::TFinishedBy
+            | Op::TFinishes
+            | Op::TIntersects
+            | Op::TMeets
+            | Op::TMetBy
+            | Op::TOverlappedBy
+            | Op::TOverlaps
+            | Op::TStartedBy
+            | Op::TStarts
+    )
 }
 
 pub fn instant_or_interval(op: Op) -> bool
     ensures { result ≡ is_instant_or_interval op }
 {
-    let n = op::op_number(op);
-    if within(T_AFTER, n, T_BEFORE) {
-        return true;
-    }
-    if n == T_DISJOINT {
-        return true;
-    }
-    if n == T_EQUALS {
-        return true;
-    }
-    n == T_INTERSECTS
+    matches!(
+        op,
+        Op::TAfter | Op::TBefore | Op::TDisjoint | Op::TEquals | Op::TIntersects
+    )
 }
 
 pub fn nullable(op: Op) -> bool
     ensures { result ≡ is_nullable op }
 {
-    within(IS_NULL, op::op_number(op), IS_NOT_NULL)
+    matches!(op, Op::IsNull | Op::IsNotNull)
 }
 
 // `reduce_precision`: exactly one side a column, and only STouches, SWithin, SOverlaps.
+#[tactic(auto, using(crate::proofs::Tests::tests))]
 pub fn reduce_precision(op: usize, column: bool, other: bool) -> bool
     ensures { result ≡ both (reduced_number op) (both column (negated other)) }
 {
-    if within(S_TOUCHES, op, S_OVERLAPS) {
-        if column {
-            if other {
-                return false;
-            }
-            return true;
-        }
-    }
-    false
+    matches!(op, S_TOUCHES..=S_OVERLAPS) && column && !other
 }

@@ -4,7 +4,6 @@
 // comes before all others; `incomplete` if the input ends inside a case.
 #![tactic(auto)]
 
-use gpkg::Lowered;
 use std::io;
 
 fn main(rt: HostRuntime) -> io::Result<()> {
@@ -14,10 +13,8 @@ fn main(rt: HostRuntime) -> io::Result<()> {
     let mut room = input::large_buffer();
     let mut out = input::large_buffer();
     input::answer_all(&rt, |settings, tree| {
-        let lowered = match reduce::reduce(tree, &mut room) {
-            Ok(n) => call.lower(settings, input::first(&room, n), &mut out),
-            Err(r) => Lowered::Refused(r),
-        };
+        let lowered = reduce::reduce(tree, &mut room)
+            .and_then(|n| call.lower(settings, input::first(&room, n), &mut out));
         calls::print_line(&rt, lowered, &out)
     })
 }

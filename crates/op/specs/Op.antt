@@ -1,10 +1,8 @@
 -- The operators of src/op.rs, their numbers in the order of its enum, and its eight class tests: document 01, "Op".
-use Rattle.std.specs.Prelude.{ℕ, zero, suc, List, [], ◌∷◌, Bool, eqb}
+use Rattle.std.specs.Prelude.{ℕ, zero, suc, List, [], ◌∷◌, Bool, eqb, Option, None, Some}
 use Rattle.prelude.specs.Choice.{some}
 use Rattle.op.specs.declared.Op.{Op}
 use Rattle.op.specs.declared.Op.TheVariants.{Plus, Minus, Mult, Div, IntDiv, Mod, Exp, Neg, Eq, Neq, Lt, Gt, Lte, Gte, And, Or, CaseI, AccentI, SIntersects, SEquals, SDisjoint, STouches, SWithin, SOverlaps, SCrosses, SContains, TAfter, TBefore, TContains, TDisjoint, TDuring, TEquals, TFinishedBy, TFinishes, TIntersects, TMeets, TMetBy, TOverlappedBy, TOverlaps, TStartedBy, TStarts, AEquals, AContains, AContainedBy, AOverlaps, IsLike, IsNotLike, IsBetween, IsNotBetween, IsInList, IsNotInList, IsNull, IsNotNull}
-use Rattle.op.specs.declared.Named.{Named}
-use Rattle.op.specs.declared.Named.TheVariants.{Is, NoOp}
 
 -- 0 (Plus) to 52 (IsNotNull)
 abbrev pub op_number : Op → ℕ
@@ -121,13 +119,13 @@ operators =
     ∷ []
 
 -- what stands at a place of a list of operators; past its end no operator
-unfoldable pub op_at : List Op → ℕ → Named
-op_at [] n = NoOp
-op_at (o ∷ os) zero = Is o
+unfoldable pub op_at : List Op → ℕ → Option Op
+op_at [] n = None
+op_at (o ∷ os) zero = Some o
 op_at (o ∷ os) (suc n) = op_at os n
 
 -- a number above 52 is no operator
-abbrev pub op_of : ℕ → Named
+abbrev pub op_of : ℕ → Option Op
 op_of n = op_at operators n
 
 abbrev pub one_of : Op → List Op → Bool

@@ -4,7 +4,7 @@ ghost use Rattle.std.specs.Prelude.{◌≡◌};
 ghost use Rattle.op.specs.Op.{op_number, op_of};
 
 // The operators of src/op.rs, in its order.
-#[derive(Clone, Copy)]
+#[derive(Clone, Copy, PartialEq, Eq)]
 pub enum Op {
     Plus,
     Minus,
@@ -59,13 +59,6 @@ pub enum Op {
     IsNotInList,
     IsNull,
     IsNotNull,
-}
-
-// What a number names: an operator, or none where it is above 52.
-#[derive(Clone, Copy)]
-pub enum Named {
-    Is(Op),
-    NoOp,
 }
 
 // The numbers of the operators, their places in the enum.
@@ -179,66 +172,12 @@ pub const IS_NOT_NULL: usize = 52;
 pub fn op_number(op: Op) -> usize
     ensures { result ≡ op_number op }
 {
-    match op {
-        Op::Plus => PLUS,
-        Op::Minus => MINUS,
-        Op::Mult => MULT,
-        Op::Div => DIV,
-        Op::IntDiv => INT_DIV,
-        Op::Mod => MOD,
-        Op::Exp => EXP,
-        Op::Neg => NEG,
-        Op::Eq => EQ,
-        Op::Neq => NEQ,
-        Op::Lt => LT,
-        Op::Gt => GT,
-        Op::Lte => LTE,
-        Op::Gte => GTE,
-        Op::And => AND,
-        Op::Or => OR,
-        Op::CaseI => CASE_I,
-        Op::AccentI => ACCENT_I,
-        Op::SIntersects => S_INTERSECTS,
-        Op::SEquals => S_EQUALS,
-        Op::SDisjoint => S_DISJOINT,
-        Op::STouches => S_TOUCHES,
-        Op::SWithin => S_WITHIN,
-        Op::SOverlaps => S_OVERLAPS,
-        Op::SCrosses => S_CROSSES,
-        Op::SContains => S_CONTAINS,
-        Op::TAfter => T_AFTER,
-        Op::TBefore => T_BEFORE,
-        Op::TContains => T_CONTAINS,
-        Op::TDisjoint => T_DISJOINT,
-        Op::TDuring => T_DURING,
-        Op::TEquals => T_EQUALS,
-        Op::TFinishedBy => T_FINISHED_BY,
-        Op::TFinishes => T_FINISHES,
-        Op::TIntersects => T_INTERSECTS,
-        Op::TMeets => T_MEETS,
-        Op::TMetBy => T_MET_BY,
-        Op::TOverlappedBy => T_OVERLAPPED_BY,
-        Op::TOverlaps => T_OVERLAPS,
-        Op::TStartedBy => T_STARTED_BY,
-        Op::TStarts => T_STARTS,
-        Op::AEquals => A_EQUALS,
-        Op::AContains => A_CONTAINS,
-        Op::AContainedBy => A_CONTAINED_BY,
-        Op::AOverlaps => A_OVERLAPS,
-        Op::IsLike => IS_LIKE,
-        Op::IsNotLike => IS_NOT_LIKE,
-        Op::IsBetween => IS_BETWEEN,
-        Op::IsNotBetween => IS_NOT_BETWEEN,
-        Op::IsInList => IS_IN_LIST,
-        Op::IsNotInList => IS_NOT_IN_LIST,
-        Op::IsNull => IS_NULL,
-        Op::IsNotNull => IS_NOT_NULL,
-    }
+    op as usize
 }
 
-// The operator at a place of the enum.
+// The operator at a place of the enum; none past its end.
 #[tactic(auto, using(crate::proofs::Laws::past_all), unfolding(crate::specs::Op::op_at))]
-pub fn op_of(n: usize) -> Named
+pub fn op_of(n: usize) -> Option<Op>
     ensures { result ≡ op_of n }
 {
     let op = match n {
@@ -296,8 +235,8 @@ pub fn op_of(n: usize) -> Named
         IS_NULL => Op::IsNull,
         IS_NOT_NULL => Op::IsNotNull,
         _ => {
-            return Named::NoOp;
+            return None;
         }
     };
-    Named::Is(op)
+    Some(op)
 }

@@ -1,14 +1,16 @@
 -- Laws of specs/Order.antt: the order is total, antisymmetric, transitive and irreflexive; and how a loop over two strings decides it.
 -- Each goes by induction on both strings, with the first bytes compared.
-use Rattle.std.specs.Prelude.{ℕ, ◌+◌, ◌≤◌, ◌<◌, ◌≡◌, refl, List, [], ◌∷◌, Bool, true, false, ◌⊎◌, ltb, length, get_or, drop}
-use Rattle.std.proofs.Common.{sym, ap, ◌∙◌, inl, inr, ⊎_elim, arith, add-one}
+use Rattle.std.specs.Prelude.{ℕ, ◌+◌, ◌≤◌, ◌<◌, ◌≡◌, refl, List, [], ◌∷◌, Bool, true, false, ◌⊎◌, ltb, min, length, get_or, drop}
+use Rattle.std.proofs.Common.{sym, ap, ◌∙◌, inl, inr, ⊎_elim, arith, drop_of_length-le}
+use Rattle.std.proofs.lemmas.Cmp.{ranked, by_ranked}
+use Rattle.std.proofs.lemmas.List.{drop_more}
 use Rattle.std.proofs.lemmas.Bool.{false≢true}
-use Rattle.std.proofs.Math.ListN.{drop_of_length-le}
-use Rattle.std.proofs.Math.Seq.{drop-cons}
-use borrow.Author.Tests.{lt-ltb, le-ltb, ltb-true, ltb-false}
-use Rattle.order.specs.declared.Ordering.{Ordering}
-use Rattle.order.specs.declared.Ordering.TheVariants.{Less, Equal, Greater}
-use Rattle.order.specs.Order.{order, is_less, is_equal, below}
+use borrow.Author.Tests.{lt-ltb, le-ltb, ltb-true, ltb-false, eq-eqb, ne_eqb}
+use Rattle.std.specs.declared.cmp.Ordering.{Ordering}
+use Rattle.std.specs.declared.cmp.Ordering.TheVariants.{Less, Equal, Greater}
+use Rattle.std.specs.Ordering.{is_lt, nat_cmp, ordering_then}
+use Rattle.std.specs.Cmp.Lexicographic.{slice_cmp}
+use Rattle.order.specs.Order.{order, below}
 
 -- two bytes
 pub three : (a b : ℕ) → (a < b) ⊎ ((a ≡ b) ⊎ (b < a))
@@ -71,19 +73,17 @@ order_same (a ∷ x) (b ∷ y) e =
     let q : x ≡ y = order_same x y h.1 in
     cc
 
--- strings of two lengths are not the same
-pub other_length : (x y : List ℕ) → (length x ≡ length y → ⊥) → is_equal (order x y) ≡ false
-other_length x y f = go (order x y) refl
-  where
-    go : (o : Ordering) → order x y ≡ o → is_equal o ≡ false
-    go Less e = refl
-    go Equal e = absurd (f (ap length (order_same x y e)))
-    go Greater e = refl
-
-pub is_equal_true : (o : Ordering) → is_equal o ≡ true → o ≡ Equal
-is_equal_true Less e = cc
-is_equal_true Equal e = refl
-is_equal_true Greater e = cc
+-- it is the order that Rust's `cmp` answers
+pub order_cmp : (x y : List ℕ) → slice_cmp nat_cmp x y ≡ order x y
+unfolding order
+order_cmp [] [] = refl
+order_cmp [] (b ∷ y) = refl
+order_cmp (a ∷ x) [] = refl
+order_cmp (a ∷ x) (b ∷ y) =
+    ⊎_elim (λ (h : a < b). rw (lt-ltb a b h))
+    (⊎_elim (λ (e : a ≡ b). let h : b ≤ a = omega arith in let k : a ≤ b = omega arith in rw (le-ltb a b h, le-ltb b a k, eq-eqb a b e, order_cmp x y))
+    (λ (h : b < a). let k : b ≤ a = omega arith in let n : a ≡ b → ⊥ = omega arith in rw (le-ltb a b k, lt-ltb b a h, ne_eqb a b n)))
+    (three a b)
 
 -- below one way is above the other way
 pub order_above : (x y : List ℕ) → order x y ≡ Less → order y x ≡ Greater
@@ -135,7 +135,7 @@ order_cases x y = go (order x y)
     go Greater = inr (inr refl)
 
 -- The same of `below`.
-less-is : (o : Ordering) → is_less o ≡ true → o ≡ Less
+less-is : (o : Ordering) → is_lt o ≡ true → o ≡ Less
 less-is Less e = refl
 less-is Equal e = absurd (false≢true e)
 less-is Greater e = absurd (false≢true e)
@@ -146,15 +146,15 @@ below-is x y e = less-is (order x y) e
 
 pub is_below : (x y : List ℕ) → order x y ≡ Less → below x y ≡ true
 unfolding below
-is_below x y e = ap is_less e
+is_below x y e = ap is_lt e
 
 pub below_irreflexive : (x : List ℕ) → below x x ≡ false
 unfolding below
-below_irreflexive x = ap is_less (order_refl x)
+below_irreflexive x = ap is_lt (order_refl x)
 
 pub below_antisymmetric : (x y : List ℕ) → below x y ≡ true → below y x ≡ false
 unfolding below
-below_antisymmetric x y e = ap is_less (order_above x y (below-is x y e))
+below_antisymmetric x y e = ap is_lt (order_above x y (below-is x y e))
 
 pub below_transitive : (x y z : List ℕ) → below x y ≡ true → below y z ≡ true → below x z ≡ true
 below_transitive x y z e f = is_below x z (order_trans x y z (below-is x y e) (below-is y z f))
@@ -167,34 +167,19 @@ below_total x y =
 
 -- Two strings, byte by byte, from the place i on.
 module _ (a b : List ℕ) (i : ℕ) where
-  pub order_go : i < length a → i < length b → get_or b i 0 ≤ get_or a i 0 → get_or a i 0 ≤ get_or b i 0
-      → order (drop i a) (drop i b) ≡ order (drop (i + 1) a) (drop (i + 1) b)
-  unfolding order
-  order_go h k p q = rw (add-one i, drop-cons a i 0 h, drop-cons b i 0 k, le-ltb _ _ p, le-ltb _ _ q)
+  pub order_turn : i < length a → i < length b
+      → order (drop i a) (drop i b) ≡ ordering_then (nat_cmp (get_or a i 0) (get_or b i 0)) (order (drop (i + 1) a) (drop (i + 1) b))
+  order_turn h k =
+      let x = get_or a i 0 in
+      let y = get_or b i 0 in
+      let s = drop (i + 1) a in
+      let t = drop (i + 1) b in
+      rw (drop_more a i 0 h, drop_more b i 0 k) (sym (order_cmp (x ∷ s) (y ∷ t)) ∙ ap (ordering_then (nat_cmp x y)) (order_cmp s t))
 
-  pub order-less : i < length a → i < length b → get_or a i 0 < get_or b i 0 → order (drop i a) (drop i b) ≡ Less
+  pub order_stop : i ≡ min (length a) (length b) → order (drop i a) (drop i b) ≡ nat_cmp (length a) (length b)
   unfolding order
-  order-less h k p = rw (drop-cons a i 0 h, drop-cons b i 0 k, lt-ltb _ _ p)
-
-  pub order-more : i < length a → i < length b → get_or b i 0 ≤ get_or a i 0 → get_or b i 0 < get_or a i 0 → order (drop i a) (drop i b) ≡ Greater
-  unfolding order
-  order-more h k p q = rw (drop-cons a i 0 h, drop-cons b i 0 k, le-ltb _ _ p, lt-ltb _ _ q)
-
-  pub order-apart : i < length a → i < length b → (get_or a i 0 ≡ get_or b i 0 → ⊥) → is_equal (order (drop i a) (drop i b)) ≡ false
-  order-apart h k f =
-      ⊎_elim (λ (l : get_or a i 0 < get_or b i 0). ap is_equal (order-less h k l))
-      (⊎_elim (λ (e : get_or a i 0 ≡ get_or b i 0). absurd (f e))
-      (λ (l : get_or b i 0 < get_or a i 0). let m : get_or b i 0 ≤ get_or a i 0 = omega arith in ap is_equal (order-more h k m l)))
-      (three (get_or a i 0) (get_or b i 0))
-
-  pub order_long : i < length a → length b ≤ i → order (drop i a) (drop i b) ≡ Greater
-  unfolding order
-  order_long h k = rw (drop-cons a i 0 h, drop_of_length-le b k)
-
-  pub order-both : length a ≤ i → length b ≤ i → order (drop i a) (drop i b) ≡ Equal
-  unfolding order
-  order-both h k = rw (drop_of_length-le a h, drop_of_length-le b k)
-
-  pub order_short : length a ≤ i → i < length b → order (drop i a) (drop i b) ≡ Less
-  unfolding order
-  order_short h k = rw (drop_of_length-le a h, drop-cons b i 0 k)
+  order_stop m =
+      by_ranked _ _ _ (nat_cmp (length a) (length b)) (ranked (length a) (length b) _ refl)
+      (λ o (l : length a < length b). rw (drop_of_length-le a {i = i} (omega arith), drop_more b i 0 (omega arith)) (sym o))
+      (λ o (l : length a ≡ length b). rw (drop_of_length-le a {i = i} (omega arith), drop_of_length-le b {i = i} (omega arith)) (sym o))
+      (λ o (l : length b < length a). rw (drop_more a i 0 (omega arith), drop_of_length-le b {i = i} (omega arith)) (sym o))

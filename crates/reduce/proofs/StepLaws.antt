@@ -1,4 +1,5 @@
 -- The steps of the walk: what the calls below ensure, in their order, makes what a node ensures, and leaves the room that the next call wants.
+use Rattle.std.specs.Prelude.{Some}
 use Prim.Native.Nat.{ℕ, suc, ◌+◌, ◌-◌, ◌≤◌, ◌<◌}
 use mathlib.Core.Path.{◌≡◌, refl, ap, sym, ◌∙◌, subst}
 use mathlib.Core.List.{List, [], ◌∷◌, ◌++◌, append_assoc}
@@ -14,7 +15,6 @@ use Rattle.refusal.specs.declared.Refusal.TheVariants.{ConstantOperands}
 use Rattle.record.specs.Record.{le16, le32, record_of}
 use Rattle.op.specs.declared.Op.{Op}
 use Rattle.op.specs.declared.Op.TheVariants.{CaseI, AccentI}
-use Rattle.op.specs.declared.Named.TheVariants.{Is}
 use Rattle.op.specs.Op.{op_number, op_of, one_of}
 use Rattle.op.specs.OpLaws.{number_of}
 use Rattle.tree.specs.Limits.{tree_limit}
@@ -166,7 +166,7 @@ other_way s at {l} {m} {r} k f h w t n e g = go t (kind-is 9 t (sym (kind_of_lem
 
 -- the operators of a twin are one
 op_is : (o p : Op) → op_number o ≡ op_number p → o ≡ p
-op_is o p e = let z : Is o ≡ Is p = sym (number_of o) ∙ ap op_of e ∙ number_of p in cc
+op_is o p e = let z : Some o ≡ Some p = sym (number_of o) ∙ ap op_of e ∙ number_of p in cc
 
 pub data Twins (o : Op) : Tree → Type 0 where
   case_twins : (u : Tree) → o ≡ CaseI → Twins o (monadic CaseI u)

@@ -23,7 +23,7 @@ use Rattle.tree.specs.TestsLaws.{both_of, OfKind, of_id, of_interval, id_is, int
 use Rattle.literal.specs.declared.Writing.{Writing}
 use Rattle.sql.specs.Translators.{translate, t_after, t_before, t_disjoint, t_equals, t_intersects}
 use Rattle.row.specs.Row.{Column}
-use Rattle.order.specs.declared.Ordering.{Ordering}
+use Rattle.std.specs.declared.cmp.Ordering.{Ordering}
 use Rattle.truth.specs.declared.Truth.{Truth}
 use Rattle.lexer.specs.declared.Kind.{Kind}
 use Rattle.lexer.specs.declared.Kind.TheVariants.{Lt as LT, Gt as GT, Eq as EQ, Ne as NE}

@@ -7,8 +7,8 @@ use mathlib.Core.List.{List, [], ◌∷◌}
 use Rattle.prelude.specs.Choice.{pick, both, between, some, negated}
 use Rattle.prelude.specs.ChoiceLaws.{both_true, between_true}
 use Rattle.civil.specs.Civil.{days_in, valid_date, valid_time}
-use Rattle.order.specs.declared.Ordering.{Ordering}
-use Rattle.order.specs.declared.Ordering.TheVariants.{Less, Equal, Greater}
+use Rattle.std.specs.declared.cmp.Ordering.{Ordering}
+use Rattle.std.specs.declared.cmp.Ordering.TheVariants.{Less, Equal, Greater}
 use Rattle.order.specs.Order.{order}
 use Rattle.order.specs.OrderLaws.{three, order_refl, order_above}
 use Rattle.literal.specs.declared.Writing.{Writing}

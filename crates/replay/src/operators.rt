@@ -4,7 +4,7 @@ ghost use Rattle.std.specs.Prelude.{◌≤◌, length};
 
 use crate::cases::Turn;
 use crate::lines::say;
-use op::{Named, Op};
+use op::Op;
 use spelling::Spelled;
 use std::io;
 
@@ -91,10 +91,10 @@ fn spelling_right(number: usize, text: &[u8]) -> bool {
 }
 
 fn line_right(line: &[u8], number: usize) -> bool {
-    let Named::Is(op) = op::op_of(number) else {
+    let Some(op) = op::op_of(number) else {
         return false;
     };
-    if op::op_number(op) != number {
+    if op as usize != number {
         return false;
     }
     let spelled = behind(behind(line, TAB), TAB);

@@ -8,9 +8,10 @@ use Rattle.std.proofs.lemmas.Bool.{false≢true}
 use Rattle.prelude.specs.Choice.{pick, both, either, negated, some, same}
 use Rattle.prelude.specs.ChoiceLaws.{both_true}
 use Rattle.civil.specs.Civil.{valid_date, valid_time}
-use Rattle.order.specs.declared.Ordering.{Ordering}
-use Rattle.order.specs.declared.Ordering.TheVariants.{Less, Equal, Greater}
-use Rattle.order.specs.Order.{order, is_less, is_equal, below}
+use Rattle.std.specs.declared.cmp.Ordering.{Ordering}
+use Rattle.std.specs.declared.cmp.Ordering.TheVariants.{Less, Equal, Greater}
+use Rattle.std.specs.Ordering.{is_lt, is_eq}
+use Rattle.order.specs.Order.{order, below}
 use Rattle.order.specs.OrderLaws.{order_above}
 use Rattle.op.specs.declared.Op.{Op}
 use Rattle.op.specs.declared.Op.TheVariants.{TAfter, TBefore, TContains, TDisjoint, TDuring, TEquals, TFinishedBy, TFinishes, TIntersects, TMeets, TMetBy, TOverlappedBy, TOverlaps, TStartedBy, TStarts}
@@ -67,13 +68,13 @@ known_is : {a b : Truth} {p : Bool} → a ≡ b → Known b p → Known a p
 known_is e h = record { is = e ∙ h.is }
 
 -- Comparing values is comparing moments.
-lt_less : (o : Ordering) → grammar.holds LT o ≡ is_less o
+lt_less : (o : Ordering) → grammar.holds LT o ≡ is_lt o
 unfolding grammar.holds some
 lt_less Less = refl
 lt_less Equal = refl
 lt_less Greater = refl
 
-eq_equal : (o : Ordering) → grammar.holds EQ o ≡ is_equal o
+eq_equal : (o : Ordering) → grammar.holds EQ o ≡ is_eq o
 unfolding grammar.holds some
 eq_equal Less = refl
 eq_equal Equal = refl
@@ -94,7 +95,7 @@ by_order {w = w} ends (at {x = y} k) = let e = order_above y (literal.open_end G
 by_order {w = w} (at {x = x} h) ends = let e = open_above w x h in told (rw e) (rw e)
 by_order {w = w} (at {x = x} h) (at {x = y} k) =
     let e = fields-order w x y h k in
-    told (ap truth_of (lt_less (order x y) ∙ ap is_less e)) (ap truth_of (eq_equal (order x y) ∙ ap is_equal e))
+    told (ap truth_of (lt_less (order x y) ∙ ap is_lt e)) (ap truth_of (eq_equal (order x y) ∙ ap is_eq e))
 
 lt_known : {w : Width} {x y : Found} {m n : Moment} → Stands w x m → Stands w y n → Known (compared LT x y) (earlier m n)
 lt_known h k = (by_order h k).0
@@ -116,7 +117,7 @@ same_or (moment x) open_end = refl
 same_or open_end open_start = refl
 same_or open_end (moment y) = refl
 same_or open_end open_end = refl
-same_or (moment x) (moment y) = orders (λ i j. is_equal i ≡ negated (either (is_less i) (is_less j))) refl refl refl x y
+same_or (moment x) (moment y) = orders (λ i j. is_eq i ≡ negated (either (is_lt i) (is_lt j))) refl refl refl x y
 
 negated_twice : (p : Bool) → negated (negated p) ≡ p
 negated_twice true = refl

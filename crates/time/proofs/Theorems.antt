@@ -16,8 +16,8 @@ use Rattle.tree.specs.GoodWords.{Good}
 use Rattle.tree.specs.Placed.{operands, in_place, inner, placed}
 use Rattle.tree.specs.Tests.{everywhere, by_operator, is_interval, start_of, stop_of}
 use Rattle.tree.specs.TestsLaws.{both_of}
-use Rattle.order.specs.declared.Ordering.{Ordering}
-use Rattle.order.specs.declared.Ordering.TheVariants.{Less, Equal, Greater}
+use Rattle.std.specs.declared.cmp.Ordering.{Ordering}
+use Rattle.std.specs.declared.cmp.Ordering.TheVariants.{Less, Equal, Greater}
 use Rattle.order.specs.Order.{order}
 use Rattle.order.specs.OrderLaws.{order_refl, order_same}
 use Rattle.literal.specs.declared.Writing.{Writing}

@@ -12,8 +12,8 @@ use Rattle.prelude.specs.Choice.{pick, both, between, some}
 use Rattle.prelude.specs.ChoiceLaws.{both_true, between_true}
 use Rattle.charset.specs.Charset.{digit}
 use Rattle.civil.specs.Civil.{leap, days_in, valid_date, valid_time}
-use Rattle.order.specs.declared.Ordering.{Ordering}
-use Rattle.order.specs.declared.Ordering.TheVariants.{Less, Equal, Greater}
+use Rattle.std.specs.declared.cmp.Ordering.{Ordering}
+use Rattle.std.specs.declared.cmp.Ordering.TheVariants.{Less, Equal, Greater}
 use Rattle.order.specs.Order.{order}
 use Rattle.order.specs.OrderLaws.{three}
 use Rattle.literal.specs.Literal as literal

@@ -6,7 +6,8 @@ use Rattle.prelude.specs.Bytes.{byte, minus, colon, zero_digit}
 use Rattle.prelude.specs.Choice.{pick, both, either, negated}
 use Rattle.charset.specs.Charset.{digit}
 use Rattle.civil.specs.Civil.{valid_date, valid_time}
-use Rattle.order.specs.Order.{order, is_equal, below}
+use Rattle.std.specs.Ordering.{is_eq}
+use Rattle.order.specs.Order.{order, below}
 use Rattle.op.specs.declared.Op.{Op}
 use Rattle.op.specs.declared.Op.TheVariants.{TAfter, TBefore, TContains, TDisjoint, TDuring, TEquals, TFinishedBy, TFinishes, TIntersects, TMeets, TMetBy, TOverlappedBy, TOverlaps, TStartedBy, TStarts}
 use Rattle.tree.specs.Kinds.{UNBOUNDED, DATE, TIMESTAMP, ID}
@@ -39,7 +40,7 @@ same_moment open_start open_start = true
 same_moment open_start (moment y) = false
 same_moment open_start open_end = false
 same_moment (moment x) open_start = false
-same_moment (moment x) (moment y) = is_equal (order x y)
+same_moment (moment x) (moment y) = is_eq (order x y)
 same_moment (moment x) open_end = false
 same_moment open_end open_start = false
 same_moment open_end (moment y) = false

@@ -7,7 +7,7 @@ use native.Mathlib.Omega.{arith}
 use lib.IntN.{pos, negsuc, nat_abs}
 use lib.ListN.{length, get_or, take, drop, length-drop}
 use lib.Seq.{take_all}
-use lib.Dec.{ltb, leb, eqb}
+use lib.Dec.{ltb, leb}
 use borrow.Author.Tests.{ltb-true, ltb-false, le-ltb, lt-ltb, le-leb, lt-leb, eq-eqb}
 use Rattle.prelude.specs.Choice.{pick, some}
 use Rattle.tree.specs.Limits.{mantissa_limit}
@@ -52,19 +52,3 @@ pick_same false = refl
 pub timestamp-is : (s : List ℕ) (y m d h i x : ℕ) → length s ≡ 7 → y ≡ le16 s 0 → m ≡ get_or s 2 0 → d ≡ get_or s 3 0 → h ≡ get_or s 4 0 → i ≡ get_or s 5 0 → x ≡ get_or s 6 0 → valid_date y m d ≡ true → valid_time h i x ≡ timestamp_body s
 unfolding timestamp_body
 timestamp-is s y m d h i x l ey em ed eh ei ex v = simp (eq-eqb (length s) 7 l, ← ey, ← em, ← ed, v, eh, ei, ex)
-
--- Operators, by their numbers.
-
-abbrev pub one_number : ℕ → Bool
-one_number n = pick (eqb n 1) true (pick (eqb n 7) true (pick (eqb n 16) true (pick (eqb n 17) true (pick (eqb n 51) true (pick (eqb n 52) true false)))))
-
-pub one_number_lem : (o : Op) → takes_one o ≡ one_number (op_number o)
-unfolding takes_one some
-one_number_lem o = refl
-
-abbrev pub between_number : ℕ → Bool
-between_number n = pick (eqb n 47) true (pick (eqb n 48) true false)
-
-pub between-number : (o : Op) → is_between o ≡ between_number (op_number o)
-unfolding is_between some
-between-number o = refl

@@ -18,8 +18,6 @@ use Rattle.record.specs.Record.{le16, le32, frame, whole}
 use Rattle.record.specs.FrameLaws.{frame-within}
 use Rattle.charset.specs.Charset.{name}
 use Rattle.op.specs.declared.Op.{Op}
-use Rattle.op.specs.declared.Named.{Named}
-use Rattle.op.specs.declared.Named.TheVariants.{Is, NoOp}
 use Rattle.op.specs.Op.{op_of, is_temporal, is_instant_or_interval}
 use Rattle.charset.specs.Named.{name_at, past, named_at}
 use Rattle.settings.specs.Settings.{is_settings}
@@ -310,19 +308,19 @@ many_start body s = grown_start (seen_all (items body s))
 -- Kinds.
 
 module _ (test : Op → Bool) (make : Op → Trees → Tree) (n : ℕ) (below : Body) where
-  taken_stop : (o : Named) (e : Refusal) (f : Op → Read Tree) → taken_by test o ≡ Refuses e → allowed test f o ≡ refused e
+  taken_stop : (o : Option Op) (e : Refusal) (f : Op → Read Tree) → taken_by test o ≡ Refuses e → allowed test f o ≡ refused e
   unfolding taken_by allowed
-  taken_stop NoOp e f h = cc
-  taken_stop (Is o) e f h = go (test o) h
+  taken_stop None e f h = cc
+  taken_stop (Some o) e f h = go (test o) h
     where
       go : (b : Bool) → pick b (Takes o) (Refuses BadKindOrOperator) ≡ Refuses e → pick b (f o) (refused BadKindOrOperator) ≡ refused e
       go true q = cc
       go false q = cc
 
-  taken_is : (o : Named) (p : Op) (f : Op → Read Tree) → taken_by test o ≡ Takes p → allowed test f o ≡ f p
+  taken_is : (o : Option Op) (p : Op) (f : Op → Read Tree) → taken_by test o ≡ Takes p → allowed test f o ≡ f p
   unfolding taken_by allowed
-  taken_is NoOp p f h = cc
-  taken_is (Is o) p f h = go (test o) h
+  taken_is None p f h = cc
+  taken_is (Some o) p f h = go (test o) h
     where
       go : (b : Bool) → pick b (Takes o) (Refuses BadKindOrOperator) ≡ Takes p → pick b (f o) (refused BadKindOrOperator) ≡ f p
       go true q = let e : o ≡ p = cc in ap f e

@@ -14,8 +14,6 @@ use Rattle.record.specs.declared.Frame.{Frame}
 use Rattle.record.specs.Record.{frame, le16}
 use Rattle.charset.specs.Named.{past, named_at}
 use Rattle.op.specs.declared.Op.{Op}
-use Rattle.op.specs.declared.Named.{Named}
-use Rattle.op.specs.declared.Named.TheVariants.{Is, NoOp}
 use Rattle.op.specs.Op.{op_of}
 use Rattle.tree.specs.declared.Limits.{Limits}
 use Rattle.tree.specs.Limits.{NoGreater, planner}
@@ -79,9 +77,9 @@ module _ (rs : List Refusal) where
     unfolding operated allowed
     operated_else test make n s = pick_else (ltb (length s) 2) _ _ _ _ (alike refl) (go (op_of (le16 s 0)))
       where
-        go : (o : Named) → Else rs (allowed test (λ o. also (exactly body n (drop 2 s)) (λ ts. got (make o ts))) o) (allowed test (λ o. also (exactly other n (drop 2 s)) (λ ts. got (make o ts))) o)
-        go NoOp = alike refl
-        go (Is o) = pick_else (test o) _ _ _ _ (also_else _ _ _ _ (exactly_else n (drop 2 s)) (λ ts. alike refl)) (alike refl)
+        go : (o : Option Op) → Else rs (allowed test (λ o. also (exactly body n (drop 2 s)) (λ ts. got (make o ts))) o) (allowed test (λ o. also (exactly other n (drop 2 s)) (λ ts. got (make o ts))) o)
+        go None = alike refl
+        go (Some o) = pick_else (test o) _ _ _ _ (also_else _ _ _ _ (exactly_else n (drop 2 s)) (λ ts. alike refl)) (alike refl)
 
     function_else : (s : List ℕ) → Else rs (read_function body s) (read_function other s)
     unfolding read_function

@@ -11,8 +11,6 @@ use Rattle.string.specs.Utf8.{valid}
 use Rattle.civil.specs.Civil.{valid_date, valid_time}
 use Rattle.op.specs.declared.Op.{Op}
 use Rattle.op.specs.declared.Op.TheVariants.{Minus, Neg, CaseI, AccentI, IsNull, IsNotNull}
-use Rattle.op.specs.declared.Named.{Named}
-use Rattle.op.specs.declared.Named.TheVariants.{Is, NoOp}
 use Rattle.op.specs.Op.{op_of, one_of}
 use Rattle.tree.specs.Limits.{mantissa_limit, scale_limit, flags_limit, text_limit}
 use Rattle.tree.specs.Tests.{first, second}
@@ -108,9 +106,9 @@ unfoldable pub takes_two : Op → Bool
 takes_two o = either (negated (takes_one o)) (one_of o (Minus ∷ []))
 
 -- what f makes of an operator that is allowed
-unfoldable pub allowed : {A : Type 0} → (Op → Bool) → (Op → Read A) → Named → Read A
-allowed test f NoOp = refused BadKindOrOperator
-allowed test f (Is o) = pick (test o) (f o) (refused BadKindOrOperator)
+unfoldable pub allowed : {A : Type 0} → (Op → Bool) → (Op → Read A) → Option Op → Read A
+allowed test f None = refused BadKindOrOperator
+allowed test f (Some o) = pick (test o) (f o) (refused BadKindOrOperator)
 
 -- an operator, two bytes, and then n records
 unfoldable pub operated : (Op → Bool) → (Op → Trees → Tree) → ℕ → Body → List ℕ → Read Tree

@@ -19,8 +19,6 @@ use Rattle.charset.specs.Charset.{name, spatial_byte}
 use Rattle.string.specs.Utf8.{valid}
 use Rattle.civil.specs.Civil.{valid_date, valid_time}
 use Rattle.op.specs.declared.Op.{Op}
-use Rattle.op.specs.declared.Named.{Named}
-use Rattle.op.specs.declared.Named.TheVariants.{Is, NoOp}
 use Rattle.op.specs.Op.{op_number, op_of}
 use Rattle.op.specs.OpLaws.{of_number}
 use Rattle.charset.specs.Named.{name_at, past, named_at}
@@ -244,10 +242,10 @@ id_sound n l s h e = (refl, (l, e))
 
 -- Kinds with records.
 
-allowed_got : {A : Type 0} (test : Op → Bool) (f : Op → Read A) (o : Named) (a : A) → allowed test f o ≡ got a → (p : Op) × (o ≡ Is p) × (test p ≡ true) × (f p ≡ got a)
+allowed_got : {A : Type 0} (test : Op → Bool) (f : Op → Read A) (o : Option Op) (a : A) → allowed test f o ≡ got a → (p : Op) × (o ≡ Some p) × (test p ≡ true) × (f p ≡ got a)
 unfolding allowed
-allowed_got test f NoOp a c = not_got BadKindOrOperator a c
-allowed_got test f (Is p) a c =
+allowed_got test f None a c = not_got BadKindOrOperator a c
+allowed_got test f (Some p) a c =
     ⊎_elim
     (λ w. (p, refl, w.0, w.1))
     (λ w. not_got BadKindOrOperator a w.1)

@@ -17,8 +17,6 @@ use Rattle.charset.specs.Charset.{name}
 use Rattle.charset.specs.Named.{name_at, past, named_at}
 use Rattle.settings.specs.Settings.{is_settings}
 use Rattle.op.specs.declared.Op.{Op}
-use Rattle.op.specs.declared.Named.{Named}
-use Rattle.op.specs.declared.Named.TheVariants.{Is, NoOp}
 use Rattle.op.specs.Op.{op_of}
 use Rattle.tree.specs.declared.Limits.{Limits}
 use Rattle.tree.specs.Tests.{first, second}
@@ -88,9 +86,9 @@ module _ (body : Body) (below : (j : ℕ) (s : List ℕ) → gives of_tree (body
   unfolding operated allowed
   operated-gives test make n s = pick_gives of_tree (ltb (length s) 2) _ _ refl (go (op_of (le16 s 0)))
     where
-      go : (o : Named) → gives of_tree (allowed test (λ o. also (exactly body n (drop 2 s)) (λ ts. got (make o ts))) o) ≡ true
-      go NoOp = refl
-      go (Is o) = pick_gives of_tree (test o) _ _ (also-gives of_tree _ _ (exactly-gives n (drop 2 s)) (λ ts. refl)) refl
+      go : (o : Option Op) → gives of_tree (allowed test (λ o. also (exactly body n (drop 2 s)) (λ ts. got (make o ts))) o) ≡ true
+      go None = refl
+      go (Some o) = pick_gives of_tree (test o) _ _ (also-gives of_tree _ _ (exactly-gives n (drop 2 s)) (λ ts. refl)) refl
 
   function_gives : (s : List ℕ) → gives of_tree (read_function body s) ≡ true
   unfolding read_function

@@ -5,8 +5,6 @@ use Rattle.refusal.specs.declared.Refusal.TheVariants.{BadFrame, BadKindOrOperat
 use Rattle.record.specs.declared.Frame.{Frame}
 use Rattle.record.specs.Record.{le16, frame}
 use Rattle.op.specs.declared.Op.{Op}
-use Rattle.op.specs.declared.Named.{Named}
-use Rattle.op.specs.declared.Named.TheVariants.{Is, NoOp}
 use Rattle.op.specs.Op.{op_of, is_temporal, is_instant_or_interval}
 use Rattle.tree.specs.declared.Shape.{Shape}
 use Rattle.tree.specs.declared.Shape.TheVariants.{Interval, Pair, Other, Misplaced}
@@ -58,9 +56,9 @@ abbrev pub first_of : Body → List ℕ → First
 first_of body s = framed body s (frame s)
 
 -- the operator at the front of a body
-unfoldable pub taken_by : (Op → Bool) → Named → Taken
-taken_by test NoOp = Refuses BadKindOrOperator
-taken_by test (Is o) = pick (test o) (Takes o) (Refuses BadKindOrOperator)
+unfoldable pub taken_by : (Op → Bool) → Option Op → Taken
+taken_by test None = Refuses BadKindOrOperator
+taken_by test (Some o) = pick (test o) (Takes o) (Refuses BadKindOrOperator)
 
 unfoldable pub taken : (Op → Bool) → List ℕ → Taken
 taken test s = pick (ltb (length s) 2) (Refuses BadField) (taken_by test (op_of (le16 s 0)))

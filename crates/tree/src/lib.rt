@@ -10,9 +10,7 @@ ghost use Rattle.tree.specs.Placed.{is_between};
 ghost use Rattle.tree.specs.Accepted.{accepted, accepted_tree, verdict, said, heard};
 ghost use Rattle.tree.specs.WalkWords.{seen, seen_one, seen_two, seen_all, first_of, taken, plain_shape, pair_shape, interval_shape, sound_shape, fits, or_misplaced, leaf_one, monadic_one, dyadic_one, function_one, array_one, interval_one};
 
-use op::{
-    ACCENT_I, CASE_I, IS_BETWEEN, IS_NOT_BETWEEN, IS_NOT_NULL, IS_NULL, MINUS, NEG, Named, Op,
-};
+use op::Op;
 use record::Frame;
 use refusal::Refusal;
 use settings::CAI;
@@ -198,53 +196,29 @@ fn spatial_body(s: &[u8]) -> bool
     false
 }
 
-fn takes_one(o: Op) -> bool
-    ensures { result ≡ takes_one o }
+#[tactic(auto, using(op::specs::OpLaws::one_of_lem, op::specs::OpLaws::none_of_lem), unfolding(crate::specs::Parse::takes_one))]
+fn takes_one(op: Op) -> bool
+    ensures { result ≡ takes_one op }
 {
-    let n = op::op_number(o);
-    if n == MINUS {
-        return true;
-    }
-    if n == NEG {
-        return true;
-    }
-    if n == CASE_I {
-        return true;
-    }
-    if n == ACCENT_I {
-        return true;
-    }
-    if n == IS_NULL {
-        return true;
-    }
-    if n == IS_NOT_NULL {
-        return true;
-    }
-    false
+    matches!(
+        op,
+        Op::Minus | Op::Neg | Op::CaseI | Op::AccentI | Op::IsNull | Op::IsNotNull
+    )
 }
 
 // All operators but those of one operand, and Minus, which has either.
-fn takes_two(o: Op) -> bool
-    ensures { result ≡ takes_two o }
+#[tactic(auto, using(op::specs::OpLaws::one_of_lem, op::specs::OpLaws::none_of_lem), unfolding(crate::specs::Parse::takes_two))]
+fn takes_two(op: Op) -> bool
+    ensures { result ≡ takes_two op }
 {
-    if takes_one(o) {
-        op::op_number(o) == MINUS
-    } else {
-        true
-    }
+    !takes_one(op) || matches!(op, Op::Minus)
 }
 
-fn is_between(o: Op) -> bool
-    ensures { result ≡ is_between o }
+#[tactic(auto, using(op::specs::OpLaws::one_of_lem, op::specs::OpLaws::none_of_lem), unfolding(crate::specs::Placed::is_between))]
+fn is_between(op: Op) -> bool
+    ensures { result ≡ is_between op }
 {
-    let n = op::op_number(o);
-    if n == IS_BETWEEN {
-        return true;
-    }
-    if n == IS_NOT_BETWEEN {
-        return true;
-    }
-    false
+    matches!(op, Op::IsBetween | Op::IsNotBetween)
 }
 
 fn takes(two: bool, o: Op) -> bool
@@ -261,8 +235,8 @@ fn operator_in(two: bool, s: &[u8]) -> Taken
         return Taken::Refuses(Refusal::BadField);
     }
     match op::op_of(record::word_at(s, 0)) {
-        Named::NoOp => Taken::Refuses(Refusal::BadKindOrOperator),
-        Named::Is(o) => {
+        None => Taken::Refuses(Refusal::BadKindOrOperator),
+        Some(o) => {
             if takes(two, o) {
                 Taken::Takes(o)
             } else {

@@ -1,9 +1,0 @@
--- `civil::within` meets its contract.
-use borrow.Author.Tests.{le-leb, lt-leb}
-use Rattle.civil.proofs.within.Goals as goal
-
-pub returns-then-lo-n : goal.returns-then-lo-n
-returns-then-lo-n c = simp (le-leb _ _ c.if-lo-n.true)
-
-pub returns : goal.returns
-returns c = simp (lt-leb _ _ c.if-lo-n.false)
