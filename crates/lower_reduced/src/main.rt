@@ -13,8 +13,11 @@ fn main(rt: HostRuntime) -> io::Result<()> {
     let mut room = input::large_buffer();
     let mut out = input::large_buffer();
     input::answer_all(&rt, |settings, tree| {
-        let lowered = reduce::reduce(tree, &mut room)
-            .and_then(|n| call.lower(settings, input::first(&room, n), &mut out));
+        let lowered = reduce::reduce(tree, &mut room).and_then(|n| call.lower(
+            settings,
+            input::first(&room, n),
+            &mut out,
+        ));
         calls::print_line(&rt, lowered, &out)
     })
 }
