@@ -148,7 +148,7 @@ pub(crate) fn put_str(s: &[u8], flags: usize, room: &mut [u8], at: usize) -> Fol
     requires { (7 ≤ length s.now) × (at + length s.now ≤ length room.old) × (length room.old ≤ tree_limit) }
     ensures { (f : ℕ) (x : List ℕ) → s.now ≡ encode (str f x) → flags < 256 → (result ≡ done_at at (str flags x)) × (room.new ≡ sets room.old at (encode (str flags x))) }
 {
-    let end = emit::put_three(&s[0..BODY], &[low(flags)], &s[TEXT..], room, at);
+    let end = emit::put_all(&[&s[0..BODY], &[low(flags)], &s[TEXT..]], room, at);
     Folded::Done(end, STR_SORT, 0)
 }
 

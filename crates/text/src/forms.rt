@@ -61,14 +61,14 @@ pub(crate) fn put_infix(
     let word = word_of(words, op);
     if a {
         if b {
-            return emit::put_three(b" ", word, b" ", out, at);
+            return emit::put_all(&[b" ", word, b" "], out, at);
         }
-        return emit::put_three(b" ", word, b" (", out, at);
+        return emit::put_all(&[b" ", word, b" ("], out, at);
     }
     if b {
-        return emit::put_three(b") ", word, b" ", out, at);
+        return emit::put_all(&[b") ", word, b" "], out, at);
     }
-    emit::put_three(b") ", word, b" (", out, at)
+    emit::put_all(&[b") ", word, b" ("], out, at)
 }
 
 // An operator of two sides stands between them unless it is spatial or BETWEEN. Most stand before the spatial ones in the enum.
