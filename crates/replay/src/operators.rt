@@ -3,7 +3,6 @@
 use input::Part;
 use op::Op;
 use replay_cases::{Case, Kind, Tally};
-use spelling::Spelled;
 use std::io;
 
 pub(crate) struct Operators;
@@ -25,15 +24,7 @@ fn class_bits(op: Op) -> [u8; 8] {
     .map(|holds| if holds { b'1' } else { b'0' })
 }
 
-// The Rust panics where an operator has no spelling.
-fn is_spelled(number: usize, text: &[u8]) -> bool {
-    let table = spelling::spellings();
-    match spelling::to_sql(&table, number) {
-        Spelled::NoSpelling => text == b"PANIC".as_slice(),
-        Spelled::At(from, to) => text == &table[from..to],
-    }
-}
-
+// The Rust panics where an operator has no spelling, and its list says so.
 fn is_right(line: &[u8], number: usize) -> bool {
     let mut digits = itoa::Buffer::new();
     let mut fields = line.splitn(4, |&b| b == TAB);
@@ -50,7 +41,7 @@ fn is_right(line: &[u8], number: usize) -> bool {
     };
     first == digits.format(number as u64).as_bytes()
         && op as usize == number
-        && is_spelled(number, spelled)
+        && spelled == spelling::to_sql(op).unwrap_or(b"PANIC")
         && bits == class_bits(op).as_slice()
 }
 
