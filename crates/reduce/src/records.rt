@@ -1,4 +1,5 @@
-// How reduced records are written into a room that the caller does not see.
+// How reduced records are written into a room that the caller does not see. The room and the place stay two parameters: a head is written before operands
+// that stand already, or something over them, so a writer that stands at the end of what is written is no plainer.
 ghost use Rattle.std.specs.Prelude.{◌≡◌, true, List, ℕ, ◌+◌, ◌%◌, ◌≤◌, ◌<◌, ℤ, nat_abs, neg_ℤ, length};
 ghost use Rattle.std.proofs.lemmas.List.Edits.{sets};
 ghost use Rattle.op.specs.Op.{op_number};

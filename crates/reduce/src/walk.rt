@@ -1,4 +1,5 @@
 // The walk: each record is reduced and written once, its head last. A node and its operands are reduced by turns, each inside the other.
+// A kind stays its number here: it is read from a record and written into the next as it is, and `match` names it by tree's constants.
 ghost use Rattle.std.specs.Prelude.{◌≡◌, ℕ, Ok, ◌+◌, ◌≤◌, ◌<◌, length};
 ghost use Rattle.record.specs.Record.{le16};
 ghost use Rattle.op.specs.declared.Op.{Op};

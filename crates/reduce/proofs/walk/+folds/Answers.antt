@@ -11,6 +11,9 @@ use Rattle.reduce.proofs.StepLaws as step
 use Rattle.reduce.proofs.ItemLaws as item
 use Rattle.reduce.proofs.walk.+folds.Goals as goal
 
+pub fold-returns-then-kind-lt-MONADIC : goal.fold-returns-then-kind-lt-MONADIC
+fold-returns-then-kind-lt-MONADIC t c = λ u n e g. c.fold_leaf.ensures u n e g c.word_at-kind.ensures.0 c.if-kind-lt-MONADIC.true
+
 pub fold_dyadic-op_at-op-requires : goal.fold_dyadic-op_at-op-requires
 fold_dyadic-op_at-op-requires t c = step.two_operated c.args.s.now c.requires.0.of c.requires.1
 
