@@ -338,23 +338,23 @@ chain_way o t n f e = go (twin o t) e
     go true q = let z : ◌≡◌ {A = ℕ} 0 1 = cc in absurd (omega arith)
     go false q = q
 
-pub text_room : (s : List ℕ) (at n f : ℕ) (l : List ℕ) {c : Chain} → Placed s at l → le16 s 4 ≡ 9 → Looks s c → c ≡ Text n f
-    → (n ≤ length s) × (7 ≤ length (part s (length s - n) (length s))) × (at + length (part s (length s - n) (length s)) ≤ length l)
-text_room s at n f l {c} p k w h = go p.of.tree (kind-is 9 p.of.tree (sym (kind_of_lem s p.of.tree p.of.whole) ∙ k)) p.of.whole
-  where
-    go : (t : Tree) → OfKind 9 t → s ≡ encode t → (n ≤ length s) × (7 ≤ length (part s (length s - n) (length s))) × (at + length (part s (length s - n) (length s)) ≤ length l)
-    go t (of_monadic o u) e =
-        let d = ends (monadic o u) n f (chain_way o u n f (sym (w o u e) ∙ h)) in
-        let q = ends_part s (monadic o u) n f d e in
-        let j : length (part s (length s - n) (length s)) ≡ n = ap length q.2 ∙ sym d.size in
-        (q.0, omega (arith, q.1), omega (arith, q.0, p.fits))
-
 flags_low : (f : ℕ) (x : List ℕ) (n : ℕ) → Good (str f x) n → f < 256
 unfolding Good
 flags_low f x n g = omega (arith, g.1)
 
+pub text_room : (s : List ℕ) (at n f : ℕ) (l : List ℕ) {c : Chain} → Placed s at l → le16 s 4 ≡ 9 → Looks s c → c ≡ Text n f
+    → (n ≤ length s) × (7 ≤ length (part s (length s - n) (length s))) × (at + length (part s (length s - n) (length s)) ≤ length l) × (f < 256)
+text_room s at n f l {c} p k w h = go p.of.tree (kind-is 9 p.of.tree (sym (kind_of_lem s p.of.tree p.of.whole) ∙ k)) p.of.whole p.of.good
+  where
+    go : (t : Tree) → OfKind 9 t → s ≡ encode t → Good t p.of.levels → (n ≤ length s) × (7 ≤ length (part s (length s - n) (length s))) × (at + length (part s (length s - n) (length s)) ≤ length l) × (f < 256)
+    go t (of_monadic o u) e g =
+        let d = ends (monadic o u) n f (chain_way o u n f (sym (w o u e) ∙ h)) in
+        let q = ends_part s (monadic o u) n f d e in
+        let j : length (part s (length s - n) (length s)) ≡ n = ap length q.2 ∙ sym d.size in
+        (q.0, omega (arith, q.1), omega (arith, q.0, p.fits), flags_low f d.text p.of.levels (reduced_good (monadic o u) (str f d.text) p.of.levels g d.becomes))
+
 pub text_way : (s : List ℕ) (at n f : ℕ) {l m : List ℕ} {r : Operand} {c : Chain} → Placed s at l → le16 s 4 ≡ 9 → Looks s c → c ≡ Text n f
-    → ((g : ℕ) (x : List ℕ) → part s (length s - n) (length s) ≡ encode (str g x) → f < 256 → (r ≡ done_at at (str f x)) × (m ≡ sets l at (encode (str f x))))
+    → ((g : ℕ) (x : List ℕ) → part s (length s - n) (length s) ≡ encode (str g x) → (r ≡ done_at at (str f x)) × (m ≡ sets l at (encode (str f x))))
     → Reduces at s l m (Ok r)
 text_way s at n f {l} {m} {r} p k w h q t i e g = go t (kind-is 9 t (sym (kind_of_lem s t e) ∙ k)) e g
   where
@@ -362,8 +362,7 @@ text_way s at n f {l} {m} {r} p k w h q t i e g = go t (kind-is 9 t (sym (kind_o
     go t (of_monadic o u) e g =
         let d = ends (monadic o u) n f (chain_way o u n f (sym (w o u e) ∙ h)) in
         let y = ends_part s (monadic o u) n f d e in
-        let z = reduced_good (monadic o u) (str f d.text) i g d.becomes in
-        let j = q d.flags d.text y.2 (flags_low f d.text i z) in
+        let j = q d.flags d.text y.2 in
         let v = reduced_short (monadic o u) (str f d.text) d.becomes in
         let b : at + length (encode (str f d.text)) ≤ length l = omega (arith, p.fits, ap length e) in
         done (str f d.text) r d.becomes refl (record { answers = j.0; holds = subst (λ (k : List ℕ). Holds at (encode (str f d.text)) l k) (sym j.1) (holds_sets at (encode (str f d.text)) l b) })

@@ -109,7 +109,7 @@ num_length m s = refl
 -- what is read of it, and what is written
 pub negated_num : {at n q x : ℕ} {l m e : List ℕ} {r : Operand} (v : Tree) (k : ℕ) → Holds (at + 8) (encode v) l m → Good v k → sort_number (sort_of v) ≡ 4 → at + 23 ≤ length m
     → q ≡ le64 m (at + 14) → ((z : ℤ) → nat_abs z ≤ mantissa_limit → q ≡ twos z → n ≡ twos (neg_ℤ z)) → (x ≡ get_or m (at + 22) 0) × (x < 256)
-    → ((z : ℤ) → n ≡ twos z → x < 256 → (r ≡ done_at at (num z x)) × (e ≡ sets m at (encode (num z x)))) → Writes at (minus v) l e r
+    → ((z : ℤ) → n ≡ twos z → (r ≡ done_at at (num z x)) × (e ≡ sets m at (encode (num z x)))) → Writes at (minus v) l e r
 unfolding minus Good
 negated_num {at} {n} {q} {x} {l} {m} {e} {r} v k h g f room eq opp ex put = go (is_num v f) h g
   where
@@ -119,7 +119,7 @@ negated_num {at} {n} {q} {x} {l} {m} {e} {r} v k h g f room eq opp ex put = go (
         let stands : drop (at + 8) m ≡ encode (num z s) ++ rest = holds_stands h in
         let scale : x ≡ s = ex.0 ∙ num_scale z s at m rest stands in
         let two : n ≡ twos (neg_ℤ z) = opp z g.1 (eq ∙ num_mantissa z s at m rest g.1 stands) in
-        let w = put (neg_ℤ z) two ex.1 in
+        let w = put (neg_ℤ z) two in
         let fits : at + length (encode (num (neg_ℤ z) s)) ≤ length m = omega (arith, room, num_length (neg_ℤ z) s) in
         rw (← scale) (record { answers = w.0; holds = rw w.1 (fold_over (num (neg_ℤ z) x) h (rw scale fits)) })
 

@@ -16,6 +16,7 @@ use Rattle.tree.specs.Limits.{mantissa_limit, tree_limit}
 use Rattle.tree.specs.Tree.{Tree, twos, null, bool, num, str, dyadic, encode}
 use Rattle.tree.specs.Parse.{got}
 use Rattle.std.specs.Prelude.{Result, Ok, Err}
+use Rattle.std.specs.Int.{from_bool}
 use Rattle.refusal.specs.declared.Refusal.{Refusal}
 use Rattle.refusal.specs.declared.Refusal.TheVariants.{ConstantOperands}
 use Rattle.reduce.specs.declared.Operand.{Operand}
@@ -41,22 +42,18 @@ pub null_written : {r : ℕ} (at : ℕ) (l : List ℕ) {m : List ℕ} → (r ≡
 unfolding done_at encode record_of sort_of
 null_written at l p = (ap (λ (i : ℕ). operand i sort.Null) p.0, p.1)
 
-pub true_written : {r : ℕ} {b : Bool} (at : ℕ) (l : List ℕ) {m : List ℕ} → b ≡ true → (r ≡ at + 7) × (m ≡ sets l at (3 ∷ 0 ∷ 0 ∷ 0 ∷ 2 ∷ 0 ∷ 1 ∷ []))
-    → (operand r (sort.Bool true) ≡ done_at at (bool b)) × (m ≡ sets l at (encode (bool b)))
+pub bool_written : {r x : ℕ} {b : Bool} (at : ℕ) (l : List ℕ) {m : List ℕ} → x ≡ from_bool b → (r ≡ at + 7) × (m ≡ sets l at (3 ∷ 0 ∷ 0 ∷ 0 ∷ 2 ∷ 0 ∷ x ∷ []))
+    → (operand r (sort.Bool b) ≡ done_at at (bool b)) × (m ≡ sets l at (encode (bool b)))
 unfolding done_at encode record_of sort_of
-true_written at l e p = rw e (ap (λ (i : ℕ). operand i (sort.Bool true)) p.0, p.1)
-
-pub false_written : {r : ℕ} {b : Bool} (at : ℕ) (l : List ℕ) {m : List ℕ} → b ≡ false → (r ≡ at + 7) × (m ≡ sets l at (3 ∷ 0 ∷ 0 ∷ 0 ∷ 2 ∷ 0 ∷ 0 ∷ []))
-    → (operand r (sort.Bool false) ≡ done_at at (bool b)) × (m ≡ sets l at (encode (bool b)))
-unfolding done_at encode record_of sort_of
-false_written at l e p = rw e (ap (λ (i : ℕ). operand i (sort.Bool false)) p.0, p.1)
+bool_written {b = true} at l e p = (ap (λ (i : ℕ). operand i (sort.Bool true)) p.0, p.1 ∙ rw e refl)
+bool_written {b = false} at l e p = (ap (λ (i : ℕ). operand i (sort.Bool false)) p.0, p.1 ∙ rw e refl)
 
 -- A Num.
 
-pub num_written : {r : Operand} (at n s : ℕ) (l : List ℕ) {m : List ℕ} (k : ℤ) → n ≡ twos k → s < 256 → (r ≡ operand (at + 15) sort.Num) × (m ≡ sets l at (num_of n s))
+pub num_written : {r : Operand} (at n s : ℕ) (l : List ℕ) {m : List ℕ} (k : ℤ) → n ≡ twos k → (r ≡ operand (at + 15) sort.Num) × (m ≡ sets l at (num_of n s))
     → (r ≡ done_at at (num k s)) × (m ≡ sets l at (encode (num k s)))
 unfolding done_at encode record_of sort_of
-num_written at n s l k e h p = let z : s % 256 ≡ s = omega arith in (p.0, p.1 ∙ rw (z, ← e) refl)
+num_written at n s l k e p = (p.0, p.1 ∙ rw (← e) refl)
 
 pub opposite_is : {n r : ℕ} (m : ℤ) → nat_abs m ≤ mantissa_limit → n ≡ twos m → (r + n) % 18446744073709551616 ≡ 0 → r < 18446744073709551616 → r ≡ twos (neg_ℤ m)
 unfolding twos
@@ -66,14 +63,13 @@ opposite_is (negsuc k) h e f g = omega (arith, e, f, g, h)
 
 -- A Str.
 
-pub str_written : {at r : ℕ} (f g y : ℕ) (x s l : List ℕ) {m : List ℕ} → s ≡ encode (str f x) → g < 256 → y ≡ g % 256 → at + length s ≤ length l → length l ≤ tree_limit
-    → Puts count_limit at (take 6 s ++ ((y ∷ []) ++ take (length s - 7) (drop 7 s))) l m r → (operand r sort.Str ≡ done_at at (str g x)) × (m ≡ sets l at (encode (str g x)))
+pub str_written : {at r : ℕ} (f g : ℕ) (x s l : List ℕ) {m : List ℕ} → s ≡ encode (str f x) → at + length s ≤ length l → length l ≤ tree_limit
+    → Puts count_limit at (take 6 s ++ ((g ∷ []) ++ take (length s - 7) (drop 7 s))) l m r → (operand r sort.Str ≡ done_at at (str g x)) × (m ≡ sets l at (encode (str g x)))
 unfolding done_at encode record_of sort_of
-str_written {at} f g y x s l e h i j k p =
-    let b : List ℕ = take 6 s ++ ((y ∷ []) ++ take (length s - 7) (drop 7 s)) in
-    let z : y ≡ g = omega (arith, h, i) in
+str_written {at} f g x s l e j k p =
+    let b : List ℕ = take 6 s ++ ((g ∷ []) ++ take (length s - 7) (drop 7 s)) in
     let d : take (length s - 7) (drop 7 s) ≡ drop 7 s = take_all (length s - 7) (drop 7 s) (rw length-drop (omega arith)) in
-    let t : b ≡ encode (str g x) = ap (λ (w : List ℕ). take 6 s ++ ((y ∷ []) ++ w)) d ∙ rw (e, z) refl in
+    let t : b ≡ encode (str g x) = ap (λ (w : List ℕ). take 6 s ++ ((g ∷ []) ++ w)) d ∙ rw e refl in
     let q : at + length b ≤ length l = omega (arith, j, ap length t, ap length e) in
     let w = put_whole b l q k p in
     (ap (λ (i : ℕ). operand i sort.Str) (w.0 ∙ ap (λ (u : List ℕ). at + length u) t), w.1 ∙ ap (λ (u : List ℕ). sets l at u) t)

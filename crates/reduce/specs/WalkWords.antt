@@ -1,6 +1,6 @@
 -- The contracts of the walk (src/walk.rt, src/chains.rt, src/leaves.rt, src/records.rt): what is written of a record into the room, and what is known of
 -- it then.
-use Rattle.std.specs.Prelude.{ℕ, Result, Ok, Err, suc, ◌+◌, ◌*◌, ◌%◌, ◌≤◌, ◌≡◌, List, [], ◌∷◌, ◌++◌, Bool, true, false, eqb, length, take, get_or}
+use Rattle.std.specs.Prelude.{ℕ, Result, Ok, Err, suc, ◌+◌, ◌*◌, ◌≤◌, ◌≡◌, List, [], ◌∷◌, ◌++◌, Bool, true, false, eqb, length, take, get_or}
 use Rattle.prelude.specs.Choice.{pick, both}
 use Rattle.refusal.specs.declared.Refusal.{Refusal}
 use Rattle.record.specs.Record.{le, le16}
@@ -52,7 +52,7 @@ head_of k o n = le 4 (suc (suc n) + 2) ++ (le 2 k ++ le 2 o)
 
 -- the record of a Num whose mantissa is these eight bytes
 abbrev pub num_of : ℕ → ℕ → List ℕ
-num_of n s = 11 ∷ 0 ∷ 0 ∷ 0 ∷ 3 ∷ 0 ∷ (le 8 n ++ (s % 256 ∷ []))
+num_of n s = 11 ∷ 0 ∷ 0 ∷ 0 ∷ 3 ∷ 0 ∷ (le 8 n ++ (s ∷ []))
 
 -- The room: a step at `at` leaves what stands before `at`, and behind it the bytes x; of what comes after nothing is said.
 pub record Holds (at : ℕ) (x entry exit : List ℕ) : Type 0 where

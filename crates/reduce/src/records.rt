@@ -1,4 +1,5 @@
-// How reduced records are written into a room that the caller does not see.
+// How reduced records are written into a room that the caller does not see. The room and the place stay two parameters: a head is written before operands
+// that stand already, or something over them, so a writer that stands at the end of what is written is no plainer.
 ghost use Rattle.std.specs.Prelude.{◌≡◌, true, List, ℕ, ◌+◌, ◌%◌, ◌≤◌, ◌<◌, ℤ, nat_abs, neg_ℤ, length};
 ghost use Rattle.std.proofs.lemmas.List.Edits.{sets};
 ghost use Rattle.op.specs.Op.{op_number};
@@ -23,12 +24,6 @@ pub(crate) const OPERAND: usize = 8;
 
 // Where a Str's text starts, past its flags.
 const TEXT: usize = 7;
-
-fn low(x: usize) -> u8
-    ensures { result ≡ x % 256 }
-{
-    (x % 256) as u8
-}
 
 // Lays s at `at`; answers the place after it.
 pub(crate) fn put(s: &[u8], room: &mut [u8], at: usize) -> usize
@@ -74,27 +69,20 @@ fn put_bool(b: bool, room: &mut [u8], at: usize) -> Operand
     requires { (at + 7 ≤ length room.old) × (length room.old ≤ tree_limit) }
     ensures { (result ≡ done_at at (bool b)) × (room.new ≡ sets room.old at (encode (bool b))) }
 {
-    if b {
-        let end = put(b"\x03\x00\x00\x00\x02\x00\x01", room, at);
-        return Operand {
-            end,
-            sort: Sort::Bool(true),
-        };
-    }
-    let end = put(b"\x03\x00\x00\x00\x02\x00\x00", room, at);
+    let end = put(&[3, 0, 0, 0, 2, 0, u8::from(b)], room, at);
     Operand {
         end,
-        sort: Sort::Bool(false),
+        sort: Sort::Bool(b),
     }
 }
 
 // A Num of these eight bytes and this scale.
 fn put_num(n: usize, scale: usize, room: &mut [u8], at: usize) -> Operand
-    requires { (at + 15 ≤ length room.old) × (length room.old ≤ tree_limit) }
+    requires { (at + 15 ≤ length room.old) × (length room.old ≤ tree_limit) × (scale < 256) }
     ensures { (result ≡ operand (at + 15) Num) × (room.new ≡ sets room.old at (num_of n scale)) }
 {
     let [a, b, c, d, e, f, g, h] = n.to_le_bytes();
-    let record = [11, 0, 0, 0, 3, 0, a, b, c, d, e, f, g, h, low(scale)];
+    let record = [11, 0, 0, 0, 3, 0, a, b, c, d, e, f, g, h, scale as u8];
     let end = put(&record, room, at);
     Operand {
         end,
@@ -114,10 +102,10 @@ fn negate(room: &mut [u8], at: usize) -> Operand
 
 // A Str's record with other flags.
 pub(crate) fn put_str(s: &[u8], flags: usize, room: &mut [u8], at: usize) -> Operand
-    requires { (7 ≤ length s.now) × (at + length s.now ≤ length room.old) × (length room.old ≤ tree_limit) }
-    ensures { (f : ℕ) (x : List ℕ) → s.now ≡ encode (str f x) → flags < 256 → (result ≡ done_at at (str flags x)) × (room.new ≡ sets room.old at (encode (str flags x))) }
+    requires { (7 ≤ length s.now) × (at + length s.now ≤ length room.old) × (length room.old ≤ tree_limit) × (flags < 256) }
+    ensures { (f : ℕ) (x : List ℕ) → s.now ≡ encode (str f x) → (result ≡ done_at at (str flags x)) × (room.new ≡ sets room.old at (encode (str flags x))) }
 {
-    let end = emit::put_all(&[&s[0..BODY], &[low(flags)], &s[TEXT..]], room, at);
+    let end = emit::put_all(&[&s[0..BODY], &[flags as u8], &s[TEXT..]], room, at);
     Operand {
         end,
         sort: Sort::Str,

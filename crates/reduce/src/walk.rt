@@ -1,4 +1,5 @@
 // The walk: each record is reduced and written once, its head last. A node and its operands are reduced by turns, each inside the other.
+// A kind stays its number here: it is read from a record and written into the next as it is, and `match` names it by tree's constants.
 ghost use Rattle.std.specs.Prelude.{◌≡◌, ℕ, Ok, ◌+◌, ◌≤◌, ◌<◌, length};
 ghost use Rattle.record.specs.Record.{le16};
 ghost use Rattle.op.specs.declared.Op.{Op};
@@ -73,9 +74,10 @@ fn items_at(s: &[u8], kind: usize) -> usize
     ensures { (t : Tree) → s.now ≡ encode t → kind ≡ le16 s.now 4 → FUNCTION ≤ kind → result ≡ 6 + length (name_of t) }
 {
     if kind == FUNCTION {
-        return NAME + record::byte_at(s, BODY);
+        NAME + record::byte_at(s, BODY)
+    } else {
+        BODY
     }
-    BODY
 }
 
 // Records one after the other; answers the place after them.
@@ -85,6 +87,7 @@ fn fold_list(s: &[u8], room: &mut [u8], at: usize) -> Result<usize, Refusal>
     ensures { (ts : Trees) (n : ℕ) → s.now ≡ encodes ts → AllGood ts n → Lists at (reduceds ts) room.old room.new result }
 {
     let mut here = at;
+    // A record says where it ends, so no iterator gives the next one.
     let mut p = 0;
     while p < s.len() {
         let z = p + KIND + record::dword_at(s, p);

@@ -9,4 +9,4 @@ returns c =
     λ v k l h g f. negated_num v k h g f c.requires.0
     c.qword_at.ensures.0
     (λ z i e. opposite_is z i e c.wrapping_neg-n.ensures (omega arith)) c.byte_at-scale.ensures
-    (λ z e i. num_written _ _ _ _ z e i c.put_num.ensures)
+    (λ z e. num_written _ _ _ _ z e c.put_num.ensures)

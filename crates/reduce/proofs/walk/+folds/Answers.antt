@@ -11,29 +11,8 @@ use Rattle.reduce.proofs.StepLaws as step
 use Rattle.reduce.proofs.ItemLaws as item
 use Rattle.reduce.proofs.walk.+folds.Goals as goal
 
-pub fold-fold_leaf-requires : goal.fold-fold_leaf-requires
-fold-fold_leaf-requires t c = c.requires
-
 pub fold-returns-then-kind-lt-MONADIC : goal.fold-returns-then-kind-lt-MONADIC
 fold-returns-then-kind-lt-MONADIC t c = λ u n e g. c.fold_leaf.ensures u n e g c.word_at-kind.ensures.0 c.if-kind-lt-MONADIC.true
-
-pub fold-fold_monadic-requires : goal.fold-fold_monadic-requires
-fold-fold_monadic-requires t c = (let m = c.decreases in omega arith, (c.requires, sym c.word_at-kind.ensures.0 ∙ c.in-9.is))
-
-pub fold-returns-in-9 : goal.fold-returns-in-9
-fold-returns-in-9 t c = c.fold_monadic.ensures
-
-pub fold-fold_dyadic-requires : goal.fold-fold_dyadic-requires
-fold-fold_dyadic-requires t c = (let m = c.decreases in omega arith, (c.requires, sym c.word_at-kind.ensures.0 ∙ c.in-10.is))
-
-pub fold-returns-in-10 : goal.fold-returns-in-10
-fold-returns-in-10 t c = c.fold_dyadic.ensures
-
-pub fold-fold_items-requires : goal.fold-fold_items-requires
-fold-fold_items-requires t c = (let m = c.decreases in omega arith, (c.requires, c.word_at-kind.ensures.0, omega (arith, c.if-kind-lt-MONADIC.false), c.word_at-kind.ensures.1))
-
-pub fold-returns-in_default : goal.fold-returns-in_default
-fold-returns-in_default t c = c.fold_items.ensures
 
 pub fold_dyadic-op_at-op-requires : goal.fold_dyadic-op_at-op-requires
 fold_dyadic-op_at-op-requires t c = step.two_operated c.args.s.now c.requires.0.of c.requires.1
@@ -43,9 +22,6 @@ fold_dyadic-overflow_add-m-2 t c = let q = step.middle_of c.args.s.now c.args.at
 
 pub fold_dyadic-slice_bounds-fold-end : goal.fold_dyadic-slice_bounds-fold-end
 fold_dyadic-slice_bounds-fold-end t c = let q = step.middle_of c.args.s.now c.args.at _ c.args.room.now c.requires.0 c.requires.1 c.dword_at.ensures.0 in omega (arith, q.1)
-
-pub fold_dyadic-overflow_add-at : goal.fold_dyadic-overflow_add-at
-fold_dyadic-overflow_add-at t c = omega (arith, c.requires.0.fits, c.requires.0.small)
 
 pub fold_dyadic-fold-requires : goal.fold_dyadic-fold-requires
 fold_dyadic-fold-requires t c = (let q = step.middle_of c.args.s.now c.args.at _ c.args.room.now c.requires.0 c.requires.1 c.dword_at.ensures.0 in let m = c.decreases in let h = part_length c.args.s.now 8 (12 + c.dword_at.result) (omega arith) (omega (arith, q.1)) in omega (arith, q.1), step.first-placed c.args.s.now c.args.at _ c.args.room.now c.requires.0 c.requires.1 c.dword_at.ensures.0)
@@ -79,9 +55,6 @@ fold_items-slice_bounds-put-start t c = let q = item.items_start c.args.s.now c.
 
 pub fold_items-slice_bounds-put-end : goal.fold_items-slice_bounds-put-end
 fold_items-slice_bounds-put-end t c = let q = item.items_start c.args.s.now c.args.at c.args.kind _ c.args.room.now c.items_at-p.ensures c.requires.1 c.requires.2 c.requires.0 in omega (arith, q.1)
-
-pub fold_items-overflow_add-at : goal.fold_items-overflow_add-at
-fold_items-overflow_add-at t c = omega (arith, c.requires.0.fits, c.requires.0.small)
 
 pub fold_items-put-from-requires : goal.fold_items-put-from-requires
 fold_items-put-from-requires t c = (item.name-room c.args.s.now c.args.at c.args.kind _ c.args.room.now c.items_at-p.ensures c.requires.1 c.requires.2 c.requires.0, c.requires.0.small)
@@ -143,14 +116,11 @@ fold_list-loop-p-preserved t c = (c.fold.auto.room ∙ c.loop-p.invariant.0, ite
 pub fold_list-returns : goal.fold_list-returns
 fold_list-returns t c = item.list_ends c.args.s.now c.args.at _ _ c.args.room.now _ c.requires c.loop-p.invariant.1 (omega arith)
 
-pub fold_monadic-chain-requires : goal.fold_monadic-chain-requires
-fold_monadic-chain-requires t c = (c.requires.0.of, c.requires.1)
-
 pub fold_monadic-overflow_sub-s : goal.fold_monadic-overflow_sub-s
 fold_monadic-overflow_sub-s t c = let q = step.text_room c.args.s.now c.args.at _ _ c.args.room.now c.requires.0 c.requires.1 c.chain.ensures c.in-Text.is in omega (arith, q.0)
 
 pub fold_monadic-put_str-requires : goal.fold_monadic-put_str-requires
-fold_monadic-put_str-requires t c = let q = step.text_room c.args.s.now c.args.at _ _ c.args.room.now c.requires.0 c.requires.1 c.chain.ensures c.in-Text.is in (q.1, q.2, c.requires.0.small)
+fold_monadic-put_str-requires t c = let q = step.text_room c.args.s.now c.args.at _ _ c.args.room.now c.requires.0 c.requires.1 c.chain.ensures c.in-Text.is in (q.1, q.2, c.requires.0.small, q.3)
 
 pub fold_monadic-slice_bounds-fold-count : goal.fold_monadic-slice_bounds-fold-count
 fold_monadic-slice_bounds-fold-count t c = let h = below_length c.args.s.now c.requires.0.of c.requires.1 in omega arith
@@ -160,9 +130,6 @@ fold_monadic-slice_bounds-fold-start t c = let h = below_length c.args.s.now c.r
 
 pub fold_monadic-fold-requires : goal.fold_monadic-fold-requires
 fold_monadic-fold-requires t c = (let h = below_length c.args.s.now c.requires.0.of c.requires.1 in let m = c.decreases in let k = part_length c.args.s.now 8 (length c.args.s.now) (omega arith) (omega arith) in omega arith, step.twin-placed c.args.s.now c.args.at c.args.room.now c.requires.0 c.requires.1)
-
-pub fold_monadic-fold_operand-requires : goal.fold_monadic-fold_operand-requires
-fold_monadic-fold_operand-requires t c = (let m = c.decreases in omega arith, c.requires)
 
 pub fold_monadic-returns-in-Text : goal.fold_monadic-returns-in-Text
 fold_monadic-returns-in-Text t c = step.text_way c.args.s.now c.args.at _ _ c.requires.0 c.requires.1 c.chain.ensures c.in-Text.is c.put_str.ensures
@@ -181,9 +148,6 @@ fold_operand-slice_bounds-fold-count t c = let h = below_length c.args.s.now c.r
 
 pub fold_operand-slice_bounds-fold-start : goal.fold_operand-slice_bounds-fold-start
 fold_operand-slice_bounds-fold-start t c = let h = below_length c.args.s.now c.requires.0.of c.requires.1 in omega arith
-
-pub fold_operand-overflow_add-at : goal.fold_operand-overflow_add-at
-fold_operand-overflow_add-at t c = omega (arith, c.requires.0.fits, c.requires.0.small)
 
 pub fold_operand-fold-requires : goal.fold_operand-fold-requires
 fold_operand-fold-requires t c = (let h = below_length c.args.s.now c.requires.0.of c.requires.1 in let m = c.decreases in let k = part_length c.args.s.now 8 (length c.args.s.now) (omega arith) (omega arith) in omega arith, step.operand_placed c.args.s.now c.args.at c.args.room.now c.requires.0 c.requires.1)
