@@ -2,14 +2,14 @@
 use crate::cases::{Turn, of_byte};
 use crate::lines::say;
 use std::io;
-use truth::Reading;
+use refusal::Refusal;
 
-fn code(r: Reading) -> u8 {
+fn code(r: Result<Option<bool>, Refusal>) -> u8 {
     match r {
-        Reading::False => 0,
-        Reading::True => 1,
-        Reading::Unknown => 2,
-        Reading::Refused(x) => u8::from(x),
+        Ok(Some(false)) => 0,
+        Ok(Some(true)) => 1,
+        Ok(None) => 2,
+        Err(x) => u8::from(x),
     }
 }
 
