@@ -9,7 +9,7 @@ use mir.Syntax.{w32, w64}
 use mir.Val.{SFits, to_z, of_z}
 use mir.Facts.{to_z_pos, to_z-of_z}
 use borrow.Author.Tests.{lt-ltb}
-use Rattle.std.specs.Prelude.{Result, Ok}
+use Rattle.std.specs.Prelude.{Result, Ok, Err}
 use Rattle.refusal.specs.declared.Refusal.{Refusal}
 use Rattle.refusal.specs.declared.Refusal.TheVariants.{BadSettings, TreeTooLong, BadFrame, TooDeep, BadKindOrOperator, BadField, BadOperand, TextTooLong, BufferTooShort, InputTooLong, BadRow, BadText, MissingColumn, ConstantOperands}
 use Rattle.refusal.specs.Number.{number_of}
@@ -19,8 +19,6 @@ use Rattle.tree.specs.Limits.{planner}
 use Rattle.tree.specs.Tree.{Bytes}
 use Rattle.tree.specs.AcceptedLaws.{tree_is}
 use Rattle.tree.specs.Parse.{Read, refused, got}
-use Rattle.text.specs.declared.Lowered.{Lowered}
-use Rattle.text.specs.declared.Lowered.TheVariants.{Text, Refused}
 use Rattle.tree.specs.Written.{Heard, refusal}
 use Rattle.text.specs.Lowered.{answer, heard, lowering_within}
 use Rattle.text.specs.LoweredLaws.{given}
@@ -77,8 +75,8 @@ pub length_back : (n : ℕ) → n ≤ 65535 → to_z w64 n ≡ pos n
 length_back n h = to_z_pos w64 {n = n} (omega arith)
 
 -- so the answer of each writing call and of each preview is short, be it the planner's or the controller's
-pub short_answer : (limits : Limits) (w : Writing) (settings tree : List ℕ) (room : ℕ) {found : Lowered} → limits.text ≤ 65535 → found ≡ answer (lowering_within limits w settings tree room) → length_of found ≤ 65535
-short_answer limits w settings tree room h e = subst (λ (l : Lowered). length_of l ≤ 65535) (sym e) (omega (arith, short limits w settings tree room))
+pub short_answer : (limits : Limits) (w : Writing) (settings tree : List ℕ) (room : ℕ) {found : Result ℕ Refusal} → limits.text ≤ 65535 → found ≡ answer (lowering_within limits w settings tree room) → length_of found ≤ 65535
+short_answer limits w settings tree room h e = subst (λ (l : Result ℕ Refusal). length_of l ≤ 65535) (sym e) (omega (arith, short limits w settings tree room))
 
 -- a number of at most five digits, of either sign, fits
 small-fits : (z : ℤ) → nat_abs z ≤ 65535 → SFits w64 z
@@ -101,12 +99,12 @@ refusal_small BadText = omega arith
 refusal_small MissingColumn = omega arith
 refusal_small ConstantOperands = omega arith
 
-number_fits : (l : Lowered) → length_of l ≤ 65535 → SFits w64 (lowering_number (heard l))
-number_fits (Text n) h = length-fits n h
-number_fits (Refused r) h = small-fits (lowering_number (refusal (number_of r))) (refusal_small r)
+number_fits : (l : Result ℕ Refusal) → length_of l ≤ 65535 → SFits w64 (lowering_number (heard l))
+number_fits (Ok n) h = length-fits n h
+number_fits (Err r) h = small-fits (lowering_number (refusal (number_of r))) (refusal_small r)
 
 -- the number of an answer, read back from an i64, is that of what is heard
-pub said-back : (l : Lowered) {z : ℤ} {said : Heard} → z ≡ lowering_number (heard l) → heard l ≡ said → length_of l ≤ 65535 → to_z w64 (of_z w64 z) ≡ lowering_number said
+pub said-back : (l : Result ℕ Refusal) {z : ℤ} {said : Heard} → z ≡ lowering_number (heard l) → heard l ≡ said → length_of l ≤ 65535 → to_z w64 (of_z w64 z) ≡ lowering_number said
 said-back l e f h = ap (λ (z : ℤ). to_z w64 (of_z w64 z)) e ∙ to_z-of_z (number_fits l h) ∙ ap lowering_number f
 
 -- No reduced tree is longer than its tree, nor an accepted tree than the limit.

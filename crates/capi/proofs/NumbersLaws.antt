@@ -1,11 +1,9 @@
 -- Two different answers never give the same number: from the number the answer is found again.
-use Rattle.std.specs.Prelude.{ℕ, Result, Ok, Err, zero, suc, ◌≡◌, refl, [], ◌∷◌, get_or, ℤ, pos, negsuc}
+use Rattle.std.specs.Prelude.{ℕ, zero, suc, ◌≡◌, refl, [], ◌∷◌, get_or, ℤ, pos, negsuc, Result, Ok, Err}
 use Rattle.std.proofs.Common.{sym, ap, ◌∙◌}
 use Rattle.refusal.specs.declared.Refusal.{Refusal}
 use Rattle.refusal.specs.declared.Refusal.TheVariants.{BadSettings, TreeTooLong, BadFrame, TooDeep, BadKindOrOperator, BadField, BadOperand, TextTooLong, BufferTooShort, InputTooLong, BadRow, BadText, MissingColumn, ConstantOperands}
 use Rattle.refusal.specs.Number.{number_of}
-use Rattle.text.specs.declared.Lowered.{Lowered}
-use Rattle.text.specs.declared.Lowered.TheVariants.{Text, Refused as NoText}
 use Rattle.text.specs.Lowered as lowered
 use Rattle.reduce.specs.Reducing as reduced
 use Rattle.truth.specs.declared.Reading.{Reading}
@@ -48,9 +46,9 @@ truth_by zero = False
 truth_by (suc zero) = True
 truth_by (suc (suc n)) = Unknown
 
-abbrev pub lowered_by : ℤ → Lowered
-lowered_by (pos n) = Text n
-lowered_by (negsuc n) = NoText (refusal_at n)
+abbrev pub lowered_by : ℤ → Result ℕ Refusal
+lowered_by (pos n) = Ok n
+lowered_by (negsuc n) = Err (refusal_at n)
 
 abbrev pub reduced_by : ℤ → Result ℕ Refusal
 reduced_by = answer-by Ok Err
@@ -61,9 +59,9 @@ read_by (pos (suc zero)) = True
 read_by (pos (suc (suc n))) = Unknown
 read_by (negsuc n) = NoTruth (refusal_at n)
 
-pub lowered_back : (r : Lowered) → lowered_by (lowering_number (lowered.heard r)) ≡ r
-lowered_back (Text n) = refl
-lowered_back (NoText r) = refused_back Text NoText r
+pub lowered_back : (r : Result ℕ Refusal) → lowered_by (lowering_number (lowered.heard r)) ≡ r
+lowered_back (Ok n) = refl
+lowered_back (Err r) = refused_back Ok Err r
 
 pub reduced_back : (r : Result ℕ Refusal) → reduced_by (lowering_number (reduced.heard r)) ≡ r
 reduced_back (Ok n) = refl
@@ -75,7 +73,7 @@ read_back False = refl
 read_back Unknown = refl
 read_back (NoTruth r) = refused_back truth_by NoTruth r
 
-pub lowered_apart : (r s : Lowered) → lowering_number (lowered.heard r) ≡ lowering_number (lowered.heard s) → r ≡ s
+pub lowered_apart : (r s : Result ℕ Refusal) → lowering_number (lowered.heard r) ≡ lowering_number (lowered.heard s) → r ≡ s
 lowered_apart r s e = sym (lowered_back r) ∙ ap lowered_by e ∙ lowered_back s
 
 pub reduced_apart : (r s : Result ℕ Refusal) → lowering_number (reduced.heard r) ≡ lowering_number (reduced.heard s) → r ≡ s

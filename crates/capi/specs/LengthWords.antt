@@ -1,8 +1,7 @@
 -- The length that an answer of lowering tells (src/lib.rt).
-use Rattle.std.specs.Prelude.{ℕ}
-use Rattle.text.specs.declared.Lowered.{Lowered}
-use Rattle.text.specs.declared.Lowered.TheVariants.{Text, Refused}
+use Rattle.std.specs.Prelude.{ℕ, Result, Ok, Err}
+use Rattle.refusal.specs.declared.Refusal.{Refusal}
 
-abbrev pub length_of : Lowered → ℕ
-length_of (Text n) = n
-length_of (Refused r) = 0
+abbrev pub length_of : Result ℕ Refusal → ℕ
+length_of (Ok n) = n
+length_of (Err r) = 0

@@ -13,7 +13,6 @@ ghost use Rattle.truth.specs.Reading as reading;
 ghost use Rattle.capi.specs.LengthWords.{length_of};
 ghost use Rattle.capi.specs.Numbers.{minus, lowering_number, reading_number};
 
-use gpkg::Lowered;
 use literal::Writing;
 use refusal::Refusal;
 
@@ -25,13 +24,13 @@ fn negative(r: Refusal) -> i32
 }
 
 // The text's length, or minus the number of a refusal.
-fn number(lowered: Lowered) -> i64
+fn number(lowered: Result<usize, Refusal>) -> i64
     requires { length_of lowered ≤ length_limit }
     ensures { result ≡ lowering_number (heard lowered) }
 {
     match lowered {
-        Lowered::Text(n) => n as i64,
-        Lowered::Refused(r) => negative(r) as i64,
+        Ok(n) => n as i64,
+        Err(r) => negative(r) as i64,
     }
 }
 

@@ -4,22 +4,12 @@ use mathlib.Core.Path.{◌≡◌, refl, ap, sym, ◌∙◌}
 use mathlib.Core.List.{List, [], ◌∷◌}
 use mathlib.Core.Bool.{Bool, true, false, ◌&&◌}
 use native.Mathlib.Omega.{arith}
-use lib.ListN.{length, get_or, take, drop}
+use lib.ListN.{length, get_or, take, drop, length-take, length-drop}
 use lib.Seq.{take_all}
 use borrow.Author.Tests.{le-leb, lt-leb}
-use Rattle.prelude.specs.Choice.{pick, both, either, all}
+use Rattle.prelude.specs.Choice.{either, all}
 use Rattle.charset.specs.Charset.{digit, name_start, name_byte, name}
 use Rattle.charset.specs.Named.{past, named_at}
-
--- a test chosen by itself
-pub itself : (t : Bool) → t ≡ pick t true false
-itself true = refl
-itself false = refl
-
--- one of two tests holds
-pub always : (t : Bool) → true ≡ pick t true true
-always true = refl
-always false = refl
 
 -- the first byte of a name may stand at any place of it
 pub rest_tells : (s : List ℕ) → 1 ≤ length s → name_start (get_or s 0 0) ≡ true → all name_byte (take (length s - 1) (drop 1 s)) ≡ all name_byte s
@@ -34,8 +24,12 @@ module _ (s : List ℕ) (i : ℕ) where
   unfolding named_at
   named_out h = simp (lt-leb (past s i) (length s) h)
 
-  pub named_in : (n : ℕ) → n ≡ get_or s i 0 → past s i ≤ length s → name (take (i + 1 + n - (i + 1)) (drop (i + 1) s)) ≡ named_at s i
+  -- the n bytes of what stands behind the length byte, n being what it says
+  pub named_in : (n : ℕ) (w : List ℕ) → n ≡ get_or s i 0 → i < length s → n ≤ length (take (length s - (i + 1)) (drop (i + 1) s))
+      → w ≡ take (n - 0) (drop 0 (take (length s - (i + 1)) (drop (i + 1) s))) → name w ≡ named_at s i
   unfolding named_at
-  named_in n e h =
-      let f : i + 1 + n - (i + 1) ≡ get_or s i 0 = omega arith in
-      simp (le-leb (past s i) (length s) h, f)
+  named_in n w e l h q =
+      let f : take (length s - (i + 1)) (drop (i + 1) s) ≡ drop (i + 1) s = take_all (length s - (i + 1)) (drop (i + 1) s) (omega (arith, length-drop (i + 1) s)) in
+      let k : past s i ≤ length s = omega (arith, h, length-take (length s - (i + 1)) (drop (i + 1) s), length-drop (i + 1) s) in
+      let m : n - 0 ≡ get_or s i 0 = omega arith in
+      simp (q, f, m, le-leb (past s i) (length s) k)

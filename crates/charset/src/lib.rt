@@ -1,7 +1,7 @@
 #![tactic(auto)]
 
-ghost use Rattle.std.specs.Prelude.{◌≡◌, ◌<◌};
-ghost use Rattle.prelude.specs.Choice.{between, all};
+ghost use Rattle.std.specs.Prelude.{◌≡◌};
+ghost use Rattle.prelude.specs.Choice.{all};
 ghost use Rattle.charset.specs.Charset.{letter, digit, name_start, name_byte, free_word, name, spatial_byte, spatial_text};
 ghost use Rattle.charset.specs.Named.{named_at};
 ghost use Rattle.charset.specs.ClassWords.{class_byte};
@@ -17,65 +17,40 @@ pub enum Class {
     Spatial,
 }
 
-fn within(lo: u8, b: u8, hi: u8) -> bool
-    ensures { result ≡ between lo b hi }
-{
-    if lo <= b { b <= hi } else { false }
-}
-
+#[tactic(auto, unfolding(crate::specs::Charset::letter))]
 fn is_letter(b: u8) -> bool
     ensures { result ≡ letter b }
 {
-    if within(b'A', b, b'Z') {
-        return true;
-    }
-    within(b'a', b, b'z')
+    b.is_ascii_alphabetic()
 }
 
+#[tactic(auto, unfolding(crate::specs::Charset::digit))]
 fn is_digit(b: u8) -> bool
     ensures { result ≡ digit b }
 {
-    within(b'0', b, b'9')
+    b.is_ascii_digit()
 }
 
+#[tactic(auto, unfolding(crate::specs::Charset::name_start))]
 pub fn is_name_start(b: u8) -> bool
     ensures { result ≡ name_start b }
 {
-    if b == b'_' {
-        return true;
-    }
-    is_letter(b)
+    is_letter(b) || b == b'_'
 }
 
 // Most bytes of names are letters and digits, so the underscore is looked for last.
+#[tactic(auto, unfolding(crate::specs::Charset::name_start, crate::specs::Charset::name_byte))]
 fn is_name_byte(b: u8) -> bool
     ensures { result ≡ name_byte b }
 {
-    if is_letter(b) {
-        return true;
-    }
-    if is_digit(b) {
-        return true;
-    }
-    b == b'_'
+    is_letter(b) || is_digit(b) || b == b'_'
 }
 
+#[tactic(auto, unfolding(crate::specs::Charset::spatial_byte))]
 fn is_spatial_byte(b: u8) -> bool
     ensures { result ≡ spatial_byte b }
 {
-    if is_letter(b) {
-        return true;
-    }
-    if is_digit(b) {
-        return true;
-    }
-    if b == b' ' {
-        return true;
-    }
-    if within(b'(', b, b')') {
-        return true;
-    }
-    within(b',', b, b'.')
+    is_letter(b) || is_digit(b) || matches!(b, b' ' | b'(' | b')' | b','..=b'.')
 }
 
 // Whether a byte is of a class.
@@ -89,85 +64,47 @@ pub fn is_of(class: Class, b: u8) -> bool
     }
 }
 
-fn are_all(class: Class, s: &[u8]) -> bool
-    ensures { result ≡ all (class_byte class) s.now }
-{
-    let mut i = 0;
-    while i < s.len() {
-        if is_of(class, s[i]) {
-            i += 1;
-        } else {
-            return false;
-        }
-    }
-    true
-}
-
-// In a function of its own, so that the loop is compiled for this class.
 fn are_name_bytes(s: &[u8]) -> bool
     ensures { result ≡ all name_byte s.now }
 {
-    are_all(Class::Name, s)
+    s.iter().all(|&b| is_name_byte(b))
 }
 
 // Every byte may stand in a Spatial text.
 pub fn is_spatial_text(s: &[u8]) -> bool
     ensures { result ≡ spatial_text s.now }
 {
-    are_all(Class::Spatial, s)
+    s.iter().all(|&b| is_spatial_byte(b))
 }
 
 // What is left of the name rule for a word of name bytes that begins as a name does: its length, and that it is not reserved.
 pub fn is_free_word(s: &[u8]) -> bool
     ensures { result ≡ free_word s.now }
 {
-    if NAME_LIMIT < s.len() {
-        return false;
-    }
-    if keyword::is_reserved(s) {
-        return false;
-    }
-    true
+    s.len() <= NAME_LIMIT && !keyword::is_reserved(s)
 }
 
 // A name that the settings, a tree, a row or an SQL text may hold.
+#[tactic(auto, using(crate::proofs::Laws::rest_tells), unfolding(crate::specs::Charset::name))]
 pub fn is_name(s: &[u8]) -> bool
     ensures { result ≡ name s.now }
 {
-    if s.len() < 1 {
-        return false;
-    }
-    if NAME_LIMIT < s.len() {
-        return false;
-    }
-    if is_name_start(s[0]) {
-        if are_name_bytes(&s[1..]) {
-            if keyword::is_reserved(s) {
-                return false;
-            }
-            return true;
-        }
-    }
-    false
-}
-
-fn wide(x: u8) -> usize
-    ensures { (result ≡ x) × (result < 256) }
-{
-    x as usize
+    !s.is_empty()
+        && s.len() <= NAME_LIMIT
+        && is_name_start(s[0])
+        && are_name_bytes(&s[1..])
+        && !keyword::is_reserved(s)
 }
 
 // A length byte at i and as many bytes after it that are a name.
 pub fn named_at(s: &[u8], i: usize) -> bool
     ensures { result ≡ named_at s.now i }
 {
-    if i < s.len() {
-        let n = wide(s[i]);
-        if n < s.len() - i {
-            let from = i + 1;
-            let to = from + n;
-            return is_name(&s[from..to]);
-        }
+    let Some(&n) = s.get(i) else {
+        return false;
+    };
+    match s[i + 1..].get(..usize::from(n)) {
+        Some(word) => is_name(word),
+        None => false,
     }
-    false
 }

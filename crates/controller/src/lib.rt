@@ -8,7 +8,7 @@ ghost use Rattle.literal.specs.declared.Writing.TheVariants.{Rust, GeoPackage};
 ghost use Rattle.controller.specs.Controller.{controller};
 
 use literal::Writing;
-pub use text::Lowered;
+use refusal::Refusal;
 use tree::Limits;
 
 // Its limits: document 02, slip 7.
@@ -19,7 +19,7 @@ const CONTROLLER: Limits = Limits {
 };
 
 // Lowers a tree as `gpkg::to_sql` does; refusals 2, 4 and 8 mean the controller's limits.
-pub fn to_sql(settings: &[u8], tree: &[u8], out: &mut [u8]) -> Lowered
+pub fn to_sql(settings: &[u8], tree: &[u8], out: &mut [u8]) -> Result<usize, Refusal>
     ensures says { result ≡ answer (lowering_within controller Rust settings.now tree.now (length out.old)) }
     ensures bytes { out.new ≡ leaves out.old (lowering_within controller Rust settings.now tree.now (length out.old)) }
     ensures hears { heard result ≡ said (lowering_within controller Rust settings.now tree.now (length out.old)) }
@@ -28,7 +28,7 @@ pub fn to_sql(settings: &[u8], tree: &[u8], out: &mut [u8]) -> Lowered
 }
 
 // Lowers a tree as `gpkg::to_geopackage_sql` does; 2, 4 and 8 as above.
-pub fn to_geopackage_sql(settings: &[u8], tree: &[u8], out: &mut [u8]) -> Lowered
+pub fn to_geopackage_sql(settings: &[u8], tree: &[u8], out: &mut [u8]) -> Result<usize, Refusal>
     ensures says { result ≡ answer (lowering_within controller GeoPackage settings.now tree.now (length out.old)) }
     ensures bytes { out.new ≡ leaves out.old (lowering_within controller GeoPackage settings.now tree.now (length out.old)) }
     ensures hears { heard result ≡ said (lowering_within controller GeoPackage settings.now tree.now (length out.old)) }
@@ -37,7 +37,12 @@ pub fn to_geopackage_sql(settings: &[u8], tree: &[u8], out: &mut [u8]) -> Lowere
 }
 
 // What the controller's call of this writing answers with a buffer of this size; nothing is written.
-pub fn preview(writing: Writing, settings: &[u8], tree: &[u8], size: usize) -> Lowered
+pub fn preview(
+    writing: Writing,
+    settings: &[u8],
+    tree: &[u8],
+    size: usize,
+) -> Result<usize, Refusal>
     ensures says { result ≡ answer (lowering_within controller writing settings.now tree.now size) }
     ensures hears { heard result ≡ said (lowering_within controller writing settings.now tree.now size) }
 {

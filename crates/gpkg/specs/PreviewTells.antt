@@ -1,6 +1,6 @@
 -- What a preview tells of writing: document 02, slip 6. The contracts cite `lowering_within`, `lowering` being it at the
 -- planner's limits, so one proof over limits and writing serves every call.
-use Rattle.std.specs.Prelude.{ℕ, ◌≤◌, ◌<◌, ◌≡◌, List, ◌++◌, length, drop}
+use Rattle.std.specs.Prelude.{ℕ, ◌≤◌, ◌<◌, ◌≡◌, List, ◌++◌, length, drop, Result, Ok, Err}
 use Rattle.std.proofs.Math.Path.{refl}
 use Rattle.std.proofs.Common.{sym, ap, ◌∙◌, arith}
 use Rattle.refusal.specs.declared.Refusal.{Refusal}
@@ -12,8 +12,6 @@ use Rattle.tree.specs.Parse.{Read, refused, got, also}
 use Rattle.tree.specs.Accepted.{accepted}
 use Rattle.room.specs.RoomLaws.{no_room, has_room, ample}
 use Rattle.text.specs.Text.{text}
-use Rattle.text.specs.declared.Lowered.{Lowered}
-use Rattle.text.specs.declared.Lowered.TheVariants.{Text, Refused}
 use Rattle.tree.specs.Written.{leaves}
 use Rattle.text.specs.Lowered.{answer, fitted, lowering_within}
 use Rattle.text.specs.LoweredLaws.{Given, given, at_room, fitted_got}
@@ -21,13 +19,13 @@ use Rattle.text.specs.LoweredLaws.{Given, given, at_room, fitted_got}
 -- "the length or the refusal that writing into such a buffer would give": p is what a preview answers, r what writing answers, into `lent`, which it
 -- leaves as `left`. A length is that of the text of accepted settings and tree, which then stands before the other bytes as lent; with a refusal all
 -- are as lent.
-pub record Tells (limits : Limits) (w : Writing) (settings tree : List ℕ) (p r : Lowered) (lent left : List ℕ) : Type 0 where
+pub record Tells (limits : Limits) (w : Writing) (settings tree : List ℕ) (p r : Result ℕ Refusal) (lent left : List ℕ) : Type 0 where
   pub alike : p ≡ r
-  pub length-told : (n : ℕ) → p ≡ Text n → (x : List ℕ) × (Given limits w settings tree x × ((length x ≡ n) × ((n ≤ length lent) × (left ≡ x ++ drop n lent))))
-  pub refusal_told : (e : Refusal) → p ≡ Refused e → left ≡ lent
+  pub length-told : (n : ℕ) → p ≡ Ok n → (x : List ℕ) × (Given limits w settings tree x × ((length x ≡ n) × ((n ≤ length lent) × (left ≡ x ++ drop n lent))))
+  pub refusal_told : (e : Refusal) → p ≡ Err e → left ≡ lent
 
 -- Slip 6, for every input: the preview at the size of whatever is lent, by its contract, and the writing call, by its own.
-pub preview_tells : (limits : Limits) (w : Writing) (settings tree lent left : List ℕ) (size : ℕ) (p r : Lowered)
+pub preview_tells : (limits : Limits) (w : Writing) (settings tree lent left : List ℕ) (size : ℕ) (p r : Result ℕ Refusal)
     → size ≡ length lent
     → p ≡ answer (lowering_within limits w settings tree size)
     → r ≡ answer (lowering_within limits w settings tree (length lent))
@@ -42,7 +40,7 @@ preview_tells limits w settings tree lent left size p r s a b c =
       refusal_told = λ n e. of_refusal (lowering_within limits w settings tree (length lent)) n (sym e ∙ d) c;
     }
   where
-    of_length : (l : Read (List ℕ)) (n : ℕ) → lowering_within limits w settings tree (length lent) ≡ l → Text n ≡ answer l → left ≡ leaves lent l
+    of_length : (l : Read (List ℕ)) (n : ℕ) → lowering_within limits w settings tree (length lent) ≡ l → Ok n ≡ answer l → left ≡ leaves lent l
         → (x : List ℕ) × (Given limits w settings tree x × ((length x ≡ n) × ((n ≤ length lent) × (left ≡ x ++ drop n lent))))
     of_length (refused e) n y q z = absurd (let v : ◌≡◌ {A = ℕ} 0 1 = cc in let u : ⊥ = omega arith in u)
     of_length (got x) n y q z =
@@ -51,7 +49,7 @@ preview_tells limits w settings tree lent left size p r s a b c =
         let f = fitted_got limits.text (length lent) x x (sym (at_room limits w settings tree x (length lent) g) ∙ y) in
         (x, (g, (v, (omega (arith, f.enough), z ∙ ap (λ (k : ℕ). x ++ drop k lent) v))))
 
-    of_refusal : (l : Read (List ℕ)) (n : Refusal) → Refused n ≡ answer l → left ≡ leaves lent l → left ≡ lent
+    of_refusal : (l : Read (List ℕ)) (n : Refusal) → Err n ≡ answer l → left ≡ leaves lent l → left ≡ lent
     of_refusal (refused e) n q z = z
     of_refusal (got x) n q z = absurd (let v : ◌≡◌ {A = ℕ} 0 1 = cc in let u : ⊥ = omega arith in u)
 

@@ -1,5 +1,8 @@
 -- A text written with its apostrophes doubled, byte by byte: how long it is up to a place, and what one byte more lays.
-use Prim.Native.Nat.{ℕ, ◌+◌, ◌≤◌, ◌<◌}
+use Rattle.std.proofs.Common.{count_by, cond, ◌||◌, true≢false}
+use Rattle.std.specs.List.{list_any}
+use Rattle.std.proofs.lemmas.List.Sums.{sum_by-cons}
+use Prim.Native.Nat.{ℕ, min, ◌+◌, ◌≤◌, ◌<◌}
 use mathlib.Core.Path.{◌≡◌, refl, sym, ap, ◌∙◌}
 use mathlib.Core.List.{List, [], ◌∷◌, ◌++◌}
 use mathlib.Core.Bool.{Bool, true, false}
@@ -11,11 +14,30 @@ use lib.Seq.{take-suc, take_all, sets, length-sets}
 use Rattle.prelude.specs.Choice.{pick}
 use Rattle.prelude.specs.Bytes.{apostrophe}
 use Rattle.string.specs.Quote.{doubled}
-use Rattle.string.specs.QuoteLaws.{doubled-append, doubled_mark, doubled_other, doubled_longer}
+use Rattle.string.specs.QuoteLaws.{doubled-append, doubled_mark, doubled_other}
 use Rattle.literal.specs.Literal.{quoted}
 use Rattle.literal.specs.LiteralLaws.{length-quoted}
-use Rattle.emit.specs.Emit.{count_limit, ended, Puts}
-use Rattle.emit.specs.EmitLaws.{sets_append, placed_over, Wrote}
+use Rattle.emit.specs.EmitLaws.{sets_append, Wrote}
+
+-- one byte more for each apostrophe
+pub length-doubled : (s : List ℕ) → length (doubled s) ≡ length s + count_by (λ (b : ℕ). eqb b apostrophe) s
+unfolding doubled
+length-doubled [] = omega arith
+length-doubled (b ∷ s) = go (eqb b apostrophe) _ _ (sum_by-cons (λ (x : ℕ). cond (eqb x apostrophe) 1 0) b s) (length-doubled s)
+  where
+    go : (t : Bool) (n m : ℕ) → m ≡ cond t 1 0 + n → length (doubled s) ≡ length s + n → length (pick t (b ∷ (b ∷ doubled s)) (b ∷ doubled s)) ≡ length (b ∷ s) + m
+    go true n m e h = omega arith
+    go false n m e h = omega arith
+
+-- a text with no apostrophe stays as it is
+pub none_doubled : (s : List ℕ) → list_any (λ (b : ℕ). eqb b apostrophe) s ≡ false → doubled s ≡ s
+unfolding doubled
+none_doubled [] e = refl
+none_doubled (b ∷ s) e = go (eqb b apostrophe) e (none_doubled s)
+  where
+    go : (t : Bool) → (t || list_any (λ (b : ℕ). eqb b apostrophe) s) ≡ false → (list_any (λ (b : ℕ). eqb b apostrophe) s ≡ false → doubled s ≡ s) → pick t (b ∷ (b ∷ doubled s)) (b ∷ doubled s) ≡ b ∷ s
+    go true f h = absurd (true≢false f)
+    go false f h = ap (λ (l : List ℕ). b ∷ l) (h f)
 
 -- every byte is written
 doubled-some : (b : ℕ) → 1 ≤ length (doubled (b ∷ []))
@@ -80,6 +102,9 @@ module _ {s out₀ out : List ℕ} {at i k : ℕ} (x : Laid s out₀ at out i k)
   pub laid_end : length s ≤ i → out ≡ sets out₀ at (doubled s)
   laid_end h = x.bytes ∙ ap (λ (l : List ℕ). sets out₀ at (doubled l)) (take_all i s h)
 
+  pub laid_place : length s ≤ i → k ≡ at + length (doubled s)
+  laid_place h = x.place ∙ ap (λ (l : List ℕ). at + length (doubled l)) (take_all i s h)
+
   module _ (h : i < length s) where
     pub laid_room : at + length (doubled s) ≤ length out₀ → k < length out
     laid_room r =
@@ -98,7 +123,7 @@ module _ {s out₀ out : List ℕ} {at i k : ℕ} (x : Laid s out₀ at out i k)
           let b = ap length (doubled_mark (get_or s i 0) e) in
           omega (arith, n, p, a, b, r)
 
-      pub laid_mark : Laid s out₀ at (set (set out k (get_or s i 0)) (k + 1) (get_or s i 0)) (i + 1) (k + 2)
+      pub laid_mark : Laid s out₀ at (set (set out k (get_or s i 0)) (k + 1) (get_or s i 0)) (i + 1) (k + 1 + 1)
       laid_mark = record {
         inside = omega arith;
         place = let p = x.place in let a = mark_length s i h e in omega (arith, p, a);
@@ -114,18 +139,10 @@ module _ {s out₀ out : List ℕ} {at i k : ℕ} (x : Laid s out₀ at out i k)
 
 -- ---- a text in quotes
 
-pub length-written : (s : List ℕ) (n : ℕ) → length (doubled s) ≡ length s + n → length s + n + 2 ≡ length (quoted (doubled s))
-length-written s n e = let q = length-quoted (doubled s) in omega (arith, q, e)
-
--- one that is longer than any text is not written
-pub too_long : (s out : List ℕ) (at : ℕ) {r : ℕ} → count_limit < length s → r ≡ ended count_limit at (length s) → Puts count_limit at (quoted (doubled s)) out out r
-too_long s out at h e =
-    let q = length-quoted (doubled s) in
-    let l = doubled_longer s in
-    record {
-      laid = sym (placed_over count_limit out at (quoted (doubled s)) (omega (arith, q, l)));
-      end = omega (arith, e, q, l);
-    }
+-- how long it is, with n apostrophes, as far as a number goes
+pub length-written : (s : List ℕ) (n : ℕ) {k w : ℕ} → length (doubled s) ≡ length s + n → k ≡ min (length s + n) 0xffff_ffff_ffff_ffff → w ≡ min (k + 2) 0xffff_ffff_ffff_ffff
+    → w ≡ min (length (quoted (doubled s))) 0xffff_ffff_ffff_ffff
+length-written s n e f g = let q = length-quoted (doubled s) in omega (arith, q, e)
 
 -- what is laid after a text that was written
 pub laid_then : {cap at : ℕ} {out t mid exit : List ℕ} {q k : ℕ} (u : List ℕ) → Wrote cap out at t mid q → exit ≡ sets mid q u → k ≡ q + length u → Wrote cap out at (t ++ u) exit k

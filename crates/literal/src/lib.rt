@@ -2,19 +2,14 @@
 // timestamps and open second ends), and the writers of words and of texts in quotes, each written whole or not at all. Numbers and instants stand in crates of their own.
 #![tactic(auto)]
 
-ghost use Rattle.std.specs.Prelude.{◌≡◌, ◌∷◌, [], ◌+◌, ◌%◌, ◌≤◌, length};
+ghost use Rattle.std.specs.Prelude.{◌≡◌, ◌+◌, ◌%◌, ◌≤◌, length};
 ghost use Rattle.std.proofs.lemmas.List.Edits.{sets};
-ghost use Rattle.prelude.specs.Choice.{both, all};
 ghost use Rattle.string.specs.Quote.{doubled};
-ghost use Rattle.string.specs.QuoteLaws.{no_mark};
 ghost use Rattle.emit.specs.Emit.{count_limit, Puts};
 ghost use Rattle.literal.specs.Literal.{bool_text, quoted, collate};
-ghost use Rattle.literal.specs.SearchWords.{Searched};
 
-// How many bytes a text has besides what it holds: two quotation marks; ` COLLATE `.
+// How many bytes the two quotation marks have.
 const QUOTES: usize = 2;
-
-const COLLATE: usize = 9;
 
 // How timestamps and an Interval's open second end are written: as the Rust does, or for DATETIME columns as GeoPackage stores them.
 #[derive(Clone, Copy)]
@@ -41,138 +36,56 @@ pub fn digit_of(n: usize) -> u8
 pub fn put_quoted(s: &[u8], out: &mut [u8], at: usize) -> usize
     ensures { Puts count_limit at (quoted s.now) out.old out.new result }
 {
-    let n = s.len() + QUOTES;
-    if emit::lacks_room(out.len(), at, n) {
-        return emit::ended(at, n);
-    }
-    let text = emit::put(b"'", out, at);
-    let close = emit::put(s, out, text);
-    emit::put(b"'", out, close)
-}
-
-// Whether there is no apostrophe, with one byte more.
-fn lacks_still(lacks: bool, b: u8) -> bool
-    ensures { result ≡ both (no_mark b) lacks }
-{
-    if b == b'\'' { false } else { lacks }
-}
-
-// No apostrophe is among the eight bytes from the place i on. The loop does not stop at one, so that it is compiled to one test of all eight.
-fn lacks_in_eight(s: &[u8], i: usize) -> bool
-    requires { i + 8 ≤ length s.now }
-    ensures { Searched s.now i 8 result }
-{
-    let mut lacks = true;
-    let mut k = 0;
-    while k < 8 {
-        lacks = lacks_still(lacks, s[i + k]);
-        k += 1;
-    }
-    lacks
-}
-
-// No apostrophe is in a text, looked at byte by byte.
-fn lacks_singly(s: &[u8]) -> bool
-    ensures { result ≡ all no_mark s.now }
-{
-    let mut i = 0;
-    while i < s.len() {
-        if s[i] == b'\'' {
-            return false;
-        }
-        i += 1;
-    }
-    true
-}
-
-// Most texts have no apostrophe, and both walks ask this of each. The last eight bytes are looked at together too, some of them a second time.
-fn lacks_apostrophe(s: &[u8]) -> bool
-    ensures { result ≡ all no_mark s.now }
-{
-    if s.len() < 8 {
-        return lacks_singly(s);
-    }
-    let last = s.len() - 8;
-    let mut i = 0;
-    while i < last {
-        if !lacks_in_eight(s, i) {
-            return false;
-        }
-        i += 8;
-    }
-    lacks_in_eight(s, last)
-}
-
-// How many bytes a byte is written with besides itself.
-fn more_for(b: u8) -> usize
-    ensures { (result ≤ 1) × (length (doubled (b ∷ [])) ≡ 1 + result) }
-{
-    if b == b'\'' { 1 } else { 0 }
+    emit::put_all(&[b"'", s, b"'"], out, at)
 }
 
 // How many bytes a text is written with besides itself: one for each apostrophe.
 fn apostrophes(s: &[u8]) -> usize
-    ensures { (result ≤ length s.now) × (length (doubled s.now) ≡ length s.now + result) }
+    ensures { length (doubled s.now) ≡ length s.now + result }
 {
-    let mut n = 0;
-    let mut i = 0;
-    while i < s.len() {
-        n += more_for(s[i]);
-        i += 1;
-    }
-    n
+    s.iter().filter(|b| **b == b'\'').count()
 }
 
-// Lays s over out from `at`, each apostrophe twice.
-fn copy_doubled(s: &[u8], out: &mut [u8], at: usize)
+// Lays s over out from `at`, each apostrophe twice; answers the place after it.
+fn copy_doubled(s: &[u8], out: &mut [u8], at: usize) -> usize
     requires { at + length (doubled s.now) ≤ length out.old }
-    ensures { out.new ≡ sets out.old at (doubled s.now) }
+    ensures text { out.new ≡ sets out.old at (doubled s.now) }
+    ensures end { result ≡ at + length (doubled s.now) }
 {
-    let mut i = 0;
-    let mut k = at;
-    while i < s.len() {
-        let b = s[i];
-        out[k] = b;
-        if b == b'\'' {
-            out[k + 1] = b;
-            k += 2;
-            i += 1;
-        } else {
-            k += 1;
-            i += 1;
+    let mut to = at;
+    for b in s {
+        out[to] = *b;
+        to += 1;
+        if *b == b'\'' {
+            out[to] = *b;
+            to += 1;
         }
     }
+    to
 }
 
-// Writes a Str's text in quotes, each apostrophe doubled.
+// Writes a Str's text in quotes, each apostrophe doubled. Most texts have none, and both walks ask this of each.
 pub fn put_str(s: &[u8], out: &mut [u8], at: usize) -> usize
     ensures { Puts count_limit at (quoted (doubled s.now)) out.old out.new result }
 {
-    if lacks_apostrophe(s) {
+    if !s.contains(&b'\'') {
         return put_quoted(s, out, at);
     }
-    // Up to the limit each sum fits.
-    if emit::COUNT_LIMIT < s.len() {
-        return emit::ended(at, s.len());
+    let n = s
+        .len()
+        .saturating_add(apostrophes(s))
+        .saturating_add(QUOTES);
+    if emit::lacks_room(out.len(), at, n) {
+        return emit::ended(at, n);
     }
-    let n = s.len() + apostrophes(s);
-    let size = n + QUOTES;
-    if emit::lacks_room(out.len(), at, size) {
-        return emit::ended(at, size);
-    }
-    let first = emit::put(b"'", out, at);
-    copy_doubled(s, out, first);
-    emit::put(b"'", out, first + n)
+    let text = emit::put(b"'", out, at);
+    let close = copy_doubled(s, out, text);
+    emit::put(b"'", out, close)
 }
 
 // Writes ` COLLATE ` and a collation's name.
 pub fn put_collate(name: &[u8], out: &mut [u8], at: usize) -> usize
     ensures { Puts count_limit at (collate name.now) out.old out.new result }
 {
-    let n = name.len() + COLLATE;
-    if emit::lacks_room(out.len(), at, n) {
-        return emit::ended(at, n);
-    }
-    let first = emit::put(b" COLLATE ", out, at);
-    emit::put(name, out, first)
+    emit::put_all(&[b" COLLATE ", name], out, at)
 }

@@ -3,8 +3,8 @@
 // little-endian. Standard output: a line for each case, the SQL text or `refused N`; `incomplete` if the input ends inside a case.
 #![tactic(auto)]
 
-use gpkg::Lowered;
 use input::Part;
+use refusal::Refusal;
 use std::env::FillError;
 use std::io;
 use std::io::Read;
@@ -19,7 +19,7 @@ enum Call {
     ControllerGeoPackageSql,
 }
 
-fn lower(call: Call, settings: &[u8], tree: &[u8], out: &mut [u8]) -> Lowered {
+fn lower(call: Call, settings: &[u8], tree: &[u8], out: &mut [u8]) -> Result<usize, Refusal> {
     match call {
         Call::Sql => gpkg::to_sql(settings, tree, out),
         Call::GeoPackageSql => gpkg::to_geopackage_sql(settings, tree, out),
@@ -36,8 +36,8 @@ fn answer(
     out: &mut [u8],
 ) -> io::Result<()> {
     match lower(call, settings, tree, out) {
-        Lowered::Text(n) => rt.write_all(input::first(out, n))?,
-        Lowered::Refused(r) => {
+        Ok(n) => rt.write_all(input::first(out, n))?,
+        Err(r) => {
             rt.write_all(b"refused ")?;
             rt.print(u8::from(r))?;
         }

@@ -4,8 +4,8 @@
 // comes before all others; `incomplete` if the input ends inside a case.
 #![tactic(auto)]
 
-use gpkg::Lowered;
 use input::Part;
+use refusal::Refusal;
 use std::env::FillError;
 use std::io;
 use std::io::Read;
@@ -20,7 +20,7 @@ enum Call {
     ControllerGeoPackageSql,
 }
 
-fn lower(call: Call, settings: &[u8], tree: &[u8], out: &mut [u8]) -> Lowered {
+fn lower(call: Call, settings: &[u8], tree: &[u8], out: &mut [u8]) -> Result<usize, Refusal> {
     match call {
         Call::Sql => gpkg::to_sql(settings, tree, out),
         Call::GeoPackageSql => gpkg::to_geopackage_sql(settings, tree, out),
@@ -35,11 +35,9 @@ fn lower_reduced(
     tree: &[u8],
     room: &mut [u8],
     out: &mut [u8],
-) -> Lowered {
-    match reduce::reduce(tree, room) {
-        Ok(n) => lower(call, settings, input::first(room, n), out),
-        Err(r) => Lowered::Refused(r),
-    }
+) -> Result<usize, Refusal> {
+    let n = reduce::reduce(tree, room)?;
+    lower(call, settings, input::first(room, n), out)
 }
 
 fn answer(
@@ -51,8 +49,8 @@ fn answer(
     out: &mut [u8],
 ) -> io::Result<()> {
     match lower_reduced(call, settings, tree, room, out) {
-        Lowered::Text(n) => rt.write_all(input::first(out, n))?,
-        Lowered::Refused(r) => {
+        Ok(n) => rt.write_all(input::first(out, n))?,
+        Err(r) => {
             rt.write_all(b"refused ")?;
             rt.print(u8::from(r))?;
         }

@@ -7,7 +7,6 @@ ghost use Rattle.std.specs.Prelude.{◌≡◌, ◌<◌, ◌≤◌, length};
 use crate::buffers::{blank_buffer, refusal_found, text_found};
 use crate::cases::Turn;
 use crate::lines::say;
-use gpkg::Lowered;
 use literal::Writing;
 use refusal::Refusal;
 use std::io;
@@ -30,14 +29,14 @@ pub(crate) enum Call {
     ControllerGeoPackageSql,
 }
 
-fn found_of<'a>(r: Lowered, text: &'a [u8], out: &'a [u8]) -> u8 {
+fn found_of<'a>(r: Result<usize, Refusal>, text: &'a [u8], out: &'a [u8]) -> u8 {
     match r {
-        Lowered::Text(n) => text_found(n, text, out),
-        Lowered::Refused(e) => refusal_found(u8::from(e), out),
+        Ok(n) => text_found(n, text, out),
+        Err(e) => refusal_found(u8::from(e), out),
     }
 }
 
-fn lower(call: Call, settings: &[u8], tree: &[u8], out: &mut [u8]) -> Lowered {
+fn lower(call: Call, settings: &[u8], tree: &[u8], out: &mut [u8]) -> Result<usize, Refusal> {
     match call {
         Call::Sql => gpkg::to_sql(settings, tree, out),
         Call::GeoPackageSql => gpkg::to_geopackage_sql(settings, tree, out),
@@ -46,7 +45,7 @@ fn lower(call: Call, settings: &[u8], tree: &[u8], out: &mut [u8]) -> Lowered {
     }
 }
 
-fn preview(call: Call, settings: &[u8], tree: &[u8], size: usize) -> Lowered {
+fn preview(call: Call, settings: &[u8], tree: &[u8], size: usize) -> Result<usize, Refusal> {
     match call {
         Call::Sql => gpkg::preview(Writing::Rust, settings, tree, size),
         Call::GeoPackageSql => gpkg::preview(Writing::GeoPackage, settings, tree, size),
@@ -58,9 +57,15 @@ fn preview(call: Call, settings: &[u8], tree: &[u8], size: usize) -> Lowered {
 }
 
 // A part of the buffer is lent. Where there is less than that, the refusal is one that lowering never gives, and so no stored one.
-fn lower_part(call: Call, settings: &[u8], tree: &[u8], out: &mut [u8], size: usize) -> Lowered {
+fn lower_part(
+    call: Call,
+    settings: &[u8],
+    tree: &[u8],
+    out: &mut [u8],
+    size: usize,
+) -> Result<usize, Refusal> {
     if out.len() < size {
-        return Lowered::Refused(Refusal::InputTooLong);
+        return Err(Refusal::InputTooLong);
     }
     lower(call, settings, tree, &mut out[..size])
 }
@@ -79,10 +84,10 @@ fn lowered(
 }
 
 // An answer as a number: a length, or past all lengths the refusal's.
-fn number_of(r: Lowered) -> usize {
+fn number_of(r: Result<usize, Refusal>) -> usize {
     match r {
-        Lowered::Text(n) => n,
-        Lowered::Refused(e) => LENGTH_LIMIT + u8::from(e) as usize,
+        Ok(n) => n,
+        Err(e) => LENGTH_LIMIT + u8::from(e) as usize,
     }
 }
 
@@ -98,8 +103,8 @@ fn length_of(call: Call, settings: &[u8], tree: &[u8]) -> usize
     ensures { result ≤ 65535 }
 {
     match preview(call, settings, tree, LENGTH_LIMIT) {
-        Lowered::Text(n) => { if LENGTH_LIMIT < n { 0 } else { n } }
-        Lowered::Refused(_) => 0,
+        Ok(n) => { if LENGTH_LIMIT < n { 0 } else { n } }
+        Err(_) => 0,
     }
 }
 

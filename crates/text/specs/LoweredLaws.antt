@@ -1,10 +1,11 @@
 -- Laws of specs/Lowered.antt: what is heard of the answer is what was decided; a text that is given fits, and is that of an accepted tree; of such a
 -- text the room alone decides.
-use Rattle.std.specs.Prelude.{◌≡◌, refl, List, ℕ, ◌≤◌, Bool, true, false, ltb}
+use Rattle.std.specs.Prelude.{◌≡◌, refl, List, ℕ, ◌≤◌, Bool, true, false, ltb, Result}
 use Rattle.std.proofs.Math.Path.{ap}
 use Rattle.std.proofs.Common.{◌∙◌, arith, ltb-false}
 use Rattle.std.proofs.Math.ListN.{length}
 use Rattle.prelude.specs.Choice.{pick}
+use Rattle.refusal.specs.declared.Refusal.{Refusal}
 use Rattle.refusal.specs.declared.Refusal.TheVariants.{TextTooLong, BufferTooShort}
 use Rattle.literal.specs.declared.Writing.{Writing}
 use Rattle.tree.specs.declared.Limits.{Limits}
@@ -13,7 +14,6 @@ use Rattle.tree.specs.Parse.{Read, refused, got, also}
 use Rattle.tree.specs.ParseLaws.{also_got, not_got}
 use Rattle.tree.specs.Accepted.{accepted}
 use Rattle.room.specs.Room.{sized}
-use Rattle.text.specs.declared.Lowered as lowered
 use Rattle.text.specs.Text.{text}
 use Rattle.tree.specs.Written.{said}
 use Rattle.text.specs.Lowered.{answer, fitted, heard, lowering_within}
@@ -23,7 +23,7 @@ unfolding answer
 heard-answer (refused n) = refl
 heard-answer (got x) = refl
 
-pub heard-said : {r : lowered.Lowered} (x : Read (List ℕ)) → r ≡ answer x → heard r ≡ said x
+pub heard-said : {r : Result ℕ Refusal} (x : Read (List ℕ)) → r ≡ answer x → heard r ≡ said x
 heard-said x e = ap heard e ∙ heard-answer x
 
 -- x is within the limit and the room, and is the y that was given

@@ -75,9 +75,9 @@ pub(crate) fn is_temporal(kind: usize, op: usize) -> bool
 // The template of a temporal node. It is not taken into the node writer, whose frame is laid once for each level: a caller of the controller's
 // is promised less than 4 KiB of stack (include/wenduulig.h).
 #[inline(never)]
-pub(crate) fn template_of(s: &[u8], op: usize, m: usize, e: [End; 4]) -> Template
+pub(crate) fn template_of(s: &[u8], op: usize, m: usize, e: &[End; 4]) -> Template
     requires { (8 ≤ m) × (m ≤ length s.now) }
-    ensures { ((w : Writing) (g : Settings) (t : Tree) → Node s.now DYADIC op m t → temporal_number op ≡ true → Are s.now e (node_ends t) → text w g t ≡ fill (slot w g (node_ends t)) (held result)) × (result.len ≤ 24) }
+    ensures { (w : Writing) (g : Settings) (t : Tree) → Node s.now DYADIC op m t → temporal_number op ≡ true → Are s.now e.now (node_ends t) → text w g t ≡ fill (slot w g (node_ends t)) (held result) }
 {
     let a = is_kind(&s[OPERAND..m], INTERVAL);
     sql::temporal_sql(op, a, is_kind(&s[m..], INTERVAL), e)

@@ -1,11 +1,6 @@
--- `literal::copy_doubled` meets its contract: the loop keeps that the first i bytes are laid, each apostrophe twice.
-use Prim.Native.Nat.{◌-◌}
-use lib.ListN.{length}
+-- The bytes before this one are laid, each apostrophe twice.
 use Rattle.literal.proofs.DoubledLaws.{Laid}
 use Rattle.literal.proofs.copy_doubled.Given as goal
 
-abbrev pub invariant-loop-i : goal.invariant-loop-i
-invariant-loop-i l = Laid l.s l.initial.out l.at l.out l.i l.k
-
-abbrev pub decreases-loop-i : goal.decreases-loop-i
-decreases-loop-i l = length l.s - l.i
+abbrev pub invariant-loop-b : goal.invariant-loop-b
+invariant-loop-b l = Laid l.s l.initial.out l.at l.out l.b-index l.to

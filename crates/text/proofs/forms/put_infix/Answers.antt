@@ -18,13 +18,13 @@ unfolding infix_text
 between-sides a b e p = lays_of (ap (λ (x : List ℕ). pick a (bytes " ") (bytes ") ") ++ (x ++ pick b (bytes " ") (bytes " ("))) e) (lays p)
 
 pub returns-then-b : goal.returns-then-b
-returns-then-b c = λ o e. rw (c.if-a.true, c.if-b.true) (between-sides true true (c.word_of-word.ensures o e) c.put_three.ensures)
+returns-then-b c = λ o e. rw (c.if-a.true, c.if-b.true) (between-sides true true (c.word_of-word.ensures o e) c.put_all.ensures)
 
 pub returns-then-a : goal.returns-then-a
-returns-then-a c = λ o e. rw (c.if-a.true, c.if-b.false) (between-sides true false (c.word_of-word.ensures o e) c.put_three-then-a.ensures)
+returns-then-a c = λ o e. rw (c.if-a.true, c.if-b.false) (between-sides true false (c.word_of-word.ensures o e) c.put_all-then-a.ensures)
 
 pub returns-then-b-2 : goal.returns-then-b-2
-returns-then-b-2 c = λ o e. rw (c.if-a.false, c.if-b-2.true) (between-sides false true (c.word_of-word.ensures o e) c.put_three-then-b-2.ensures)
+returns-then-b-2 c = λ o e. rw (c.if-a.false, c.if-b-2.true) (between-sides false true (c.word_of-word.ensures o e) c.put_all-then-b-2.ensures)
 
 pub returns : goal.returns
-returns c = λ o e. rw (c.if-a.false, c.if-b-2.false) (between-sides false false (c.word_of-word.ensures o e) c.put_three-2.ensures)
+returns c = λ o e. rw (c.if-a.false, c.if-b-2.false) (between-sides false false (c.word_of-word.ensures o e) c.put_all-2.ensures)
