@@ -14,7 +14,7 @@ returns c =
       sym
           (elim c.else-end-s.branch [
             | else-end-s-via-then-end-s+then-s-end-eq34+else-is_name w ↦
-              mark_none i.s.now i.start i.end c.requires.0 w.if-s-end-eq34.true (sym w.is_name.ensures ∙ w.if-is_name.false)
+                mark_none i.s.now i.start i.end c.requires.0 w.if-s-end-eq34.true (sym w.is_name.ensures ∙ w.if-is_name.false)
             | else-end-s-via-then-end-s+else-s-end-eq34 w ↦ mark_open i.s.now i.start i.end c.requires.0 w.if-s-end-eq34.false
             | else-end-s-via-else-end-s w ↦ mark_end i.s.now i.start i.end c.requires.0 w.if-end-s.false
           ]),
