@@ -28,8 +28,6 @@ pub qword_past : (s : List ℕ) (at : ℕ) → length s ≤ at → le64 s at ≡
 qword_past s at h =
     omega (arith, word-past s at h, word-past s (at + 2) (omega arith), word-past s (at + 4) (omega arith), word-past s (at + 4 + 2) (omega arith))
 
-pub ruleset past = (word-past, dword_past, qword_past)
-
 -- Two's complement, as the code computes it.
 
 abbrev half : ℕ
