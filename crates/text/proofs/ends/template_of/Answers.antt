@@ -3,4 +3,4 @@ use Rattle.text.proofs.SortLaws.{template_fills}
 use Rattle.text.proofs.ends.template_of.Goals as goal
 
 pub returns : goal.returns
-returns c = (λ w g t nd h a. template_fills w g nd h a c.is_kind-a.ensures c.is_kind.ensures c.temporal_sql.ensures.0, c.temporal_sql.ensures.1)
+returns c = λ w g t nd h a. template_fills w g nd h a c.is_kind-a.ensures c.is_kind.ensures c.temporal_sql.ensures
