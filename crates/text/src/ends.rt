@@ -12,8 +12,8 @@ ghost use Rattle.tree.specs.Limits.{tree_limit};
 ghost use Rattle.tree.specs.Kinds.{DYADIC};
 ghost use Rattle.class.specs.ClassWords.{temporal_number};
 
-use crate::records::{OPERAND, end_of, is_kind, within};
-use op::{T_AFTER, T_STARTS};
+use crate::classes::is_temporal_number;
+use crate::records::{OPERAND, end_of, is_kind};
 use operand::{End, Operand};
 use record::{BODY, KIND};
 use sql::Template;
@@ -63,13 +63,12 @@ pub(crate) fn temporal_ends(s: &[u8], m: usize) -> [End; 4]
     operand::unfold_expressions(a, operand_at(s, m, s.len()))
 }
 
+#[tactic(auto, using(crate::proofs::Tests::tests), unfolding(crate::specs::EndWords::temporal_of))]
 pub(crate) fn is_temporal(kind: usize, op: usize) -> bool
     ensures { result ≡ temporal_of kind op }
 {
-    if within(T_AFTER, op, T_STARTS) {
-        return kind == DYADIC;
-    }
-    false
+    // The operator first: with the kind first the walk took 1 to 4 % more instructions.
+    is_temporal_number(op) && kind == DYADIC
 }
 
 // The template of a temporal node. It is not taken into the node writer, whose frame is laid once for each level: a caller of the controller's
