@@ -39,7 +39,7 @@ pub to_sql_impl-returns-then-kind-lt-FUNCTION : goal.to_sql_impl-returns-then-ki
 to_sql_impl-returns-then-kind-lt-FUNCTION t c = λ t e f. c.write_operands.ensures t e f (let q = c.word_at-kind.ensures.0 in omega arith) (let q = c.word_at-kind.ensures.0 in omega arith)
 
 pub to_sql_impl-returns : goal.to_sql_impl-returns
-to_sql_impl-returns t c = λ t e f. let w = listed c.args.writing (settings_in c.args.set.now) c.args.s.now c.word_at-kind.result c.least-from.result c.items_at-to.result t e f c.word_at-kind.ensures.0 (omega arith) (omega arith) c.items_at-to.ensures.2 c.least-from.ensures in lays_of (sym w.whole) (lays_then (lays c.put-name.ensures) (lays_then (lays c.put-open.ensures) (lays_then (c.write_items-here.ensures w.ts w.there w.fit) (lays c.put.ensures))))
+to_sql_impl-returns t c = λ t e f. let w = listed c.args.writing (settings_in c.args.set.now) c.args.s.now c.word_at-kind.result c.min.result c.items_at-to.result t e f c.word_at-kind.ensures.0 (omega arith) (omega arith) c.items_at-to.ensures.2 c.min.ensures in lays_of (sym w.whole) (lays_then (lays c.put-name.ensures) (lays_then (lays c.put-open.ensures) (lays_then (c.write_items-here.ensures w.ts w.there w.fit) (lays c.put.ensures))))
 
 pub write_between-returns : goal.write_between-returns
 write_between-returns t c = λ t nd h. between_step c.args.writing (settings_in c.args.set.now) nd h c.bounds_at-p.ensures c.end_of-q.ensures c.end_of-z.ensures c.to_sql_impl-left.ensures c.put_infix-word.ensures c.write_bound-low.ensures (lays c.put-upto.ensures) c.write_bound.ensures
@@ -107,11 +107,11 @@ write_others-returns-then-kind-eq-MONADIC t c = λ t nd nt. c.write_monadic.ensu
 pub write_others-returns-then-is_infix : goal.write_others-returns-then-is_infix
 write_others-returns-then-is_infix t c = λ t nd nt. let w = two_node c.if-kind-eq-MONADIC.false nd in let n = not_either (spatial_number c.args.op) (between_number c.args.op) (sym c.is_infix.ensures ∙ c.if-is_infix.true) in c.write_infix.ensures t w.1 (not_temporal c.args.kind c.args.op w.0 nt) n.0 n.1
 
-pub write_others-returns-then-within : goal.write_others-returns-then-within
-write_others-returns-then-within t c = λ t nd nt. c.write_spatial.ensures t (two_node c.if-kind-eq-MONADIC.false nd).1 (sym c.within.ensures ∙ c.if-within.true)
+pub write_others-returns-then-is_spatial : goal.write_others-returns-then-is_spatial
+write_others-returns-then-is_spatial t c = λ t nd nt. c.write_spatial.ensures t (two_node c.if-kind-eq-MONADIC.false nd).1 (sym c.is_spatial.ensures ∙ c.if-is_spatial.true)
 
 pub write_others-returns : goal.write_others-returns
-write_others-returns t c = λ t nd nt. c.write_between.ensures t (two_node c.if-kind-eq-MONADIC.false nd).1 (or_else (spatial_number c.args.op) (between_number c.args.op) (sym c.is_infix.ensures ∙ c.if-is_infix.false) (sym c.within.ensures ∙ c.if-within.false))
+write_others-returns t c = λ t nd nt. c.write_between.ensures t (two_node c.if-kind-eq-MONADIC.false nd).1 (or_else (spatial_number c.args.op) (between_number c.args.op) (sym c.is_infix.ensures ∙ c.if-is_infix.false) (sym c.is_spatial.ensures ∙ c.if-is_spatial.false))
 
 pub write_spatial-returns : goal.write_spatial-returns
 write_spatial-returns t c = λ t nd h. spatial_step c.args.writing (settings_in c.args.set.now) nd h c.is_kind-x.ensures c.is_kind-y.ensures c.reduce_precision-a.ensures c.reduce_precision-b.ensures c.put_word-word.ensures (lays c.put_either-open.ensures) c.to_sql_impl-left.ensures c.put_reduced-comma.ensures (lays c.put_either-next.ensures) c.to_sql_impl-right.ensures c.put_reduced-close.ensures (lays c.put.ensures)
