@@ -12,7 +12,6 @@ use Rattle.refusal.specs.declared.Refusal.{Refusal}
 use Rattle.refusal.specs.declared.Refusal.TheVariants.{BufferTooShort, ConstantOperands}
 use Rattle.emit.specs.Emit.{Puts, count_limit}
 use Rattle.emit.specs.EmitLaws.{wrote, sets_front}
-use Rattle.tree.specs.declared.Checked.TheVariants as checks
 use Rattle.tree.specs.Limits.{planner, tree_limit}
 use Rattle.tree.specs.Tree.{Tree, Bytes, encode}
 use Rattle.tree.specs.Parse.{Read, refused, got, also}
@@ -38,11 +37,11 @@ pub record Taken (s : List ℕ) : Type 0 where
   pub good : Good t planner.depth
   pub small : length s ≤ tree_limit
 
-pub taken : (s : List ℕ) → Bytes s → checks.Valid ≡ verdict (accepted_tree planner s) → Taken s
+pub taken : (s : List ℕ) → Bytes s → Ok tt ≡ verdict (accepted_tree planner s) → Taken s
 unfolding verdict
 taken s y e = go (accepted_tree planner s) refl e
   where
-    go : (a : Read Tree) → accepted_tree planner s ≡ a → checks.Valid ≡ verdict a → Taken s
+    go : (a : Read Tree) → accepted_tree planner s ≡ a → Ok tt ≡ verdict a → Taken s
     go (refused n) q z = absurd (let v : ◌≡◌ {A = ℕ} 0 1 = cc in let w : ⊥ = omega arith in w)
     go (got t) q z =
         let w = tree_is planner s t q in
@@ -65,12 +64,12 @@ taken_answers {s} {out} {exit} {r} a w =
     (q, (w.bytes ∙ ap (leaves out) e, heard-said (reducing s (length out)) q))
 
 -- and so is a refusal of the checker
-pub refused_answers : (s out : List ℕ) {n : Refusal} → checks.Refused n ≡ verdict (accepted_tree planner s)
+pub refused_answers : (s out : List ℕ) {n : Refusal} → Err n ≡ verdict (accepted_tree planner s)
     → (Err n ≡ answer (reducing s (length out))) × ((out ≡ leaves out (reducing s (length out))) × (heard (Err n) ≡ said (reducing s (length out))))
 unfolding reducing also verdict answer leaves
 refused_answers s out {n} e = go (accepted_tree planner s) e
   where
-    go : (a : Read Tree) → checks.Refused n ≡ verdict a → let x : Read (List ℕ) = also a (λ t. also (reduced t) (λ u. fitted (length out) (encode u))) in
+    go : (a : Read Tree) → Err n ≡ verdict a → let x : Read (List ℕ) = also a (λ t. also (reduced t) (λ u. fitted (length out) (encode u))) in
         (Err n ≡ answer x) × ((out ≡ leaves out x) × (heard (Err n) ≡ said x))
     go (refused m) z = let q : n ≡ m = cc in (ap Err q, (refl, ap (λ (k : Refusal). heard (Err k)) q))
     go (got t) z = absurd (let v : ◌≡◌ {A = ℕ} 0 1 = cc in let w : ⊥ = omega arith in w)

@@ -13,7 +13,7 @@ ghost use Rattle.reduce.specs.WalkWords.{Answers, Placed, Recorded};
 
 use crate::walk::fold;
 use refusal::Refusal;
-use tree::{Checked, PLANNER};
+use tree::PLANNER;
 
 mod chains;
 mod leaves;
@@ -104,8 +104,6 @@ pub fn reduce(tree: &[u8], out: &mut [u8]) -> Result<usize, Refusal>
     ensures bytes { out.new ≡ leaves out.old (reducing tree.now (length out.old)) }
     ensures hears { heard result ≡ said (reducing tree.now (length out.old)) }
 {
-    match tree::check_tree(PLANNER, tree) {
-        Checked::Refused(e) => Err(e),
-        Checked::Valid => reduce_accepted(tree, out),
-    }
+    tree::check_tree(PLANNER, tree)?;
+    reduce_accepted(tree, out)
 }

@@ -5,7 +5,6 @@ ghost use Rattle.std.specs.Prelude.{◌≤◌, length};
 use crate::cases::Turn;
 use crate::lines::say;
 use op::Op;
-use spelling::Spelled;
 use std::io;
 
 const TAB: u8 = 9;
@@ -81,13 +80,8 @@ fn classes_right(op: Op, bits: &[u8]) -> bool {
 }
 
 // The Rust panics where an operator has no spelling.
-fn spelling_right(number: usize, text: &[u8]) -> bool {
-    let table = spelling::spellings();
-    let spelled = spelling::to_sql(&table, number);
-    match spelled {
-        Spelled::NoSpelling => text == b"PANIC".as_slice(),
-        Spelled::At(from, to) => text == &table[from..to],
-    }
+fn spelling_right(op: Op, text: &[u8]) -> bool {
+    text == spelling::to_sql(op).unwrap_or(b"PANIC")
 }
 
 fn line_right(line: &[u8], number: usize) -> bool {
@@ -98,7 +92,7 @@ fn line_right(line: &[u8], number: usize) -> bool {
         return false;
     }
     let spelled = behind(behind(line, TAB), TAB);
-    if spelling_right(number, upto(spelled, TAB)) {
+    if spelling_right(op, upto(spelled, TAB)) {
         return classes_right(op, behind(spelled, TAB));
     }
     false

@@ -2,13 +2,13 @@
 // else the refusal's number.
 use crate::cases::{Turn, of_byte};
 use crate::lines::say;
+use refusal::Refusal;
 use std::io;
-use tree::Checked;
 
-fn number_of(c: Checked) -> u8 {
-    match c {
-        Checked::Valid => 0,
-        Checked::Refused(r) => u8::from(r),
+fn number_of(checked: Result<(), Refusal>) -> u8 {
+    match checked {
+        Ok(()) => 0,
+        Err(e) => u8::from(e),
     }
 }
 

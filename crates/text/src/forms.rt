@@ -6,7 +6,6 @@ ghost use Rattle.prelude.specs.Choice.{pick, negated, between, either};
 ghost use Rattle.emit.specs.Emit.{count_limit};
 ghost use Rattle.emit.specs.LaysWords.{Lays};
 ghost use Rattle.spelling.specs.Spelling.{word};
-ghost use Rattle.spelling.specs.SpellingTable.{Spells};
 ghost use Rattle.text.specs.FormWords.{precise, twin_of, infix_text, reduced_text, before_text, behind_text, left_bare, right_bare};
 ghost use Rattle.tree.specs.Accepted.{settings_in};
 ghost use Rattle.tree.specs.Tree.{Tree, encode};
@@ -17,48 +16,36 @@ ghost use Rattle.tree.specs.Kinds.{ARRAY};
 ghost use Rattle.class.specs.ClassWords.{between_number, sign_number, spatial_number};
 
 use crate::leaves::name_of;
-use crate::records::{NAME, OPERAND, TWIN_OPERAND, is_literal_or_id, least, part, within};
+use crate::records::{NAME, OPERAND, TWIN_OPERAND, is_literal_or_id, least, within};
 use op::{
     A_EQUALS, A_OVERLAPS, ACCENT_I, CASE_I, IS_BETWEEN, IS_NOT_BETWEEN, IS_NOT_LIKE, IS_NOT_NULL,
-    IS_NULL, MINUS, NEG, S_CONTAINS, S_INTERSECTS,
+    IS_NULL, MINUS, NEG, S_CONTAINS, S_INTERSECTS, op_of,
 };
 use record::{BODY, KIND};
 use settings::PRECISION_AT;
-use spelling::Spelled;
 use tree::{ARRAY, MONADIC};
 
 // What is written of an operator: its spelling (`Op::to_sql`), nothing where it has none.
-fn word_of(words: &[u8; 256], op: usize) -> &[u8]
-    requires { Spells words.now }
+fn word_of(op: usize) -> &'static [u8]
     ensures { (o : Op) → op ≡ op_number o → result.now ≡ word o }
 {
-    let spelled = spelling::to_sql(words, op);
-    match spelled {
-        Spelled::NoSpelling => part(words, 0, 0),
-        Spelled::At(from, to) => part(words, from, to),
+    match op_of(op) {
+        Some(op) => spelling::to_sql(op).unwrap_or(b""),
+        None => b"",
     }
 }
 
-pub(crate) fn put_word(op: usize, words: &[u8; 256], out: &mut [u8], at: usize) -> usize
-    requires { Spells words.now }
+pub(crate) fn put_word(op: usize, out: &mut [u8], at: usize) -> usize
     ensures { (o : Op) → op ≡ op_number o → Lays count_limit at (word o) out.old out.new result }
 {
-    emit::put(word_of(words, op), out, at)
+    emit::put(word_of(op), out, at)
 }
 
 // An operator between its sides, with the brackets that close the left and open the right one.
-pub(crate) fn put_infix(
-    a: bool,
-    op: usize,
-    b: bool,
-    words: &[u8; 256],
-    out: &mut [u8],
-    at: usize,
-) -> usize
-    requires { Spells words.now }
+pub(crate) fn put_infix(a: bool, op: usize, b: bool, out: &mut [u8], at: usize) -> usize
     ensures { (o : Op) → op ≡ op_number o → Lays count_limit at (infix_text a (word o) b) out.old out.new result }
 {
-    let word = word_of(words, op);
+    let word = word_of(op);
     if a {
         if b {
             return emit::put_all(&[b" ", word, b" "], out, at);
@@ -155,21 +142,14 @@ fn is_neg_or_minus(op: usize) -> bool
 }
 
 // What stands before the operand of a node that has one, which is bare or in brackets.
-pub(crate) fn put_before(
-    op: usize,
-    bare: bool,
-    words: &[u8; 256],
-    out: &mut [u8],
-    at: usize,
-) -> usize
-    requires { Spells words.now }
+pub(crate) fn put_before(op: usize, bare: bool, out: &mut [u8], at: usize) -> usize
     ensures { (o : Op) → op ≡ op_number o → Lays count_limit at (before_text op (word o) bare) out.old out.new result }
 {
     if within(IS_NULL, op, IS_NOT_NULL) {
         return emit::put_either(bare, b"", b"(", out, at);
     }
     if is_neg_or_minus(op) {
-        let word = put_word(op, words, out, at);
+        let word = put_word(op, out, at);
         return emit::put_either(bare, b" ", b" (", out, word);
     }
     emit::ended(at, 0)
@@ -181,16 +161,14 @@ pub(crate) fn put_behind(
     bare: bool,
     twin: bool,
     set: &[u8],
-    words: &[u8; 256],
     out: &mut [u8],
     at: usize,
 ) -> usize
-    requires { Spells words.now }
     ensures { (o : Op) → op ≡ op_number o → Lays count_limit at (behind_text (settings_in set.now) op (word o) bare twin) out.old out.new result }
 {
     if within(IS_NULL, op, IS_NOT_NULL) {
         let word = emit::put_either(bare, b" ", b") ", out, at);
-        return put_word(op, words, out, word);
+        return put_word(op, out, word);
     }
     if is_neg_or_minus(op) {
         return emit::put_either(bare, b"", b")", out, at);

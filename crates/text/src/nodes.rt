@@ -4,7 +4,6 @@ ghost use Rattle.record.specs.Record.{le16};
 ghost use Rattle.emit.specs.Emit.{count_limit};
 ghost use Rattle.emit.specs.LaysWords.{Lays};
 ghost use Rattle.text.specs.Text.{text, texts, joined};
-ghost use Rattle.spelling.specs.SpellingTable.{Spells};
 ghost use Rattle.text.specs.EndWords.{temporal_of};
 ghost use Rattle.text.specs.NodeWords.{Bound, Node};
 ghost use Rattle.text.specs.RecordWords.{sound, sounds};
@@ -34,15 +33,8 @@ use tree::{ARRAY, DATE, FUNCTION, ID, MONADIC};
 
 // The items of a list, one after the other, with a comma between.
 #[cycle(nodes)]
-fn write_items(
-    s: &[u8],
-    set: &[u8],
-    writing: Writing,
-    words: &[u8; 256],
-    out: &mut [u8],
-    at: usize,
-) -> usize
-    requires { (length s.now ≤ tree_limit) × Spells words.now }
+fn write_items(s: &[u8], set: &[u8], writing: Writing, out: &mut [u8], at: usize) -> usize
+    requires { (length s.now ≤ tree_limit) }
     ensures { (ts : Trees) → s.now ≡ encodes ts → sounds ts ≡ true → Lays count_limit at (joined (texts writing (settings_in set.now) ts)) out.old out.new result }
 {
     let mut here = emit::ended(at, 0);
@@ -50,7 +42,7 @@ fn write_items(
     while p < s.len() {
         let comma = put_comma(p, out, here);
         let z = end_of(s, p);
-        here = to_sql_impl(&s[p..z], set, writing, words, out, comma);
+        here = to_sql_impl(&s[p..z], set, writing, out, comma);
         p = z;
     }
     here
@@ -64,19 +56,18 @@ fn write_infix(
     m: usize,
     set: &[u8],
     writing: Writing,
-    words: &[u8; 256],
     out: &mut [u8],
     at: usize,
 ) -> usize
-    requires { (length s.now ≤ tree_limit) × (8 ≤ m) × (m ≤ length s.now) × Spells words.now }
+    requires { (length s.now ≤ tree_limit) × (8 ≤ m) × (m ≤ length s.now) }
     ensures { (t : Tree) → Node s.now DYADIC op m t → temporal_number op ≡ false → spatial_number op ≡ false → between_number op ≡ false → Lays count_limit at (text writing (settings_in set.now) t) out.old out.new result }
 {
     let a = is_left_bare(op, &s[OPERAND..m]);
     let b = is_right_bare(op, &s[m..]);
     let open = emit::put_either(a, b"", b"(", out, at);
-    let left = to_sql_impl(&s[OPERAND..m], set, writing, words, out, open);
-    let here = put_infix(a, op, b, words, out, left);
-    let right = to_sql_impl(&s[m..], set, writing, words, out, here);
+    let left = to_sql_impl(&s[OPERAND..m], set, writing, out, open);
+    let here = put_infix(a, op, b, out, left);
+    let right = to_sql_impl(&s[m..], set, writing, out, here);
     emit::put_either(b, b"", b")", out, right)
 }
 
@@ -87,11 +78,10 @@ fn write_monadic(
     op: usize,
     set: &[u8],
     writing: Writing,
-    words: &[u8; 256],
     out: &mut [u8],
     at: usize,
 ) -> usize
-    requires { (length s.now ≤ tree_limit) × (14 ≤ length s.now) × Spells words.now }
+    requires { (length s.now ≤ tree_limit) × (14 ≤ length s.now) }
     ensures { (m : ℕ) (t : Tree) → Node s.now MONADIC op m t → Lays count_limit at (text writing (settings_in set.now) t) out.old out.new result }
 {
     let bare = is_literal_or_id(&s[OPERAND..]);
@@ -101,9 +91,9 @@ fn write_monadic(
         record::word_at(s, OPERAND_BODY),
     );
     let from = operand_from(twin, s.len());
-    let before = put_before(op, bare, words, out, at);
-    let here = to_sql_impl(&s[from..], set, writing, words, out, before);
-    put_behind(op, bare, twin, set, words, out, here)
+    let before = put_before(op, bare, out, at);
+    let here = to_sql_impl(&s[from..], set, writing, out, before);
+    put_behind(op, bare, twin, set, out, here)
 }
 
 // A bound of BETWEEN, or NULL where there is none.
@@ -114,17 +104,16 @@ fn write_bound(
     z: usize,
     set: &[u8],
     writing: Writing,
-    words: &[u8; 256],
     out: &mut [u8],
     at: usize,
 ) -> usize
-    requires { (length s.now ≤ tree_limit) × (8 ≤ a) × (a ≤ z) × (z ≤ length s.now) × Spells words.now }
+    requires { (length s.now ≤ tree_limit) × (8 ≤ a) × (a ≤ z) × (z ≤ length s.now) }
     ensures { (x : Tree) → Bound s.now a z x → Lays count_limit at (text writing (settings_in set.now) x) out.old out.new result }
 {
     if a == z {
         return emit::put(b"NULL", out, at);
     }
-    to_sql_impl(&s[a..z], set, writing, words, out, at)
+    to_sql_impl(&s[a..z], set, writing, out, at)
 }
 
 // BETWEEN, whose right side is an array of its bounds.
@@ -135,21 +124,20 @@ fn write_between(
     m: usize,
     set: &[u8],
     writing: Writing,
-    words: &[u8; 256],
     out: &mut [u8],
     at: usize,
 ) -> usize
-    requires { (length s.now ≤ tree_limit) × (8 ≤ m) × (m ≤ length s.now) × Spells words.now }
+    requires { (length s.now ≤ tree_limit) × (8 ≤ m) × (m ≤ length s.now) }
     ensures { (t : Tree) → Node s.now DYADIC op m t → between_number op ≡ true → Lays count_limit at (text writing (settings_in set.now) t) out.old out.new result }
 {
     let p = bounds_at(s, m);
     let q = end_of(s, p);
     let z = end_of(s, q);
-    let left = to_sql_impl(&s[OPERAND..m], set, writing, words, out, at);
-    let word = put_infix(true, op, true, words, out, left);
-    let low = write_bound(s, p, q, set, writing, words, out, word);
+    let left = to_sql_impl(&s[OPERAND..m], set, writing, out, at);
+    let word = put_infix(true, op, true, out, left);
+    let low = write_bound(s, p, q, set, writing, out, word);
     let upto = emit::put(b" AND ", out, low);
-    write_bound(s, q, z, set, writing, words, out, upto)
+    write_bound(s, q, z, set, writing, out, upto)
 }
 
 // A spatial operator: a call, of whose sides one may have its precision reduced.
@@ -160,23 +148,22 @@ fn write_spatial(
     m: usize,
     set: &[u8],
     writing: Writing,
-    words: &[u8; 256],
     out: &mut [u8],
     at: usize,
 ) -> usize
-    requires { (length s.now ≤ tree_limit) × (8 ≤ m) × (m ≤ length s.now) × Spells words.now }
+    requires { (length s.now ≤ tree_limit) × (8 ≤ m) × (m ≤ length s.now) }
     ensures { (t : Tree) → Node s.now DYADIC op m t → spatial_number op ≡ true → Lays count_limit at (text writing (settings_in set.now) t) out.old out.new result }
 {
     let x = is_kind(&s[OPERAND..m], ID);
     let y = is_kind(&s[m..], ID);
     let a = reduce_precision(op, x, y);
     let b = reduce_precision(op, y, x);
-    let word = put_word(op, words, out, at);
+    let word = put_word(op, out, at);
     let open = emit::put_either(a, b"(ST_ReducePrecision(", b"(", out, word);
-    let left = to_sql_impl(&s[OPERAND..m], set, writing, words, out, open);
+    let left = to_sql_impl(&s[OPERAND..m], set, writing, out, open);
     let comma = put_reduced(a, set, out, left);
     let next = emit::put_either(b, b", ST_ReducePrecision(", b", ", out, comma);
-    let right = to_sql_impl(&s[m..], set, writing, words, out, next);
+    let right = to_sql_impl(&s[m..], set, writing, out, next);
     let close = put_reduced(b, set, out, right);
     emit::put(b")", out, close)
 }
@@ -190,62 +177,47 @@ fn write_others(
     m: usize,
     set: &[u8],
     writing: Writing,
-    words: &[u8; 256],
     out: &mut [u8],
     at: usize,
 ) -> usize
-    requires { (length s.now ≤ tree_limit) × (14 ≤ length s.now) × (8 ≤ m) × (m ≤ length s.now) × Spells words.now }
+    requires { (length s.now ≤ tree_limit) × (14 ≤ length s.now) × (8 ≤ m) × (m ≤ length s.now) }
     ensures { (t : Tree) → Node s.now kind op m t → temporal_of kind op ≡ false → Lays count_limit at (text writing (settings_in set.now) t) out.old out.new result }
 {
     if kind == MONADIC {
-        return write_monadic(s, op, set, writing, words, out, at);
+        return write_monadic(s, op, set, writing, out, at);
     }
     if is_infix(op) {
-        return write_infix(s, op, m, set, writing, words, out, at);
+        return write_infix(s, op, m, set, writing, out, at);
     }
     if within(S_INTERSECTS, op, S_CONTAINS) {
-        return write_spatial(s, op, m, set, writing, words, out, at);
+        return write_spatial(s, op, m, set, writing, out, at);
     }
-    write_between(s, op, m, set, writing, words, out, at)
+    write_between(s, op, m, set, writing, out, at)
 }
 
 // An end that is no column. Most are dates, which are written where they are met, without a visit to the node.
 #[cycle(nodes)]
-fn write_end(
-    s: &[u8],
-    set: &[u8],
-    writing: Writing,
-    words: &[u8; 256],
-    out: &mut [u8],
-    at: usize,
-) -> usize
-    requires { (length s.now ≤ tree_limit) × Spells words.now }
+fn write_end(s: &[u8], set: &[u8], writing: Writing, out: &mut [u8], at: usize) -> usize
+    requires { (length s.now ≤ tree_limit) }
     ensures { (t : Tree) → s.now ≡ encode t → sound t ≡ true → Lays count_limit at (text writing (settings_in set.now) t) out.old out.new result }
 {
     if record::word_at(s, KIND) == DATE {
         return put_date(s, out, at);
     }
-    to_sql_impl(s, set, writing, words, out, at)
+    to_sql_impl(s, set, writing, out, at)
 }
 
 // The text of a node with operands: of a temporal one its template filled.
 #[cycle(nodes)]
-fn write_operands(
-    s: &[u8],
-    set: &[u8],
-    writing: Writing,
-    words: &[u8; 256],
-    out: &mut [u8],
-    at: usize,
-) -> usize
-    requires { (length s.now ≤ tree_limit) × (14 ≤ length s.now) × Spells words.now }
+fn write_operands(s: &[u8], set: &[u8], writing: Writing, out: &mut [u8], at: usize) -> usize
+    requires { (length s.now ≤ tree_limit) × (14 ≤ length s.now) }
     ensures { (t : Tree) → s.now ≡ encode t → sound t ≡ true → 9 ≤ le16 s.now 4 → le16 s.now 4 < 11 → Lays count_limit at (text writing (settings_in set.now) t) out.old out.new result }
 {
     let kind = record::word_at(s, KIND);
     let op = record::word_at(s, BODY);
     let m = end_of(s, OPERAND);
     if !is_temporal(kind, op) {
-        return write_others(s, kind, op, m, set, writing, words, out, at);
+        return write_others(s, kind, op, m, set, writing, out, at);
     }
     let e = temporal_ends(s, m);
     let t = template_of(s, op, m, e);
@@ -267,7 +239,7 @@ fn write_operands(
                 if !inside(a, z, s.len()) {
                     return here;
                 }
-                here = write_end(&s[a..z], set, writing, words, out, here);
+                here = write_end(&s[a..z], set, writing, out, here);
             }
             Piece::Name(a, z) => {
                 if !inside(a, z, s.len()) {
@@ -286,11 +258,10 @@ pub(crate) fn to_sql_impl(
     s: &[u8],
     set: &[u8],
     writing: Writing,
-    words: &[u8; 256],
     out: &mut [u8],
     at: usize,
 ) -> usize
-    requires { (length s.now ≤ tree_limit) × Spells words.now }
+    requires { (length s.now ≤ tree_limit) }
     ensures { (t : Tree) → s.now ≡ encode t → sound t ≡ true → Lays count_limit at (text writing (settings_in set.now) t) out.old out.new result }
 {
     // Past the limit nothing is counted or written any more.
@@ -311,12 +282,12 @@ pub(crate) fn to_sql_impl(
         if s.len() < OPERAND_BODY {
             return emit::ended(at, 0);
         }
-        return write_operands(s, set, writing, words, out, at);
+        return write_operands(s, set, writing, out, at);
     }
     let to = items_at(s, kind);
     let from = least(NAME, to);
     let name = emit::put(&s[from..to], out, at);
     let open = emit::put(b"(", out, name);
-    let here = write_items(&s[to..], set, writing, words, out, open);
+    let here = write_items(&s[to..], set, writing, out, open);
     emit::put(b")", out, here)
 }

@@ -38,14 +38,6 @@ pub(crate) fn rest(s: &[u8], n: usize) -> &[u8]
     &s[from..]
 }
 
-// What stands in s from one place to another.
-pub(crate) fn part(s: &[u8], from: usize, to: usize) -> &[u8]
-    requires { (from ≤ to) × (to ≤ length s.now) }
-    ensures { result.now ≡ take (to - from) (drop from s.now) }
-{
-    &s[from..to]
-}
-
 pub(crate) fn within(lo: usize, n: usize, hi: usize) -> bool
     ensures { result ≡ between lo n hi }
 {

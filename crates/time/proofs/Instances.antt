@@ -4,7 +4,7 @@ use Rattle.std.specs.Prelude.{ℕ, ◌≡◌, refl, List, [], ◌∷◌, ◌++�
 use Rattle.std.proofs.Common.{◌∙◌, arith, ltb-true}
 use Rattle.prelude.specs.Bytes.{bytes}
 use Rattle.prelude.specs.Choice.{all}
-use Rattle.prelude.specs.ChoiceLaws.{both_true}
+use Rattle.prelude.specs.ChoiceLaws.{all_true}
 use Rattle.op.specs.declared.Op.{Op}
 use Rattle.op.specs.declared.Op.TheVariants.{TAfter, TBefore, TContains, TDisjoint, TDuring, TEquals, TFinishedBy, TFinishes, TIntersects, TMeets, TMetBy, TOverlappedBy, TOverlaps, TStartedBy, TStarts}
 use Rattle.op.specs.Op.{is_temporal}
@@ -66,7 +66,7 @@ use Rattle.time.specs.Ogc as time-ogc
 -- bytes, by a test that is computed
 pub bytes-by : (s : List ℕ) → all (λ b. ltb b 256) s ≡ true → Bytes s
 bytes-by [] e = tt
-bytes-by (b ∷ s) e = let h = both_true (ltb b 256) (all (λ b. ltb b 256) s) e in (ltb-true b 256 h.0, bytes-by s h.1)
+bytes-by (b ∷ s) e = let h = all_true (λ b. ltb b 256) b s e in (ltb-true b 256 h.0, bytes-by s h.1)
 
 abbrev pub settings : Settings
 settings = record { precision = 7; ci = bytes "NC"; ai = bytes "NA"; cai = bytes "NCA" }

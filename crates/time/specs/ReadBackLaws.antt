@@ -9,7 +9,7 @@ use Rattle.lexer.specs.Lex.{Token, tokens, tokens_in, kind, rest, lexeme, run, w
 use Rattle.lexer.specs.LexLaws.{is_same, is_other, is-apart, tokens-space, tokens_one}
 use Rattle.truth.specs.Grammar.{Ast, neg, conj, disj, got, is_comparison, simple, or_e, or_more, and_e, and_more, not_e, test}
 use Rattle.truth.specs.Reading.{parse, bracket_limit}
-use Rattle.prelude.specs.Choice.{some, same}
+use Rattle.prelude.specs.Choice.{some}
 use Rattle.charset.specs.Charset.{letter, digit, name_start, name_byte}
 use Rattle.word.specs.Case.{upper}
 

@@ -9,14 +9,9 @@ use lib.ListN.{length, get_or, take, drop, length-drop}
 use lib.Seq.{take_all}
 use lib.Dec.{ltb, leb}
 use borrow.Author.Tests.{ltb-true, ltb-false, le-ltb, lt-ltb, le-leb, lt-leb, eq-eqb}
-use Rattle.prelude.specs.Choice.{pick, some}
+use Rattle.prelude.specs.Choice.{pick}
 use Rattle.tree.specs.Limits.{mantissa_limit}
-use Rattle.record.specs.Record.{le16, signed}
-use Rattle.civil.specs.Civil.{valid_date, valid_time}
-use Rattle.op.specs.declared.Op.{Op}
-use Rattle.op.specs.Op.{op_number}
-use Rattle.tree.specs.Placed.{is_between}
-use Rattle.tree.specs.Parse.{timestamp_body, takes_one}
+use Rattle.record.specs.Record.{signed}
 
 -- The bytes from `at` on, as the code's `&s[at..]` has them.
 abbrev pub tail : ℕ → List ℕ → List ℕ
@@ -42,13 +37,3 @@ limit_high n h l = go (ltb n 9223372036854775808) refl
         high : (b : Bool) → ltb (18446744073709551615 - mantissa_limit) n ≡ b → b ≡ leb (suc (18446744073709551615 - n)) mantissa_limit
         high true f = sym (le-leb (suc (18446744073709551615 - n)) mantissa_limit (omega (arith, ltb-true (18446744073709551615 - mantissa_limit) n f)))
         high false f = sym (lt-leb (suc (18446744073709551615 - n)) mantissa_limit (omega (arith, ltb-false (18446744073709551615 - mantissa_limit) n f)))
-
--- Fields.
-
-pub pick_same : (b : Bool) → b ≡ pick b true false
-pick_same true = refl
-pick_same false = refl
-
-pub timestamp-is : (s : List ℕ) (y m d h i x : ℕ) → length s ≡ 7 → y ≡ le16 s 0 → m ≡ get_or s 2 0 → d ≡ get_or s 3 0 → h ≡ get_or s 4 0 → i ≡ get_or s 5 0 → x ≡ get_or s 6 0 → valid_date y m d ≡ true → valid_time h i x ≡ timestamp_body s
-unfolding timestamp_body
-timestamp-is s y m d h i x l ey em ed eh ei ex v = simp (eq-eqb (length s) 7 l, ← ey, ← em, ← ed, v, eh, ei, ex)

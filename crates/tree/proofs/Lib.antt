@@ -1,3 +1,4 @@
 -- What the proofs of several functions use.
-mod Laws
+pub mod Laws
 mod WalkLaws
+pub mod Tests

@@ -1,13 +1,12 @@
 -- What the settings hold, with refusal 1, and what is accepted, with refusals 1 to 7 in order: document 01, "Records" and "What a caller
 -- hears"; by the caller's limits: document 02, slip 7.
-use Rattle.std.specs.Prelude.{ℕ, List, length, get_or, ltb}
+use Rattle.std.specs.Prelude.{ℕ, List, length, get_or, ltb, Result, Ok, Err}
 use Rattle.prelude.specs.Choice.{pick}
+use Rattle.refusal.specs.declared.Refusal.{Refusal}
 use Rattle.refusal.specs.declared.Refusal.TheVariants.{BadSettings, TreeTooLong, BadOperand}
 use Rattle.refusal.specs.Number.{number_of}
 use Rattle.settings.specs.Settings.{precision_at, ci_at, ai_at, cai_at, is_settings}
 use Rattle.charset.specs.Named.{name_at}
-use Rattle.tree.specs.declared.Checked.{Checked}
-use Rattle.tree.specs.declared.Checked.TheVariants.{Valid, Refused}
 use Rattle.tree.specs.declared.Limits.{Limits}
 use Rattle.tree.specs.Tree.{Tree, Settings}
 use Rattle.tree.specs.Parse.{Read, refused, got, also, parse}
@@ -33,10 +32,10 @@ accepted limits c s =
     pick (ltb limits.tree (length s)) (refused TreeTooLong)
     (also (parse limits.depth s) (λ t. pick (placed t) (got (g, t)) (refused BadOperand))))
 
--- the answer: that they are accepted, or the refusal
-unfoldable pub verdict : {A : Type 0} → Read A → Checked
-verdict (refused n) = Refused n
-verdict (got a) = Valid
+-- the answer: nothing more where they are accepted, or the refusal
+unfoldable pub verdict : {A : Type 0} → Read A → Result (Unit {0}) Refusal
+verdict (refused n) = Err n
+verdict (got a) = Ok tt
 
 -- What a caller hears of settings and a tree, in document 01's terms: that they are accepted, or a refusal's number alone.
 pub data Heard : Type 0 where
@@ -49,6 +48,6 @@ said (refused n) = refusal (number_of n)
 said (got a) = valid
 
 -- of the call's answer
-abbrev pub heard : Checked → Heard
-heard Valid = valid
-heard (Refused n) = refusal (number_of n)
+abbrev pub heard : Result (Unit {0}) Refusal → Heard
+heard (Ok u) = valid
+heard (Err n) = refusal (number_of n)

@@ -1,6 +1,6 @@
 -- Laws of specs/Accepted.antt: what an accepted pair of settings and tree is, taken apart and put together again, and that the settings, too, are
 -- written as they were read.
-use Rattle.std.specs.Prelude.{◌≡◌, refl, List, [], ◌∷◌, ◌++◌, Bool, true, false, ℕ, ◌+◌, ◌-◌, ◌≤◌, ◌<◌, length, get_or, take, drop, ltb, leb, eqb, Option, None, Some}
+use Rattle.std.specs.Prelude.{◌≡◌, refl, List, [], ◌∷◌, ◌++◌, Bool, true, false, ℕ, ◌+◌, ◌-◌, ◌≤◌, ◌<◌, length, get_or, take, drop, ltb, leb, eqb, Option, None, Some, Result, Ok, Err}
 use Rattle.std.proofs.Common.{ap, sym, ◌∙◌, ⊎_elim, append-nil, arith, length-drop, take-append-drop, drop_of_length-le, length-take-le, drop-drop, take_all, ltb-false, le-ltb, eqb-true, leb-true}
 use Rattle.prelude.specs.Choice.{pick, both}
 use Rattle.refusal.specs.declared.Refusal.TheVariants.{BadSettings, TreeTooLong, BadOperand}
@@ -9,7 +9,6 @@ use Rattle.record.specs.Record.{frame, record_of, whole}
 use Rattle.charset.specs.Charset.{name}
 use Rattle.settings.specs.Settings.{precision_limit, settings_kind, is_frame, ci_at, ai_at, cai_at, settings_body, is_settings}
 use Rattle.charset.specs.Named.{name_at, past, named_at}
-use Rattle.tree.specs.declared.Checked.TheVariants.{Valid}
 use Rattle.tree.specs.declared.Limits.{Limits}
 use Rattle.tree.specs.Tree.{Tree, Settings, encode, encode_settings, counted, Bytes}
 use Rattle.tree.specs.Parse.{Read, refused, got, also, parse}
@@ -88,16 +87,16 @@ pub accepted-written : (l : Limits) (c : List ℕ) (g : Settings) (t : Tree) →
     → accepted l c (encode t) ≡ got (g, t)
 accepted-written l c g t m p h n r = accepted_of l c (encode t) g t p n (encode_parse l.depth t h (omega arith)) r
 
--- `Valid` is the answer for what is accepted and for nothing else
-pub valid-is : (l : Limits) (c s : List ℕ) → verdict (accepted l c s) ≡ Valid → (x : Settings × Tree) × (accepted l c s ≡ got x)
+-- `(Ok tt)` is the answer for what is accepted and for nothing else
+pub valid-is : (l : Limits) (c s : List ℕ) → verdict (accepted l c s) ≡ (Ok tt) → (x : Settings × Tree) × (accepted l c s ≡ got x)
 unfolding verdict
 valid-is l c s h = go (accepted l c s) refl h
   where
-    go : (r : Read (Settings × Tree)) → accepted l c s ≡ r → verdict r ≡ Valid → (x : Settings × Tree) × (accepted l c s ≡ got x)
+    go : (r : Read (Settings × Tree)) → accepted l c s ≡ r → verdict r ≡ (Ok tt) → (x : Settings × Tree) × (accepted l c s ≡ got x)
     go (refused n) e v = let z : ◌≡◌ {A = ℕ} 0 1 = cc in absurd (omega arith)
     go (got x) e v = (x, e)
 
-pub is-valid : (l : Limits) (c s : List ℕ) (x : Settings × Tree) → accepted l c s ≡ got x → verdict (accepted l c s) ≡ Valid
+pub is-valid : (l : Limits) (c s : List ℕ) (x : Settings × Tree) → accepted l c s ≡ got x → verdict (accepted l c s) ≡ (Ok tt)
 unfolding verdict
 is-valid l c s x e = simp e
 

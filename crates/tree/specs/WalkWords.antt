@@ -1,6 +1,7 @@
 -- What the code's walk answers about a reading: the refusal, or what has to be known of a tree to decide refusal 7 above it. Document 01, "What a caller hears".
-use Rattle.std.specs.Prelude.{ℕ, ◌-◌, List, Bool, true, false, length, take, drop, ltb, eqb, Option, None, Some}
+use Rattle.std.specs.Prelude.{ℕ, ◌-◌, List, Bool, true, false, length, take, drop, ltb, eqb, Option, None, Some, Result, Ok, Err}
 use Rattle.prelude.specs.Choice.{pick, both}
+use Rattle.refusal.specs.declared.Refusal.{Refusal}
 use Rattle.refusal.specs.declared.Refusal.TheVariants.{BadFrame, BadKindOrOperator, BadField}
 use Rattle.record.specs.declared.Frame.{Frame}
 use Rattle.record.specs.Record.{le16, frame}
@@ -8,16 +9,7 @@ use Rattle.op.specs.declared.Op.{Op}
 use Rattle.op.specs.Op.{op_of, is_temporal, is_instant_or_interval}
 use Rattle.tree.specs.declared.Shape.{Shape}
 use Rattle.tree.specs.declared.Shape.TheVariants.{Interval, Pair, Other, Misplaced}
-use Rattle.tree.specs.declared.One.{One}
-use Rattle.tree.specs.declared.One.TheVariants.{OneBad, OneIs}
-use Rattle.tree.specs.declared.Two.{Two}
-use Rattle.tree.specs.declared.Two.TheVariants.{TwoBad, TwoAre}
 use Rattle.tree.specs.declared.Items.{Items}
-use Rattle.tree.specs.declared.Items.TheVariants.{ItemsBad, ItemsAre}
-use Rattle.tree.specs.declared.First.{First}
-use Rattle.tree.specs.declared.First.TheVariants.{Stop, Next}
-use Rattle.tree.specs.declared.Taken.{Taken}
-use Rattle.tree.specs.declared.Taken.TheVariants.{Takes, Refuses}
 use Rattle.tree.specs.Tree.{Tree, Trees}
 use Rattle.tree.specs.Parse.{Read, refused, got, Body}
 use Rattle.tree.specs.Tests.{first, second, is_interval, is_pair, count}
@@ -28,40 +20,49 @@ unfoldable pub shape_of : Tree → Shape
 shape_of t = pick (inner t) (pick (is_interval t) Interval (pick (is_pair t) Pair Other)) Misplaced
 
 -- the answers of the walk: one record, two, records to the end, the record at the front of s
-unfoldable pub seen : Read Tree → One
-seen (refused n) = OneBad n
-seen (got t) = OneIs (shape_of t)
+abbrev pub two : Shape → Shape → Result (Shape × Shape) Refusal
+two a b = Ok (a, b)
 
-unfoldable pub seen_one : Read Trees → One
-seen_one (refused n) = OneBad n
-seen_one (got ts) = OneIs (shape_of (first ts))
+abbrev pub every : Bool → ℕ → Result Items Refusal
+every p c = Ok (record { plain = p; count = c })
 
-unfoldable pub seen_two : Read Trees → Two
-seen_two (refused n) = TwoBad n
-seen_two (got ts) = TwoAre (shape_of (first ts)) (shape_of (second ts))
+abbrev pub next : ℕ → Shape → Result (ℕ × Shape) Refusal
+next e a = Ok (e, a)
 
-unfoldable pub seen_all : Read Trees → Items
-seen_all (refused n) = ItemsBad n
-seen_all (got ts) = ItemsAre (inners ts) (count ts)
+unfoldable pub seen : Read Tree → Result Shape Refusal
+seen (refused n) = Err n
+seen (got t) = Ok (shape_of t)
 
-unfoldable pub ended : ℕ → Read Tree → First
-ended e (refused n) = Stop n
-ended e (got t) = Next e (shape_of t)
+unfoldable pub seen_one : Read Trees → Result Shape Refusal
+seen_one (refused n) = Err n
+seen_one (got ts) = Ok (shape_of (first ts))
 
-unfoldable pub framed : Body → List ℕ → Option Frame → First
-framed body s None = Stop BadFrame
+unfoldable pub seen_two : Read Trees → Result (Shape × Shape) Refusal
+seen_two (refused n) = Err n
+seen_two (got ts) = two (shape_of (first ts)) (shape_of (second ts))
+
+unfoldable pub seen_all : Read Trees → Result Items Refusal
+seen_all (refused n) = Err n
+seen_all (got ts) = every (inners ts) (count ts)
+
+unfoldable pub ended : ℕ → Read Tree → Result (ℕ × Shape) Refusal
+ended e (refused n) = Err n
+ended e (got t) = next e (shape_of t)
+
+unfoldable pub framed : Body → List ℕ → Option Frame → Result (ℕ × Shape) Refusal
+framed body s None = Err BadFrame
 framed body s (Some f) = ended f.end (body f.kind (take (f.end - 6) (drop 6 s)))
 
-abbrev pub first_of : Body → List ℕ → First
+abbrev pub first_of : Body → List ℕ → Result (ℕ × Shape) Refusal
 first_of body s = framed body s (frame s)
 
 -- the operator at the front of a body
-unfoldable pub taken_by : (Op → Bool) → Option Op → Taken
-taken_by test None = Refuses BadKindOrOperator
-taken_by test (Some o) = pick (test o) (Takes o) (Refuses BadKindOrOperator)
+unfoldable pub taken_by : (Op → Bool) → Option Op → Result Op Refusal
+taken_by test None = Err BadKindOrOperator
+taken_by test (Some o) = pick (test o) (Ok o) (Err BadKindOrOperator)
 
-unfoldable pub taken : (Op → Bool) → List ℕ → Taken
-taken test s = pick (ltb (length s) 2) (Refuses BadField) (taken_by test (op_of (le16 s 0)))
+unfoldable pub taken : (Op → Bool) → List ℕ → Result Op Refusal
+taken test s = pick (ltb (length s) 2) (Err BadField) (taken_by test (op_of (le16 s 0)))
 
 -- Shapes.
 
@@ -99,25 +100,27 @@ fits o a b =
 abbrev pub or_misplaced : Bool → Shape → Shape
 or_misplaced b h = pick b h Misplaced
 
-abbrev pub leaf_one : Bool → One
-leaf_one b = pick b (OneIs Other) (OneBad BadField)
+abbrev pub leaf_one : Bool → Result Shape Refusal
+leaf_one b = pick b (Ok Other) (Err BadField)
 
-abbrev pub monadic_one : One → One
-monadic_one (OneBad n) = OneBad n
-monadic_one (OneIs a) = OneIs (or_misplaced (plain_shape a) Other)
+-- what the answers below a record make of the record: one for each kind
 
-abbrev pub dyadic_one : Op → Two → One
-dyadic_one o (TwoBad n) = OneBad n
-dyadic_one o (TwoAre a b) = OneIs (or_misplaced (fits o a b) Other)
+abbrev pub monadic_one : Result Shape Refusal → Result Shape Refusal
+monadic_one (Err n) = Err n
+monadic_one (Ok a) = Ok (or_misplaced (plain_shape a) Other)
 
-abbrev pub function_one : Items → One
-function_one (ItemsBad n) = OneBad n
-function_one (ItemsAre p c) = OneIs (or_misplaced p Other)
+abbrev pub dyadic_one : Op → Result (Shape × Shape) Refusal → Result Shape Refusal
+dyadic_one o (Err n) = Err n
+dyadic_one o (Ok t) = Ok (or_misplaced (fits o t.0 t.1) Other)
 
-abbrev pub array_one : Items → One
-array_one (ItemsBad n) = OneBad n
-array_one (ItemsAre p c) = OneIs (or_misplaced p (pick (eqb c 2) Pair Other))
+abbrev pub function_one : Result Items Refusal → Result Shape Refusal
+function_one (Err n) = Err n
+function_one (Ok i) = Ok (or_misplaced i.plain Other)
 
-abbrev pub interval_one : Two → One
-interval_one (TwoBad n) = OneBad n
-interval_one (TwoAre a b) = OneIs (or_misplaced (both (plain_shape a) (plain_shape b)) Interval)
+abbrev pub array_one : Result Items Refusal → Result Shape Refusal
+array_one (Err n) = Err n
+array_one (Ok i) = Ok (or_misplaced i.plain (pick (eqb i.count 2) Pair Other))
+
+abbrev pub interval_one : Result (Shape × Shape) Refusal → Result Shape Refusal
+interval_one (Err n) = Err n
+interval_one (Ok t) = Ok (or_misplaced (both (plain_shape t.0) (plain_shape t.1)) Interval)

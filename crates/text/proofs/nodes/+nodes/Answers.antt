@@ -30,59 +30,11 @@ to_sql_impl-returns-then-s-lt-BODY t c = λ t e f. absurd (let h = six _ t e in 
 pub to_sql_impl-returns-then-s-lt-OPERAND_BODY : goal.to_sql_impl-returns-then-s-lt-OPERAND_BODY
 to_sql_impl-returns-then-s-lt-OPERAND_BODY t c = λ t e f. absurd (let h = fourteen _ t c.word_at-kind.result e c.word_at-kind.ensures.0 (omega arith) (omega arith) in let v : ⊥ = omega arith in v)
 
-pub to_sql_impl-write_operands-requires : goal.to_sql_impl-write_operands-requires
-to_sql_impl-write_operands-requires t c = let m = c.requires in (omega arith, (omega arith, omega arith, m.1))
-
 pub to_sql_impl-returns-then-kind-lt-FUNCTION : goal.to_sql_impl-returns-then-kind-lt-FUNCTION
 to_sql_impl-returns-then-kind-lt-FUNCTION t c = λ t e f. c.write_operands.ensures t e f (let q = c.word_at-kind.ensures.0 in omega arith) (let q = c.word_at-kind.ensures.0 in omega arith)
 
-pub to_sql_impl-slice_bounds-put-count : goal.to_sql_impl-slice_bounds-put-count
-to_sql_impl-slice_bounds-put-count t c = let q = c.least-from.ensures in omega arith
-
-pub to_sql_impl-slice_bounds-put-start : goal.to_sql_impl-slice_bounds-put-start
-to_sql_impl-slice_bounds-put-start t c = let q = c.least-from.ensures in omega arith
-
-pub to_sql_impl-slice_bounds-put-end : goal.to_sql_impl-slice_bounds-put-end
-to_sql_impl-slice_bounds-put-end t c = c.items_at-to.ensures.1
-
-pub to_sql_impl-slice_bounds-write_items-count : goal.to_sql_impl-slice_bounds-write_items-count
-to_sql_impl-slice_bounds-write_items-count t c = c.items_at-to.ensures.1
-
-pub to_sql_impl-slice_bounds-write_items-start : goal.to_sql_impl-slice_bounds-write_items-start
-to_sql_impl-slice_bounds-write_items-start t c = c.items_at-to.ensures.1
-
-pub to_sql_impl-write_items-here-requires : goal.to_sql_impl-write_items-here-requires
-to_sql_impl-write_items-here-requires t c = let m = c.requires in (items_fall c.args.s.now c.items_at-to.result _ c.items_at-to.ensures.0 c.items_at-to.ensures.1 c.decreases, (items_short c.args.s.now c.items_at-to.result c.items_at-to.ensures.1 m.0, m.1))
-
 pub to_sql_impl-returns : goal.to_sql_impl-returns
 to_sql_impl-returns t c = λ t e f. let w = listed c.args.writing (settings_in c.args.set.now) c.args.s.now c.word_at-kind.result c.least-from.result c.items_at-to.result t e f c.word_at-kind.ensures.0 (omega arith) (omega arith) c.items_at-to.ensures.2 c.least-from.ensures in lays_of (sym w.whole) (lays_then (lays c.put-name.ensures) (lays_then (lays c.put-open.ensures) (lays_then (c.write_items-here.ensures w.ts w.there w.fit) (lays c.put.ensures))))
-
-pub write_between-bounds_at-p-requires : goal.write_between-bounds_at-p-requires
-write_between-bounds_at-p-requires t c = (c.requires.0, c.requires.2)
-
-pub write_between-end_of-q-requires : goal.write_between-end_of-q-requires
-write_between-end_of-q-requires t c = let m = c.requires in let w = bounds_range (eqb (le16 c.args.s.now (c.args.m + 4)) 12) _ _ _ m.1 m.2 c.bounds_at-p.ensures in (w.1, m.0)
-
-pub write_between-end_of-z-requires : goal.write_between-end_of-z-requires
-write_between-end_of-z-requires t c = (c.end_of-q.ensures.high, c.requires.0)
-
-pub write_between-slice_bounds-to_sql_impl-count : goal.write_between-slice_bounds-to_sql_impl-count
-write_between-slice_bounds-to_sql_impl-count t c = c.requires.1
-
-pub write_between-slice_bounds-to_sql_impl-start : goal.write_between-slice_bounds-to_sql_impl-start
-write_between-slice_bounds-to_sql_impl-start t c = c.requires.1
-
-pub write_between-slice_bounds-to_sql_impl-end : goal.write_between-slice_bounds-to_sql_impl-end
-write_between-slice_bounds-to_sql_impl-end t c = c.requires.2
-
-pub write_between-to_sql_impl-left-requires : goal.write_between-to_sql_impl-left-requires
-write_between-to_sql_impl-left-requires t c = let m = c.requires in (simp (length-take, length-drop) (omega arith), (simp (length-take, length-drop) (omega arith), m.3))
-
-pub write_between-write_bound-low-requires : goal.write_between-write_bound-low-requires
-write_between-write_bound-low-requires t c = let m = c.requires in let w = bounds_range (eqb (le16 c.args.s.now (c.args.m + 4)) 12) _ _ _ m.1 m.2 c.bounds_at-p.ensures in (omega arith, (m.0, w.0, c.end_of-q.ensures.low, c.end_of-q.ensures.high, m.3))
-
-pub write_between-write_bound-requires : goal.write_between-write_bound-requires
-write_between-write_bound-requires t c = let m = c.requires in let w = bounds_range (eqb (le16 c.args.s.now (c.args.m + 4)) 12) _ _ _ m.1 m.2 c.bounds_at-p.ensures in (omega arith, (m.0, omega (arith, w.0, c.end_of-q.ensures.low), c.end_of-z.ensures.low, c.end_of-z.ensures.high, m.3))
 
 pub write_between-returns : goal.write_between-returns
 write_between-returns t c = λ t nd h. between_step c.args.writing (settings_in c.args.set.now) nd h c.bounds_at-p.ensures c.end_of-q.ensures c.end_of-z.ensures c.to_sql_impl-left.ensures c.put_infix-word.ensures c.write_bound-low.ensures (lays c.put-upto.ensures) c.write_bound.ensures
@@ -90,92 +42,20 @@ write_between-returns t c = λ t nd h. between_step c.args.writing (settings_in 
 pub write_bound-returns-then-a-z : goal.write_bound-returns-then-a-z
 write_bound-returns-then-a-z t c = λ x b. lays_of (bound_null c.args.writing (settings_in c.args.set.now) c.if-a-z.true b) (lays c.put.ensures)
 
-pub write_bound-slice_bounds-to_sql_impl-count : goal.write_bound-slice_bounds-to_sql_impl-count
-write_bound-slice_bounds-to_sql_impl-count t c = c.requires.2
-
-pub write_bound-slice_bounds-to_sql_impl-start : goal.write_bound-slice_bounds-to_sql_impl-start
-write_bound-slice_bounds-to_sql_impl-start t c = c.requires.2
-
-pub write_bound-slice_bounds-to_sql_impl-end : goal.write_bound-slice_bounds-to_sql_impl-end
-write_bound-slice_bounds-to_sql_impl-end t c = c.requires.3
-
-pub write_bound-to_sql_impl-requires : goal.write_bound-to_sql_impl-requires
-write_bound-to_sql_impl-requires t c = let m = c.requires in (simp (length-take, length-drop) (omega arith), (simp (length-take, length-drop) (omega arith), m.4))
-
 pub write_bound-returns : goal.write_bound-returns
 write_bound-returns t c = λ x b. let w = bound_item c.if-a-z.false b in c.to_sql_impl.ensures x w.0 w.1
 
 pub write_end-returns-then-word_at-eq-DATE : goal.write_end-returns-then-word_at-eq-DATE
 write_end-returns-then-word_at-eq-DATE t c = λ t e f. lays_of (date-step c.args.writing (settings_in c.args.set.now) c.args.s.now t c.word_at.result e f c.word_at.ensures.0 c.if-word_at-eq-DATE.true) c.put_date.ensures
 
-pub write_end-to_sql_impl-requires : goal.write_end-to_sql_impl-requires
-write_end-to_sql_impl-requires t c = let m = c.requires in (omega arith, (m.0, m.1))
-
 pub write_end-returns : goal.write_end-returns
 write_end-returns t c = λ t e f. c.to_sql_impl.ensures t e f
-
-pub write_infix-slice_bounds-is_left_bare-count : goal.write_infix-slice_bounds-is_left_bare-count
-write_infix-slice_bounds-is_left_bare-count t c = c.requires.1
-
-pub write_infix-slice_bounds-is_left_bare-start : goal.write_infix-slice_bounds-is_left_bare-start
-write_infix-slice_bounds-is_left_bare-start t c = c.requires.1
-
-pub write_infix-slice_bounds-is_left_bare-end : goal.write_infix-slice_bounds-is_left_bare-end
-write_infix-slice_bounds-is_left_bare-end t c = c.requires.2
-
-pub write_infix-is_left_bare-a-requires : goal.write_infix-is_left_bare-a-requires
-write_infix-is_left_bare-a-requires t c = let h = c.requires in simp (length-take, length-drop) (omega arith)
-
-pub write_infix-slice_bounds-is_right_bare-count : goal.write_infix-slice_bounds-is_right_bare-count
-write_infix-slice_bounds-is_right_bare-count t c = c.requires.2
-
-pub write_infix-slice_bounds-is_right_bare-start : goal.write_infix-slice_bounds-is_right_bare-start
-write_infix-slice_bounds-is_right_bare-start t c = c.requires.2
-
-pub write_infix-is_right_bare-b-requires : goal.write_infix-is_right_bare-b-requires
-write_infix-is_right_bare-b-requires t c = let h = c.requires in simp (length-take, length-drop) (omega arith)
-
-pub write_infix-slice_bounds-to_sql_impl-count : goal.write_infix-slice_bounds-to_sql_impl-count
-write_infix-slice_bounds-to_sql_impl-count t c = c.requires.1
-
-pub write_infix-slice_bounds-to_sql_impl-start : goal.write_infix-slice_bounds-to_sql_impl-start
-write_infix-slice_bounds-to_sql_impl-start t c = c.requires.1
-
-pub write_infix-slice_bounds-to_sql_impl-end : goal.write_infix-slice_bounds-to_sql_impl-end
-write_infix-slice_bounds-to_sql_impl-end t c = c.requires.2
-
-pub write_infix-to_sql_impl-left-requires : goal.write_infix-to_sql_impl-left-requires
-write_infix-to_sql_impl-left-requires t c = let m = c.requires in (simp (length-take, length-drop) (omega arith), (simp (length-take, length-drop) (omega arith), m.3))
-
-pub write_infix-slice_bounds-to_sql_impl-count-2 : goal.write_infix-slice_bounds-to_sql_impl-count-2
-write_infix-slice_bounds-to_sql_impl-count-2 t c = c.requires.2
-
-pub write_infix-slice_bounds-to_sql_impl-start-2 : goal.write_infix-slice_bounds-to_sql_impl-start-2
-write_infix-slice_bounds-to_sql_impl-start-2 t c = c.requires.2
-
-pub write_infix-to_sql_impl-right-requires : goal.write_infix-to_sql_impl-right-requires
-write_infix-to_sql_impl-right-requires t c = let m = c.requires in (simp (length-take, length-drop) (omega arith), (simp (length-take, length-drop) (omega arith), m.3))
 
 pub write_infix-returns : goal.write_infix-returns
 write_infix-returns t c = λ t nd ht hs hw. infix_step c.args.writing (settings_in c.args.set.now) nd ht hs hw c.is_left_bare-a.ensures c.is_right_bare-b.ensures (lays c.put_either-open.ensures) c.to_sql_impl-left.ensures c.put_infix-here.ensures c.to_sql_impl-right.ensures (lays c.put_either.ensures)
 
 pub write_items-loop-p-init : goal.write_items-loop-p-init
 write_items-loop-p-init t c = (refl, λ ts e f. come_start _ _ _ _ _ ts _ e f c.ended-here.ensures)
-
-pub write_items-end_of-z-requires : goal.write_items-end_of-z-requires
-write_items-end_of-z-requires t c = let m = c.requires in (omega arith, omega arith)
-
-pub write_items-slice_bounds-to_sql_impl-count : goal.write_items-slice_bounds-to_sql_impl-count
-write_items-slice_bounds-to_sql_impl-count t c = c.end_of-z.ensures.low
-
-pub write_items-slice_bounds-to_sql_impl-start : goal.write_items-slice_bounds-to_sql_impl-start
-write_items-slice_bounds-to_sql_impl-start t c = c.end_of-z.ensures.low
-
-pub write_items-slice_bounds-to_sql_impl-end : goal.write_items-slice_bounds-to_sql_impl-end
-write_items-slice_bounds-to_sql_impl-end t c = c.end_of-z.ensures.high
-
-pub write_items-to_sql_impl-here-requires : goal.write_items-to_sql_impl-here-requires
-write_items-to_sql_impl-here-requires t c = let a = c.end_of-z.ensures.high in let b = c.end_of-z.ensures.low in let m = c.requires in (simp (length-take, length-drop) (omega arith), (simp (length-take, length-drop) (omega arith), m.1))
 
 pub write_items-loop-p-smaller : goal.write_items-loop-p-smaller
 write_items-loop-p-smaller t c = let h = c.end_of-z.ensures.moves (omega arith) in omega arith
@@ -186,51 +66,15 @@ write_items-loop-p-preserved t c = (c.to_sql_impl-here.auto.out ∙ c.put_comma-
 pub write_items-returns : goal.write_items-returns
 write_items-returns t c = λ ts e f. come_end (omega arith) (c.loop-p.invariant.1 ts e f)
 
-pub write_monadic-slice_bounds-is_literal_or_id-count : goal.write_monadic-slice_bounds-is_literal_or_id-count
-write_monadic-slice_bounds-is_literal_or_id-count t c = let h = c.requires in omega arith
-
-pub write_monadic-slice_bounds-is_literal_or_id-start : goal.write_monadic-slice_bounds-is_literal_or_id-start
-write_monadic-slice_bounds-is_literal_or_id-start t c = let h = c.requires in omega arith
-
-pub write_monadic-is_literal_or_id-bare-requires : goal.write_monadic-is_literal_or_id-bare-requires
-write_monadic-is_literal_or_id-bare-requires t c = let h = c.requires in simp (length-take, length-drop) (omega arith)
-
-pub write_monadic-slice_bounds-to_sql_impl-count : goal.write_monadic-slice_bounds-to_sql_impl-count
-write_monadic-slice_bounds-to_sql_impl-count t c = let h = c.requires.1 in let q = from_bounds c.is_twin-twin.result _ _ h c.operand_from-from.ensures in q.1
-
-pub write_monadic-slice_bounds-to_sql_impl-start : goal.write_monadic-slice_bounds-to_sql_impl-start
-write_monadic-slice_bounds-to_sql_impl-start t c = let h = c.requires.1 in let q = from_bounds c.is_twin-twin.result _ _ h c.operand_from-from.ensures in q.1
-
-pub write_monadic-to_sql_impl-here-requires : goal.write_monadic-to_sql_impl-here-requires
-write_monadic-to_sql_impl-here-requires t c = let m = c.requires in let q = from_bounds c.is_twin-twin.result _ _ m.1 c.operand_from-from.ensures in (simp (length-take, length-drop) (omega arith), (simp (length-take, length-drop) (omega arith), m.2))
-
 pub write_monadic-returns : goal.write_monadic-returns
 write_monadic-returns t c = λ m t nd. monadic_step c.args.writing (settings_in c.args.set.now) nd c.is_literal_or_id-bare.ensures c.word_at.ensures.0 c.word_at-2.ensures.0 c.is_twin-twin.ensures c.operand_from-from.ensures c.put_before-before.ensures c.to_sql_impl-here.ensures c.put_behind.ensures
-
-pub write_operands-end_of-m-requires : goal.write_operands-end_of-m-requires
-write_operands-end_of-m-requires t c = let m = c.requires in (omega arith, omega arith)
-
-pub write_operands-write_others-requires : goal.write_operands-write_others-requires
-write_operands-write_others-requires t c = let m = c.requires in (omega arith, (m.0, m.1, c.end_of-m.ensures.low, c.end_of-m.ensures.high, m.2))
 
 pub write_operands-returns-then-not-is_temporal : goal.write_operands-returns-then-not-is_temporal
 write_operands-returns-then-not-is_temporal t c = λ t e f a b. c.write_others.ensures t (node_of c.args.s.now c.word_at-kind.result c.word_at-op.result c.end_of-m.result t e f c.word_at-kind.ensures.0 c.word_at-op.ensures.0 c.end_of-m.ensures (let q = c.word_at-kind.ensures.0 in omega arith) (let q = c.word_at-kind.ensures.0 in omega arith)) (sym c.is_temporal.ensures ∙ c.if-not-is_temporal.true)
 
-pub write_operands-temporal_ends-e-requires : goal.write_operands-temporal_ends-e-requires
-write_operands-temporal_ends-e-requires t c = let m = c.requires in (m.0, m.1, c.end_of-m.ensures.high)
-
-pub write_operands-template_of-t-requires : goal.write_operands-template_of-t-requires
-write_operands-template_of-t-requires t c = (c.end_of-m.ensures.low, c.end_of-m.ensures.high)
-
 pub write_operands-loop-k-init : goal.write_operands-loop-k-init
 unfolding fill spelt
 write_operands-loop-k-init t c = (refl, omega arith, λ t e f a b. lays_none c.ended-here.ensures)
-
-pub write_operands-bounds-codes-k : goal.write_operands-bounds-codes-k
-write_operands-bounds-codes-k t c = let h = c.template_of-t.ensures.1 in omega arith
-
-pub write_operands-overflow_add-k : goal.write_operands-overflow_add-k
-write_operands-overflow_add-k t c = let h = c.template_of-t.ensures.1 in omega arith
 
 pub write_operands-loop-k-preserved-in-Plain : goal.write_operands-loop-k-preserved-in-Plain
 write_operands-loop-k-preserved-in-Plain t c = (c.put_flat-here.auto.out ∙ c.loop-k.invariant.0, omega arith, λ t e f a b. let tn = temporal_node (sym c.is_temporal.ensures ∙ c.if-not-is_temporal.false) (node_of c.args.s.now c.word_at-kind.result c.word_at-op.result c.end_of-m.result t e f c.word_at-kind.ensures.0 c.word_at-op.ensures.0 c.end_of-m.ensures (let q = c.word_at-kind.ensures.0 in omega arith) (let q = c.word_at-kind.ensures.0 in omega arith)) in let ar = node_ends_lem tn.0 _ c.temporal_ends-e.ensures in let hb = c.template_of-t.ensures.1 in let lb : length c.template_of-t.result.codes ≡ 24 = search (rules, c.template_of-t.type_inv) in plain_step c.args.writing (settings_in c.args.set.now) ar c.template_of-t.result.codes c.template_of-t.result.len c.loop-k.k (omega arith) (omega arith) (c.loop-k.invariant.2 t e f a b) _ (sym c.piece_of-piece.ensures ∙ c.in-Plain.is) (lays c.put_flat-here.ensures))
@@ -238,32 +82,11 @@ write_operands-loop-k-preserved-in-Plain t c = (c.put_flat-here.auto.out ∙ c.l
 pub write_operands-returns-then-not-inside : goal.write_operands-returns-then-not-inside
 write_operands-returns-then-not-inside t c = λ t e f a b. let tn = temporal_node (sym c.is_temporal.ensures ∙ c.if-not-is_temporal.false) (node_of c.args.s.now c.word_at-kind.result c.word_at-op.result c.end_of-m.result t e f c.word_at-kind.ensures.0 c.word_at-op.ensures.0 c.end_of-m.ensures (let q = c.word_at-kind.ensures.0 in omega arith) (let q = c.word_at-kind.ensures.0 in omega arith)) in let ar = node_ends_lem tn.0 _ c.temporal_ends-e.ensures in let pc = sym c.piece_of-piece.ensures ∙ c.in-Node.is in let ch = node_piece c.args.writing (settings_in c.args.set.now) ar _ _ _ pc in absurd (c.inside.ensures.no (c.if-not-inside.true) ch.inside.starts ch.inside.order ch.inside.ends)
 
-pub write_operands-slice_bounds-write_end-count : goal.write_operands-slice_bounds-write_end-count
-write_operands-slice_bounds-write_end-count t c = let h = c.inside.ensures.yes (c.if-not-inside.false) in h.1
-
-pub write_operands-slice_bounds-write_end-start : goal.write_operands-slice_bounds-write_end-start
-write_operands-slice_bounds-write_end-start t c = let h = c.inside.ensures.yes (c.if-not-inside.false) in h.1
-
-pub write_operands-slice_bounds-write_end-end : goal.write_operands-slice_bounds-write_end-end
-write_operands-slice_bounds-write_end-end t c = let h = c.inside.ensures.yes (c.if-not-inside.false) in h.2
-
-pub write_operands-write_end-here-requires : goal.write_operands-write_end-here-requires
-write_operands-write_end-here-requires t c = let h = c.inside.ensures.yes (c.if-not-inside.false) in let m = c.requires in (simp (length-take, length-drop) (omega arith), (simp (length-take, length-drop) (omega arith), m.2))
-
 pub write_operands-loop-k-preserved-in-Node : goal.write_operands-loop-k-preserved-in-Node
 write_operands-loop-k-preserved-in-Node t c = (c.write_end-here.auto.out ∙ c.loop-k.invariant.0, omega arith, λ t e f a b. let tn = temporal_node (sym c.is_temporal.ensures ∙ c.if-not-is_temporal.false) (node_of c.args.s.now c.word_at-kind.result c.word_at-op.result c.end_of-m.result t e f c.word_at-kind.ensures.0 c.word_at-op.ensures.0 c.end_of-m.ensures (let q = c.word_at-kind.ensures.0 in omega arith) (let q = c.word_at-kind.ensures.0 in omega arith)) in let ar = node_ends_lem tn.0 _ c.temporal_ends-e.ensures in let hb = c.template_of-t.ensures.1 in let lb : length c.template_of-t.result.codes ≡ 24 = search (rules, c.template_of-t.type_inv) in let pc = sym c.piece_of-piece.ensures ∙ c.in-Node.is in let ch = node_piece c.args.writing (settings_in c.args.set.now) ar _ _ _ pc in node-step c.args.writing (settings_in c.args.set.now) ar c.template_of-t.result.codes c.template_of-t.result.len c.loop-k.k (omega arith) (omega arith) (c.loop-k.invariant.2 t e f a b) _ _ pc (c.write_end-here.ensures ch.x ch.stands ch.fit))
 
 pub write_operands-returns-then-not-inside-2 : goal.write_operands-returns-then-not-inside-2
 write_operands-returns-then-not-inside-2 t c = λ t e f a b. let tn = temporal_node (sym c.is_temporal.ensures ∙ c.if-not-is_temporal.false) (node_of c.args.s.now c.word_at-kind.result c.word_at-op.result c.end_of-m.result t e f c.word_at-kind.ensures.0 c.word_at-op.ensures.0 c.end_of-m.ensures (let q = c.word_at-kind.ensures.0 in omega arith) (let q = c.word_at-kind.ensures.0 in omega arith)) in let ar = node_ends_lem tn.0 _ c.temporal_ends-e.ensures in let pc = sym c.piece_of-piece.ensures ∙ c.in-Name.is in let ch = name_piece c.args.writing (settings_in c.args.set.now) ar _ _ _ pc in absurd (c.inside-in-Name.ensures.no (c.if-not-inside-2.true) ch.inside.starts ch.inside.order ch.inside.ends)
-
-pub write_operands-slice_bounds-rest-count : goal.write_operands-slice_bounds-rest-count
-write_operands-slice_bounds-rest-count t c = let h = c.inside-in-Name.ensures.yes (c.if-not-inside-2.false) in h.1
-
-pub write_operands-slice_bounds-rest-start : goal.write_operands-slice_bounds-rest-start
-write_operands-slice_bounds-rest-start t c = let h = c.inside-in-Name.ensures.yes (c.if-not-inside-2.false) in h.1
-
-pub write_operands-slice_bounds-rest-end : goal.write_operands-slice_bounds-rest-end
-write_operands-slice_bounds-rest-end t c = let h = c.inside-in-Name.ensures.yes (c.if-not-inside-2.false) in h.2
 
 pub write_operands-loop-k-preserved : goal.write_operands-loop-k-preserved
 write_operands-loop-k-preserved t c = (c.put-here.auto.out ∙ c.loop-k.invariant.0, omega arith, λ t e f a b. let tn = temporal_node (sym c.is_temporal.ensures ∙ c.if-not-is_temporal.false) (node_of c.args.s.now c.word_at-kind.result c.word_at-op.result c.end_of-m.result t e f c.word_at-kind.ensures.0 c.word_at-op.ensures.0 c.end_of-m.ensures (let q = c.word_at-kind.ensures.0 in omega arith) (let q = c.word_at-kind.ensures.0 in omega arith)) in let ar = node_ends_lem tn.0 _ c.temporal_ends-e.ensures in let hb = c.template_of-t.ensures.1 in let lb : length c.template_of-t.result.codes ≡ 24 = search (rules, c.template_of-t.type_inv) in let pc = sym c.piece_of-piece.ensures ∙ c.in-Name.is in name-step c.args.writing (settings_in c.args.set.now) ar c.template_of-t.result.codes c.template_of-t.result.len c.loop-k.k (omega arith) (omega arith) (c.loop-k.invariant.2 t e f a b) _ _ pc (lays_of c.rest.ensures (lays c.put-here.ensures)))
@@ -271,68 +94,17 @@ write_operands-loop-k-preserved t c = (c.put-here.auto.out ∙ c.loop-k.invarian
 pub write_operands-returns : goal.write_operands-returns
 write_operands-returns t c = λ t e f a b. let tn = temporal_node (sym c.is_temporal.ensures ∙ c.if-not-is_temporal.false) (node_of c.args.s.now c.word_at-kind.result c.word_at-op.result c.end_of-m.result t e f c.word_at-kind.ensures.0 c.word_at-op.ensures.0 c.end_of-m.ensures (let q = c.word_at-kind.ensures.0 in omega arith) (let q = c.word_at-kind.ensures.0 in omega arith)) in let ar = node_ends_lem tn.0 _ c.temporal_ends-e.ensures in lays_of (all_filled _ c.template_of-t.result.codes c.template_of-t.result.len c.loop-k.k (omega arith) ∙ sym (c.template_of-t.ensures.0 c.args.writing (settings_in c.args.set.now) t tn.0 tn.1 ar)) (c.loop-k.invariant.2 t e f a b)
 
-pub write_others-write_monadic-requires : goal.write_others-write_monadic-requires
-write_others-write_monadic-requires t c = let m = c.requires in (omega arith, (m.0, m.1, m.4))
-
 pub write_others-returns-then-kind-eq-MONADIC : goal.write_others-returns-then-kind-eq-MONADIC
 write_others-returns-then-kind-eq-MONADIC t c = λ t nd nt. c.write_monadic.ensures c.args.m t (monadic_node c.if-kind-eq-MONADIC.true nd)
-
-pub write_others-write_infix-requires : goal.write_others-write_infix-requires
-write_others-write_infix-requires t c = let m = c.requires in (omega arith, (m.0, m.2, m.3, m.4))
 
 pub write_others-returns-then-is_infix : goal.write_others-returns-then-is_infix
 write_others-returns-then-is_infix t c = λ t nd nt. let w = two_node c.if-kind-eq-MONADIC.false nd in let n = not_either (spatial_number c.args.op) (between_number c.args.op) (sym c.is_infix.ensures ∙ c.if-is_infix.true) in c.write_infix.ensures t w.1 (not_temporal c.args.kind c.args.op w.0 nt) n.0 n.1
 
-pub write_others-write_spatial-requires : goal.write_others-write_spatial-requires
-write_others-write_spatial-requires t c = let m = c.requires in (omega arith, (m.0, m.2, m.3, m.4))
-
 pub write_others-returns-then-within : goal.write_others-returns-then-within
 write_others-returns-then-within t c = λ t nd nt. c.write_spatial.ensures t (two_node c.if-kind-eq-MONADIC.false nd).1 (sym c.within.ensures ∙ c.if-within.true)
 
-pub write_others-write_between-requires : goal.write_others-write_between-requires
-write_others-write_between-requires t c = let m = c.requires in (omega arith, (m.0, m.2, m.3, m.4))
-
 pub write_others-returns : goal.write_others-returns
 write_others-returns t c = λ t nd nt. c.write_between.ensures t (two_node c.if-kind-eq-MONADIC.false nd).1 (or_else (spatial_number c.args.op) (between_number c.args.op) (sym c.is_infix.ensures ∙ c.if-is_infix.false) (sym c.within.ensures ∙ c.if-within.false))
-
-pub write_spatial-slice_bounds-is_kind-count : goal.write_spatial-slice_bounds-is_kind-count
-write_spatial-slice_bounds-is_kind-count t c = c.requires.1
-
-pub write_spatial-slice_bounds-is_kind-start : goal.write_spatial-slice_bounds-is_kind-start
-write_spatial-slice_bounds-is_kind-start t c = c.requires.1
-
-pub write_spatial-slice_bounds-is_kind-end : goal.write_spatial-slice_bounds-is_kind-end
-write_spatial-slice_bounds-is_kind-end t c = c.requires.2
-
-pub write_spatial-slice_bounds-is_kind-count-2 : goal.write_spatial-slice_bounds-is_kind-count-2
-write_spatial-slice_bounds-is_kind-count-2 t c = c.requires.2
-
-pub write_spatial-slice_bounds-is_kind-start-2 : goal.write_spatial-slice_bounds-is_kind-start-2
-write_spatial-slice_bounds-is_kind-start-2 t c = c.requires.2
-
-pub write_spatial-slice_bounds-to_sql_impl-count : goal.write_spatial-slice_bounds-to_sql_impl-count
-write_spatial-slice_bounds-to_sql_impl-count t c = c.requires.1
-
-pub write_spatial-slice_bounds-to_sql_impl-start : goal.write_spatial-slice_bounds-to_sql_impl-start
-write_spatial-slice_bounds-to_sql_impl-start t c = c.requires.1
-
-pub write_spatial-slice_bounds-to_sql_impl-end : goal.write_spatial-slice_bounds-to_sql_impl-end
-write_spatial-slice_bounds-to_sql_impl-end t c = c.requires.2
-
-pub write_spatial-to_sql_impl-left-requires : goal.write_spatial-to_sql_impl-left-requires
-write_spatial-to_sql_impl-left-requires t c = let m = c.requires in (simp (length-take, length-drop) (omega arith), (simp (length-take, length-drop) (omega arith), m.3))
-
-pub write_spatial-slice_bounds-to_sql_impl-count-2 : goal.write_spatial-slice_bounds-to_sql_impl-count-2
-write_spatial-slice_bounds-to_sql_impl-count-2 t c = c.requires.2
-
-pub write_spatial-slice_bounds-to_sql_impl-start-2 : goal.write_spatial-slice_bounds-to_sql_impl-start-2
-write_spatial-slice_bounds-to_sql_impl-start-2 t c = c.requires.2
-
-pub write_spatial-to_sql_impl-right-requires : goal.write_spatial-to_sql_impl-right-requires
-write_spatial-to_sql_impl-right-requires t c = let m = c.requires in (simp (length-take, length-drop) (omega arith), (simp (length-take, length-drop) (omega arith), m.3))
-
-pub write_spatial-shape_of-out : goal.write_spatial-shape_of-out
-write_spatial-shape_of-out t c = c.put.auto.out ∙ c.put_reduced-close.auto.out ∙ c.to_sql_impl-right.auto.out ∙ c.put_either-next.auto.out ∙ c.put_reduced-comma.auto.out ∙ c.to_sql_impl-left.auto.out ∙ c.put_either-open.auto.out ∙ c.put_word-word.auto.out
 
 pub write_spatial-returns : goal.write_spatial-returns
 write_spatial-returns t c = λ t nd h. spatial_step c.args.writing (settings_in c.args.set.now) nd h c.is_kind-x.ensures c.is_kind-y.ensures c.reduce_precision-a.ensures c.reduce_precision-b.ensures c.put_word-word.ensures (lays c.put_either-open.ensures) c.to_sql_impl-left.ensures c.put_reduced-comma.ensures (lays c.put_either-next.ensures) c.to_sql_impl-right.ensures c.put_reduced-close.ensures (lays c.put.ensures)
