@@ -66,10 +66,10 @@ impl Clock {
 }
 
 // Writes a date in quotes.
-pub fn put_date(date: Date, out: &mut [u8], at: usize) -> usize
-    ensures { Puts count_limit at (date_text date.year date.month date.day) out.old out.new result }
+pub fn put_date(day: Date, out: &mut [u8], at: usize) -> usize
+    ensures { Puts count_limit at (date_text day.year day.month day.day) out.old out.new result }
 {
-    literal::put_quoted(&date.text(), out, at)
+    literal::put_quoted(&day.text(), out, at)
 }
 
 // What follows a timestamp's seconds: as GeoPackage stores it milliseconds and the zone, UTC; in either writing the closing quotation mark.
