@@ -15,7 +15,6 @@ ghost use Rattle.capi.specs.Numbers.{minus, lowering_number, reading_number};
 
 use literal::Writing;
 use refusal::Refusal;
-use truth::Reading;
 
 // Minus the refusal's number.
 fn negative(r: Refusal) -> i32
@@ -143,9 +142,9 @@ pub extern "C" fn wenduulig_read<'a>(text: &'a [u8], row: &'a [u8]) -> i32
     ensures { result ≡ reading_number (reading.said (reading.decided text.now row.now)) }
 {
     match truth::read(text, row) {
-        Reading::True => 1,
-        Reading::False => 0,
-        Reading::Unknown => 2,
-        Reading::Refused(r) => negative(r),
+        Ok(Some(true)) => 1,
+        Ok(Some(false)) => 0,
+        Ok(None) => 2,
+        Err(r) => negative(r),
     }
 }

@@ -1,25 +1,27 @@
-// The parts of a case as programs read them, each after its length in four bytes, little-endian. No contract of the kit says which bytes a call
-// of the system's reads. So what is read and what it is stand apart: `read_part` fills the buffers and counts, and `part_of` says what was read.
+// The cases of the programs: each a run of parts, each part after its length in four bytes, little-endian. No contract of the kit says which bytes
+// a call of the system's reads. So what is read and what it is stand apart: `read_part` fills the buffers and counts, and `part_of` says what was read.
 #![tactic(auto)]
 
-ghost use Rattle.std.specs.Prelude.{◌≡◌, ◌+◌, ◌≤◌, length, take};
+ghost use Rattle.std.specs.Prelude.{◌≡◌, ◌+◌, ◌≤◌, length, take, true, Ok, []};
 ghost use Rattle.record.specs.Record.{le32};
-ghost use Rattle.input.specs.Part.{part_of};
+ghost use Rattle.input.specs.Part.{part_of, held, IsRead, AreRead};
 
+use std::io;
 use std::io::Read;
 
 // How many bytes hold a part's length.
 const LENGTH_SIZE: usize = 4;
 
+// The input ended inside a case.
+#[derive(Clone, Copy, Debug, PartialEq, Eq)]
+pub struct Cut;
+
+// A part of a case, in the first bytes of its buffer. A part that is longer than the buffer is reported as long as the buffer, whose bytes then say
+// nothing: the buffer passes every limit, so such a part is refused for its length.
 #[derive(Clone, Copy)]
-pub enum Part {
-    // The input ended before the part began.
-    End,
-    // The input ended inside the part.
-    Short,
-    // The part stands in the first bytes of the buffer, this many. A part that is longer than the buffer is reported as long as the buffer, whose
-    // bytes then say nothing: a buffer that passes every limit has such a part refused for its length.
-    Whole(usize),
+pub struct Part {
+    buffer: [u8; 65536],
+    len: usize,
 }
 
 // 65,536 zeros: room for each part that is within the limits.
@@ -71,29 +73,87 @@ pub fn read_part<R: Read>(file: &mut R, head: &mut [u8; 4], buffer: &mut [u8]) -
     LENGTH_SIZE + pass(file, buffer, record::dword_at(head, 0))
 }
 
-// What was read, if that many bytes were: head holds the length, and the buffer has this much room.
-pub fn part_of(head: &[u8; 4], read: usize, room: usize) -> Part
+// How long the part is, if that many bytes were read: head holds the length, and the buffer has this much room. None if the input ended before it.
+#[tactic(auto, unfolding(crate::specs::Part::part_of))]
+pub fn part_of(head: &[u8; 4], read: usize, room: usize) -> Result<Option<usize>, Cut>
     ensures { result ≡ part_of head.now read room }
 {
     if read == 0 {
-        return Part::End;
+        return Ok(None);
     }
     let n = record::dword_at(head, 0);
     if read < LENGTH_SIZE + n {
-        return Part::Short;
+        return Err(Cut);
     }
-    if room < n {
-        return Part::Whole(room);
-    }
-    Part::Whole(n)
+    Ok(Some(n.min(room)))
 }
 
 // The first n bytes, or all.
 pub fn first(s: &[u8], n: usize) -> &[u8]
     ensures { result.now ≡ take n s.now }
 {
-    if n < s.len() {
-        return &s[..n];
+    &s[..n.min(s.len())]
+}
+
+impl Part {
+    // A part of no bytes, with room for one that is read.
+    pub fn new() -> Part
+        ensures { held result ≡ [] }
+    {
+        Part {
+            buffer: large_buffer(),
+            len: 0,
+        }
     }
-    s
+
+    pub fn bytes(&self) -> &[u8]
+        ensures { result.now ≡ held self.now }
+    {
+        first(&self.buffer, self.len)
+    }
+
+    // Reads the next part; false if the input ended before it.
+    fn read<R: Read>(&mut self, file: &mut R) -> Result<bool, Cut>
+        ensures { result ≡ Ok true → IsRead self.new }
+    {
+        let mut head = [0u8; 4];
+        let read = read_part(file, &mut head, &mut self.buffer);
+        let Some(n) = part_of(&head, read, self.buffer.len())? else {
+            return Ok(false);
+        };
+        self.len = n;
+        Ok(true)
+    }
+}
+
+// Reads the next case; false if the input ended before it.
+pub fn read_case<R: Read, const N: usize>(file: &mut R, parts: &mut [Part; N]) -> Result<bool, Cut>
+    ensures { result ≡ Ok true → AreRead parts.new }
+{
+    for i in 0..N {
+        if !parts[i].read(file)? {
+            return if i == 0 { Ok(false) } else { Err(Cut) };
+        }
+    }
+    Ok(true)
+}
+
+// Has each case of the input answered, which has two parts; a line says so if the input ends inside one.
+pub fn answer_all<H: Input + Print, F: FnMut(&[u8], &[u8]) -> io::Result<()>>(
+    rt: &H,
+    mut answer: F,
+) -> io::Result<()>
+    requires { F.IsAlwaysCallable answer }
+{
+    let mut file = rt.reader();
+    let mut parts = [Part::new(); 2];
+    // A proved loop has to end, and nothing says that the input does: no run uses up so many turns.
+    for _ in 0..u64::MAX {
+        match read_case(&mut file, &mut parts) {
+            Ok(true) => answer(parts[0].bytes(), parts[1].bytes())?,
+            Ok(false) => return Ok(()),
+            Err(Cut) => return println!(rt; "incomplete"),
+        }
+    }
+    Ok(())
 }

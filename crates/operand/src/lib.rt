@@ -28,13 +28,7 @@ pub enum Operand {
 pub fn is_column(e: End) -> bool
     ensures { result ≡ is_column e }
 {
-    match e {
-        End::Column(_, _) => true,
-        End::Instant(_, _) => false,
-        End::Other(_, _) => false,
-        End::Open => false,
-        End::Null => false,
-    }
+    matches!(e, End::Column(_, _))
 }
 
 fn start(a: Operand) -> End
@@ -56,6 +50,7 @@ fn stop(a: Operand) -> End
 }
 
 // The four ends in order; an instant fills e0 or e2, and Null its partner.
+#[tactic(auto, unfolding(crate::specs::Ends::unfold_expressions))]
 pub fn unfold_expressions(a: Operand, b: Operand) -> [End; 4]
     ensures { result ≡ unfold_expressions a b }
 {

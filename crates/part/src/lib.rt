@@ -1,4 +1,4 @@
-// A temporal condition piece by piece (src/ds/gpkg.rs, the fifteen `t_…_sql`), by the code that a template has for each: its words, and its ends.
+// A temporal condition piece by piece (src/ds/gpkg.rs, the fifteen `t_…_sql`), by the part that a template has for each: its words, and its ends.
 #![tactic(auto)]
 
 ghost use Rattle.std.specs.Prelude.{◌≡◌};
@@ -8,19 +8,13 @@ ghost use Rattle.part.specs.PieceWords.{end_piece, piece_of, flat_text};
 
 use literal::Writing;
 use operand::End;
-use sql::{
-    AND, CLOSE, CLOSE_BOTH, EQUAL, GREATER, IS_NOT_NULL, IS_NOT_NULL_QUOTE, LESS, NOT, NOT_NULL,
-    OPEN, OR, QUOTE, UNEQUAL,
-};
-
-// Codes below this are the ends.
-pub const ENDS: u8 = 4;
+use sql::Part;
 
 // A piece that is written without its record.
 #[derive(Clone, Copy)]
 pub enum Flat {
-    // The words of a code.
-    Words(u8),
+    // The words of a part.
+    Words(Part),
     // An open end, and whether it is an operand's second.
     Opened(bool),
     // NULL.
@@ -37,59 +31,64 @@ pub enum Piece {
     Name(usize, usize),
 }
 
-// Writes the words of a code from 4 on.
-fn put_part(code: u8, out: &mut [u8], at: usize) -> usize
-    ensures { Puts count_limit at (words_of code) out.old out.new result }
+// Writes the words of a part that is no end.
+#[tactic(auto, unfolding(sql::specs::Template::words_of, sql::specs::Template::part_of))]
+fn put_part(part: Part, out: &mut [u8], at: usize) -> usize
+    ensures { Puts count_limit at (words_of part) out.old out.new result }
 {
-    match code {
-        OPEN => emit::put(b"(", out, at),
-        CLOSE => emit::put(b")", out, at),
-        CLOSE_BOTH => emit::put(b"))", out, at),
-        GREATER => emit::put(b" > ", out, at),
-        LESS => emit::put(b" < ", out, at),
-        EQUAL => emit::put(b" = ", out, at),
-        UNEQUAL => emit::put(b" != ", out, at),
-        QUOTE => emit::put(b"\"", out, at),
-        IS_NOT_NULL => emit::put(b"\" IS NOT NULL AND (", out, at),
-        IS_NOT_NULL_QUOTE => emit::put(b"\" IS NOT NULL AND \"", out, at),
-        NOT_NULL => emit::put(b"\" NOT NULL AND (", out, at),
-        OR => emit::put(b") OR (", out, at),
-        AND => emit::put(b") AND (", out, at),
-        NOT => emit::put(b"NOT((", out, at),
-        _ => emit::ended(at, 0),
+    match part {
+        Part::Open => emit::put(b"(", out, at),
+        Part::Close => emit::put(b")", out, at),
+        Part::CloseBoth => emit::put(b"))", out, at),
+        Part::Greater => emit::put(b" > ", out, at),
+        Part::Less => emit::put(b" < ", out, at),
+        Part::Equal => emit::put(b" = ", out, at),
+        Part::Unequal => emit::put(b" != ", out, at),
+        Part::Quote => emit::put(b"\"", out, at),
+        Part::IsNotNull => emit::put(b"\" IS NOT NULL AND (", out, at),
+        Part::IsNotNullQuote => emit::put(b"\" IS NOT NULL AND \"", out, at),
+        Part::NotNull => emit::put(b"\" NOT NULL AND (", out, at),
+        Part::Or => emit::put(b") OR (", out, at),
+        Part::And => emit::put(b") AND (", out, at),
+        Part::Not => emit::put(b"NOT((", out, at),
+        Part::E0 | Part::E1 | Part::E2 | Part::E3 => emit::ended(at, 0),
     }
 }
 
 // Writes a piece that needs no record.
+#[tactic(auto, unfolding(crate::specs::PieceWords::flat_text))]
 pub fn put_flat(flat: Flat, writing: Writing, out: &mut [u8], at: usize) -> usize
     ensures { Puts count_limit at (flat_text writing flat) out.old out.new result }
 {
     match flat {
-        Flat::Words(code) => put_part(code, out, at),
+        Flat::Words(part) => put_part(part, out, at),
         Flat::Opened(second) => instant::put_unbounded(writing, second, out, at),
         Flat::Nothing => emit::put(b"NULL", out, at),
     }
 }
 
-// What the end of a code stands for; the first and the third are starts.
-fn end_piece(code: u8, e: End) -> Piece
-    ensures { result ≡ end_piece code e }
+// What an end stands for, by its place; the first and the third are starts.
+fn end_piece(place: usize, e: End) -> Piece
+    ensures { result ≡ end_piece place e }
 {
     match e {
-        End::Column(a, z) => Piece::Name(a as usize, z as usize),
-        End::Instant(a, z) => Piece::Node(a as usize, z as usize),
-        End::Other(a, z) => Piece::Node(a as usize, z as usize),
-        End::Open => Piece::Plain(Flat::Opened(code % 2 == 1)),
+        End::Column(a, z) => Piece::Name(usize::from(a), usize::from(z)),
+        End::Instant(a, z) | End::Other(a, z) => Piece::Node(usize::from(a), usize::from(z)),
+        End::Open => Piece::Plain(Flat::Opened(place % 2 == 1)),
         End::Null => Piece::Plain(Flat::Nothing),
     }
 }
 
-// What a code of a template stands for; `end` is the end that it names, if it names one.
-pub fn piece_of(code: u8, end: End) -> Piece
-    ensures { result ≡ piece_of code end }
+// What a part of a template stands for, where these are the ends.
+#[tactic(auto, unfolding(crate::specs::PieceWords::piece_of))]
+pub fn piece_of(part: Part, e: &[End; 4]) -> Piece
+    ensures { result ≡ piece_of part e.now }
 {
-    if code < ENDS {
-        return end_piece(code, end);
+    // The ends stand first in the enum, at their places.
+    let place = part as usize;
+    if place < 4 {
+        end_piece(place, e[place])
+    } else {
+        Piece::Plain(Flat::Words(part))
     }
-    Piece::Plain(Flat::Words(code))
 }

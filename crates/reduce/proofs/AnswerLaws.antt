@@ -5,7 +5,7 @@ use mathlib.Core.Path.{◌≡◌, refl, sym, ap, ◌∙◌}
 use mathlib.Core.List.{List}
 use native.Mathlib.Omega.{arith}
 use borrow.Author.Tests.{lt-ltb, le-ltb}
-use lib.ListN.{length, replicate, length-replicate, take}
+use lib.ListN.{length, replicate, length-replicate, length-take, take}
 use lib.Seq.{sets}
 use Rattle.std.specs.Prelude.{Result, Ok, Err}
 use Rattle.refusal.specs.declared.Refusal.{Refusal}
@@ -20,13 +20,12 @@ use Rattle.tree.specs.GoodWords.{Good}
 use Rattle.tree.specs.Accepted.{accepted_tree, verdict}
 use Rattle.tree.specs.AcceptedLaws.{tree_is}
 use Rattle.tree.specs.Written.{leaves, said}
-use Rattle.reduce.specs.declared.Folded.{Folded}
-use Rattle.reduce.specs.declared.Folded.TheVariants.{Fails, Done}
+use Rattle.reduce.specs.declared.Operand.{Operand}
 use Rattle.reduce.specs.Reduced.{reduced}
 use Rattle.reduce.specs.Reducing.{fitted, reducing, answer, heard}
 use Rattle.reduce.specs.ReducingLaws.{heard-said}
-use Rattle.reduce.specs.WalkWords.{Recorded, Placed, Holds, done_at, Meets, fails, done, Answers}
-use Rattle.reduce.proofs.NodeLaws.{part}
+use Rattle.reduce.specs.WalkWords.{Recorded, Placed, Holds, Meets, Answers}
+use Rattle.reduce.proofs.StepLaws.{Found, failed, found}
 
 -- What the checker accepts is a tree.
 
@@ -93,54 +92,42 @@ decided-whole : {x : Read Tree} (u : Tree) (out : List ℕ) → x ≡ got u → 
 unfolding also fitted
 decided-whole u out e h = ap (λ (y : Read Tree). decided y out) e ∙ simp (le-ltb (length out) (length (encode u)) h) refl
 
--- a record of the reduced tree u, up to `end`
-record Came (x : Read Tree) (l m : List ℕ) (end : ℕ) : Type 0 where
-  u : Tree
-  is : x ≡ got u
-  size : end ≡ length (encode u)
-  holds : Holds 0 (encode u) l m
+-- 14
+pub clash_answers : {l m : List ℕ} {x : Read Tree} {n : Refusal} {r : Result ℕ Refusal} (out : List ℕ) → Meets 0 x l m (Err n) → r ≡ Err n → Answers (decided x out) out out r
+unfolding also answer leaves
+clash_answers out w e = let q = failed w in rw (q.0, e) (record { says = refl; bytes = refl })
 
-module _ {l m : List ℕ} {f : Folded} {x : Read Tree} (w : Meets 0 x l m f) where
-  -- 14
-  pub clash_answers : (out : List ℕ) → f ≡ Fails → Answers (decided x out) out out (Err ConstantOperands)
-  unfolding done_at also answer leaves
-  clash_answers out e = go w
-    where
-      go : Meets 0 x l m f → Answers (decided x out) out out (Err ConstantOperands)
-      go (fails p q k) = rw p (record { says = refl; bytes = refl })
-      go (done u p h) = absurd (let z : ◌≡◌ {A = ℕ} 0 1 = cc (h.answers, e) in let w : ⊥ = omega arith in w)
+module _ {l m : List ℕ} {x : Read Tree} {d : Operand} (w : Meets 0 x l m (Ok d)) where
+  came : Found 0 x d l m
+  came = found w
 
-  came : {end a k : ℕ} → f ≡ Done end a k → Came x l m end
-  unfolding done_at
-  came {end} e = go w
-    where
-      go : Meets 0 x l m f → Came x l m end
-      go (fails p q k) = absurd (let z : ◌≡◌ {A = ℕ} 0 1 = cc in let w : ⊥ = omega arith in w)
-      go (done u p h) = record { u = u; is = p; size = let q : end ≡ 0 + length (encode u) = cc (h.answers, e) in omega arith; holds = h.holds }
+  pub end_fits : d.end ≤ length l
+  end_fits = let c = came in omega (arith, c.stops, c.holds.fits)
 
-  pub end_fits : {end a k : ℕ} → f ≡ Done end a k → end ≤ length l
-  end_fits e = let c = came e in omega (arith, c.size, c.holds.fits)
+  pub end_whole : length (take d.end m) ≡ d.end
+  end_whole = let c = came in omega (arith, length-take d.end m, c.stops, c.holds.fits, c.holds.kept)
 
   -- 9
-  pub short_answers : {end a k : ℕ} (out : List ℕ) → f ≡ Done end a k → length out < end → Answers (decided x out) out out (Err BufferTooShort)
+  pub short_answers : (out : List ℕ) → length out < d.end → Answers (decided x out) out out (Err BufferTooShort)
   unfolding answer leaves
-  short_answers out e h =
-      let c = came e in
-      let d = sym (decided_short c.u out c.is (omega (arith, c.size))) in
-      record { says = ap answer d; bytes = ap (leaves out) d }
+  short_answers out h =
+      let c = came in
+      let y = sym (decided_short c.tree out c.is (omega (arith, c.stops))) in
+      record { says = ap answer y; bytes = ap (leaves out) y }
 
   -- the record, copied
-  pub whole_answers : {end a k r : ℕ} (out exit : List ℕ) → f ≡ Done end a k → end ≤ length out → length l ≤ tree_limit → Puts count_limit 0 (part m 0 end) out exit r
-      → Answers (decided x out) out exit (Ok end)
+  pub whole_answers : {r : ℕ} (out exit : List ℕ) → d.end ≤ length out → length l ≤ tree_limit → Puts count_limit 0 (take d.end m) out exit r
+      → Answers (decided x out) out exit (Ok d.end)
   unfolding answer leaves
-  whole_answers {end} out exit e h k p =
-      let c = came e in
-      let d = sym (decided-whole c.u out c.is (omega (arith, c.size))) in
-      let z : end - 0 ≡ 0 + length (encode c.u) = omega (arith, c.size) in
-      let y : part m 0 end ≡ encode c.u = ap (λ (i : ℕ). take i m) z ∙ c.holds.front in
-      let q : length (part m 0 end) ≡ length (encode c.u) = ap length y in
-      let v = wrote (record { inside = omega (arith, q, c.size); counted = omega (arith, q, c.size, c.holds.fits) }) p in
+  whole_answers out exit h k p =
+      let c = came in
+      let y = sym (decided-whole c.tree out c.is (omega (arith, c.stops))) in
+      let z : d.end ≡ 0 + length (encode c.tree) = omega (arith, c.stops) in
+      let a : take d.end m ≡ encode c.tree = ap (λ (i : ℕ). take i m) z ∙ c.holds.front in
+      let q : length (take d.end m) ≡ length (encode c.tree) = ap length a in
+      let size : d.end ≡ length (encode c.tree) = omega (arith, c.stops) in
+      let v = wrote (record { inside = omega (arith, q, c.stops); counted = omega (arith, q, c.stops, c.holds.fits) }) p in
       record {
-        says = ap Ok c.size ∙ ap answer d;
-        bytes = v.laid ∙ ap (λ (t : List ℕ). sets out 0 t) y ∙ sets_front out (encode c.u) (omega (arith, c.size)) ∙ ap (leaves out) d;
+        says = ap Ok size ∙ ap answer y;
+        bytes = v.laid ∙ ap (λ (t : List ℕ). sets out 0 t) a ∙ sets_front out (encode c.tree) (omega (arith, c.stops)) ∙ ap (leaves out) y;
       }

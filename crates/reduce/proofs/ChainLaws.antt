@@ -3,13 +3,14 @@
 use Prim.Native.Nat.{ℕ, suc, ◌-◌, ◌≤◌}
 use mathlib.Core.Path.{◌≡◌, refl, ap, sym, ◌∙◌, subst}
 use mathlib.Core.List.{List, [], ◌∷◌}
-use mathlib.Core.Bool.{Bool, true, false}
+use mathlib.Core.Bool.{Bool, true, false, false≢true}
 use native.Mathlib.Omega.{arith}
 use lib.Dec.{eqb}
 use lib.ListN.{length, get_or}
 use borrow.Author.Tests.{eq-eqb, ne_eqb, eqb-true, eqb-false}
 use Rattle.prelude.specs.Choice.{pick, both, some}
 use Rattle.record.specs.Record.{le16, record_of}
+use Rattle.std.specs.Prelude.{Some}
 use Rattle.op.specs.declared.Op.{Op}
 use Rattle.op.specs.declared.Op.TheVariants.{CaseI, AccentI}
 use Rattle.op.specs.Op.{op_number, one_of}
@@ -20,7 +21,7 @@ use Rattle.reduce.specs.declared.Chain.{Chain}
 use Rattle.reduce.specs.declared.Chain.TheVariants.{Text, Twin, Other}
 use Rattle.reduce.specs.Reduced.{and_case, and_accent}
 use Rattle.reduce.specs.ReducedLaws.{least_size}
-use Rattle.reduce.specs.WalkWords.{Recorded, chain_of, joined, twin, way_of}
+use Rattle.reduce.specs.WalkWords.{Recorded, Operated, chain_of, joined, twin, way_of}
 use Rattle.reduce.proofs.NodeLaws.{part, kind_of_lem, one_op, one_size, one_part, one_good}
 
 text_is : (f : ℕ) (x : List ℕ) → Text (length (encode (str f x))) (get_or (encode (str f x)) 6 0) ≡ chain_of (str f x)
@@ -121,6 +122,22 @@ below_recorded s r k = go r.tree r.levels (kind-is 9 r.tree (sym (kind_of_lem s 
     go : (t : Tree) (n : ℕ) → OfKind 9 t → s ≡ encode t → r.tree ≡ t → Recorded (part s 8 (length s))
     go t n (of_monadic o u) e q = record { tree = u; levels = r.levels - 1; whole = one_part s o u e; good = one_good o u r.levels (subst (λ (x : Tree). Good x r.levels) q r.good) }
 
+pub one_operated : (s : List ℕ) → Recorded s → le16 s 4 ≡ 9 → Operated s
+one_operated s r k = go r.tree (kind-is 9 r.tree (sym (kind_of_lem s r.tree r.whole) ∙ k)) r.whole
+  where
+    go : (t : Tree) → OfKind 9 t → s ≡ encode t → Operated s
+    go t (of_monadic o u) e = record { op = o; is = one_op s o u e }
+
+-- what the call of `op_at` ensures
+abbrev pub Names : List ℕ → Op → Type 0
+Names s op = (o : Op) → le16 s 6 ≡ op_number o → op ≡ o
+
+pub some_same : {a b : Op} → Some a ≡ Some b → a ≡ b
+some_same e = cc
+
+pub number_at : {s : List ℕ} {op : Op} → Operated s → Names s op → op_number op ≡ le16 s 6
+number_at r f = ap op_number (f r.op r.is) ∙ sym r.is
+
 pub below_length : (s : List ℕ) → Recorded s → le16 s 4 ≡ 9 → 14 ≤ length s
 below_length s r k = go r.tree (kind-is 9 r.tree (sym (kind_of_lem s r.tree r.whole) ∙ k)) r.whole
   where
@@ -179,6 +196,26 @@ module _ (s : List ℕ) (n : ℕ) (o : Op) (t : Tree) (e : s ≡ encode (monadic
       go : (t : Tree) → OfKind 9 t → s ≡ encode (monadic o t) → eqb i n ≡ twin o t
       go t (of_monadic q u) e =
           ap (λ (x : ℕ). eqb x n) (h ∙ ap (λ (l : List ℕ). le16 l 14) e ∙ below_op o q u) ∙ ap (λ (x : ℕ). eqb (op_number q) x) number ∙ twin-is o q u (let z = number in omega arith) (let z = number in omega arith)
+
+  -- whether the operator is one of the two
+  module _ (op : Op) {b : Bool} (i : op_number op ≡ n) (f : b ≡ one_of op (CaseI ∷ AccentI ∷ [])) where
+    pub twin_none : b ≡ false → false ≡ twin o t
+    unfolding some
+    twin_none g = go (eqb (op_number op) 16) (eqb (op_number op) 17) refl refl (sym g ∙ f)
+      where
+        go : (x y : Bool) → eqb (op_number op) 16 ≡ x → eqb (op_number op) 17 ≡ y → false ≡ pick x true (pick y true false) → false ≡ twin o t
+        go true y p q h = absurd (false≢true h)
+        go false true p q h = absurd (false≢true h)
+        go false false p q h = twin_not (λ z. eqb-false (op_number op) 16 p (i ∙ z)) (λ z. eqb-false (op_number op) 17 q (i ∙ z))
+
+    pub twin_either : b ≡ true → (16 ≤ n) × (n ≤ 17)
+    unfolding some
+    twin_either g = go (eqb (op_number op) 16) (eqb (op_number op) 17) refl refl (sym g ∙ f)
+      where
+        go : (x y : Bool) → eqb (op_number op) 16 ≡ x → eqb (op_number op) 17 ≡ y → true ≡ pick x true (pick y true false) → (16 ≤ n) × (n ≤ 17)
+        go true y p q h = let z = eqb-true (op_number op) 16 p in (omega (arith, i), omega (arith, i))
+        go false true p q h = let z = eqb-true (op_number op) 17 q in (omega (arith, i), omega (arith, i))
+        go false false p q h = absurd (false≢true (sym h))
 
 -- ---- The way of a Monadic.
 

@@ -5,19 +5,21 @@ use mathlib.Core.List.{List, [], ◌++◌, append_assoc, append-nil}
 use native.Mathlib.Omega.{arith}
 use lib.ListN.{length, take, drop, length-append, length-drop}
 use lib.Seq.{sets, take_all, drop_at, take_at, length-sets, drop-drop}
-use Rattle.refusal.specs.declared.Refusal.TheVariants.{ConstantOperands}
 use Rattle.record.specs.Record.{le16, le32, record_of}
 use Rattle.tree.specs.Limits.{tree_limit}
 use Rattle.tree.specs.GoodWords.{Good, AllGood}
 use Rattle.tree.specs.Tree.{Tree, Trees, none, ◌then◌, encode, encodes, null, unbounded, bool, num, str, date, timestamp, spatial, id, monadic, dyadic, function, array, interval, kind_of}
 use Rattle.tree.specs.Parse.{Read, refused, got, also}
 use Rattle.tree.specs.ParseLaws.{also_got, not_got}
-use Rattle.reduce.specs.declared.Folded.{Folded}
-use Rattle.reduce.specs.declared.Folded.TheVariants.{Fails, Done}
-use Rattle.reduce.specs.Sort.{sort_of, key_of}
+use Rattle.std.specs.Prelude.{Result, Ok, Err}
+use Rattle.refusal.specs.declared.Refusal.{Refusal}
+use Rattle.reduce.specs.declared.Operand.{Operand}
+use Rattle.reduce.specs.declared.Sort.{Sort}
+use Rattle.reduce.specs.declared.Sort.TheVariants as sort
+use Rattle.reduce.specs.Sort.{sort_of}
 use Rattle.reduce.specs.Reduced.{reduced, reduceds}
 use Rattle.reduce.specs.ReducedLaws.{least_size, reduced_short, same_tree}
-use Rattle.reduce.specs.WalkWords.{Placed, Holds, fails, done, Folds, Row, Lists, stops, lists, frame_of, name_of, done_at}
+use Rattle.reduce.specs.WalkWords.{Placed, Holds, fails, done, Folds, Row, Lists, stops, lists, frame_of, name_of, operand, done_at}
 use Rattle.reduce.proofs.NodeLaws.{part, kind_of_lem, size_at, part_at, beyond, part_length}
 use Rattle.reduce.proofs.RoomLaws.{holds_sets, holds_then, keep_record}
 use Rattle.reduce.proofs.StepLaws.{Reduces, failed, found}
@@ -34,7 +36,7 @@ pub record Sofar (s : List ℕ) (at : ℕ) (ts : Trees) (n p here : ℕ) (l m : 
   pub inside : p ≤ length s
   pub short : here + (length s - p) ≤ at + length s
   pub goes : (us : Trees) → reduceds rest ≡ got us → (vs : Trees) × (reduceds ts ≡ got vs) × (encodes vs ≡ text ++ encodes us)
-  pub refuses : reduceds rest ≡ refused ConstantOperands → reduceds ts ≡ refused ConstantOperands
+  pub refuses : (k : Refusal) → reduceds rest ≡ refused k → reduceds ts ≡ refused k
 
 holds_nothing : (at : ℕ) (l : List ℕ) → at ≤ length l → Holds at [] l l
 holds_nothing at l h = let z : at + 0 ≡ at = omega arith in record { kept = refl; fits = omega arith; front = ap (λ (i : ℕ). take i l) z ∙ sym (append-nil (take at l)) }
@@ -50,16 +52,16 @@ so_start s at l r ts n e g = record {
   inside = omega arith;
   short = omega arith;
   goes = λ us q. (us, q, refl);
-  refuses = λ q. q;
+  refuses = λ k q. q;
 }
 
-then_fails : (t : Tree) (ts : Trees) → reduced t ≡ refused ConstantOperands → reduceds (t then ts) ≡ refused ConstantOperands
+then_fails : (t : Tree) (ts : Trees) (k : Refusal) → reduced t ≡ refused k → reduceds (t then ts) ≡ refused k
 unfolding reduceds also
-then_fails t ts e = rw e refl
+then_fails t ts k e = rw e refl
 
-then_rest_fails : (t v : Tree) (ts : Trees) → reduced t ≡ got v → reduceds ts ≡ refused ConstantOperands → reduceds (t then ts) ≡ refused ConstantOperands
+then_rest_fails : (t v : Tree) (ts : Trees) (k : Refusal) → reduced t ≡ got v → reduceds ts ≡ refused k → reduceds (t then ts) ≡ refused k
 unfolding reduceds also
-then_rest_fails t v ts e f = rw (e, f) refl
+then_rest_fails t v ts k e f = rw (e, f) refl
 
 then_gets : (t v : Tree) (ts us : Trees) → reduced t ≡ got v → reduceds ts ≡ got us → reduceds (t then ts) ≡ got (v then us)
 unfolding reduceds also
@@ -136,21 +138,21 @@ module _ (s : List ℕ) (at p here : ℕ) (l m : List ℕ) (r : Row s at l) (f :
         small = omega (arith, so.holds.kept, r.small);
       }
 
-  pub item_fails : {d : ℕ} {k : List ℕ} {v : Folded} → p < length s → d ≡ le32 s p → Reduces here (part s p (p + 4 + d)) m k v → v ≡ Fails
-      → (ts : Trees) (n : ℕ) → s ≡ encodes ts → AllGood ts n → Lists at (reduceds ts) l k Fails
-  item_fails {d} {k} h e w z ts n i g =
+  pub item_fails : {d : ℕ} {k : List ℕ} {v : Refusal} {o : Result ℕ Refusal} → p < length s → d ≡ le32 s p → Reduces here (part s p (p + 4 + d)) m k (Err v) → o ≡ Err v
+      → (ts : Trees) (n : ℕ) → s ≡ encodes ts → AllGood ts n → Lists at (reduceds ts) l k o
+  item_fails {d} {k} {v} h e w z ts n i g =
       let c = f ts n i g in
       let x = next s p n c.rest h c.bytes c.good in
       let y = end_of s p n d c.rest x small c.inside e in
-      let q = failed (w x.item n (part_at s p (p + 4 + d) x.item (encodes x.after) x.there y.0) x.fit) z in
-      stops (c.refuses (ap reduceds x.is ∙ then_fails x.item x.after q.0)) refl (q.1 ∙ c.holds.kept)
+      let q = failed (w x.item n (part_at s p (p + 4 + d) x.item (encodes x.after) x.there y.0) x.fit) in
+      stops v (c.refuses v (ap reduceds x.is ∙ then_fails x.item x.after v q.0)) z (q.1 ∙ c.holds.kept)
 
-  pub item_next : {d end sort key : ℕ} {k : List ℕ} {v : Folded} → p < length s → d ≡ le32 s p → Reduces here (part s p (p + 4 + d)) m k v → v ≡ Done end sort key → Loop s at (p + 4 + d) end l k
-  item_next {d} {end} {k = k} h e w z ts n i g =
+  pub item_next : {d : ℕ} {k : List ℕ} {a : Operand} → p < length s → d ≡ le32 s p → Reduces here (part s p (p + 4 + d)) m k (Ok a) → Loop s at (p + 4 + d) a.end l k
+  item_next {d} {k} h e w ts n i g =
       let c = f ts n i g in
       let x = next s p n c.rest h c.bytes c.good in
       let y = end_of s p n d c.rest x small c.inside e in
-      let q = found (w x.item n (part_at s p (p + 4 + d) x.item (encodes x.after) x.there y.0) x.fit) z in
+      let q = found (w x.item n (part_at s p (p + 4 + d) x.item (encodes x.after) x.there y.0) x.fit) in
       let v = q.tree in
       let a = reduced_short x.item v q.is in
       let here_holds : Holds (at + length c.text) (encode v) m k = subst (λ (j : ℕ). Holds j (encode v) m k) c.stands q.holds in
@@ -166,17 +168,17 @@ module _ (s : List ℕ) (at p here : ℕ) (l m : List ℕ) (r : Row s at l) (f :
         goes = λ us j.
             let b = c.goes (v then us) (ap reduceds x.is ∙ then_gets x.item v x.after us q.is j) in
             (b.0, b.1, b.2 ∙ ap (λ (o : List ℕ). c.text ++ o) (then-bytes v us) ∙ sym (append_assoc c.text (encode v) (encodes us)));
-        refuses = λ j. c.refuses (ap reduceds x.is ∙ then_rest_fails x.item v x.after q.is j);
+        refuses = λ o j. c.refuses o (ap reduceds x.is ∙ then_rest_fails x.item v x.after o q.is j);
       }
 
-  pub list_ends : length s ≤ p → (ts : Trees) (n : ℕ) → s ≡ encodes ts → AllGood ts n → Lists at (reduceds ts) l m (Done here 9 0)
+  pub list_ends : length s ≤ p → (ts : Trees) (n : ℕ) → s ≡ encodes ts → AllGood ts n → Lists at (reduceds ts) l m (Ok here)
   list_ends h ts n i g =
       let c = f ts n i g in
       let a = length-drop p s in
       let q : c.rest ≡ none = nothing c.rest (omega (arith, sym (ap length c.bytes))) in
       let b = c.goes none (ap reduceds q ∙ none_gets) in
       let w : encodes b.0 ≡ c.text = b.2 ∙ ap (λ (j : List ℕ). c.text ++ j) none_bytes ∙ append-nil c.text in
-      lists b.0 b.1 (ap (λ (j : ℕ). Done j 9 0) (c.stands ∙ ap (λ (j : List ℕ). at + length j) (sym w))) (subst (λ (j : List ℕ). Holds at j l m) (sym w) c.holds)
+      lists b.0 b.1 (ap (λ (j : ℕ). Ok j) (c.stands ∙ ap (λ (j : List ℕ). at + length j) (sym w))) (subst (λ (j : List ℕ). Holds at j l m) (sym w) c.holds)
     where
       nothing : (rest : Trees) → length (encodes rest) ≡ 0 → rest ≡ none
       nothing none e = refl
@@ -188,32 +190,32 @@ pub record Listed (t : Tree) (n : ℕ) : Type 0 where
   pub items : Trees
   pub written : encode t ≡ record_of (kind_of t) (name_of t ++ encodes items)
   pub good : AllGood items (n - 1)
-  pub refuses : reduceds items ≡ refused ConstantOperands → reduced t ≡ refused ConstantOperands
-  pub gets : (us : Trees) → reduceds items ≡ got us → (u : Tree) × (reduced t ≡ got u) × (encode u ≡ record_of (kind_of t) (name_of t ++ encodes us)) × (sort_of u ≡ 9) × (key_of u ≡ 0)
+  pub refuses : (k : Refusal) → reduceds items ≡ refused k → reduced t ≡ refused k
+  pub gets : (us : Trees) → reduceds items ≡ got us → (u : Tree) × (reduced t ≡ got u) × (encode u ≡ record_of (kind_of t) (name_of t ++ encodes us)) × (sort_of u ≡ sort.Other)
 
 function_listed : (r : List ℕ) (ts : Trees) (n : ℕ) → Good (function r ts) n → Listed (function r ts) n
-unfolding encode Good reduced also sort_of key_of
-function_listed r ts n g = record { items = ts; written = refl; good = g.2; refuses = λ e. rw e refl; gets = λ us e. (function r us, rw e refl, refl, refl, refl) }
+unfolding encode Good reduced also sort_of
+function_listed r ts n g = record { items = ts; written = refl; good = g.2; refuses = λ k e. rw e refl; gets = λ us e. (function r us, rw e refl, refl, refl) }
 
 array_listed : (ts : Trees) (n : ℕ) → Good (array ts) n → Listed (array ts) n
-unfolding encode Good reduced also sort_of key_of
-array_listed ts n g = record { items = ts; written = refl; good = g.1; refuses = λ e. rw e refl; gets = λ us e. (array us, rw e refl, refl, refl, refl) }
+unfolding encode Good reduced also sort_of
+array_listed ts n g = record { items = ts; written = refl; good = g.1; refuses = λ k e. rw e refl; gets = λ us e. (array us, rw e refl, refl, refl) }
 
-pair_refused : (t u : Tree) (x y : Read Tree) → reduced t ≡ x → reduced u ≡ y → reduceds (t then (u then none)) ≡ refused ConstantOperands → reduced (interval t u) ≡ refused ConstantOperands
+pair_refused : (t u : Tree) (x y : Read Tree) (k : Refusal) → reduced t ≡ x → reduced u ≡ y → reduceds (t then (u then none)) ≡ refused k → reduced (interval t u) ≡ refused k
 unfolding reduced reduceds also
-pair_refused t u (refused a) y e f z =
+pair_refused t u (refused a) y k e f z =
     let w : reduceds (t then (u then none)) ≡ refused a = rw e refl in
-    let q : ◌≡◌ {A = Read Trees} (refused a) (refused ConstantOperands) = sym w ∙ z in
-    let b : a ≡ ConstantOperands = cc in
+    let q : ◌≡◌ {A = Read Trees} (refused a) (refused k) = sym w ∙ z in
+    let b : a ≡ k = cc in
     rw e (ap refused b)
-pair_refused t u (got a) (refused b) e f z =
+pair_refused t u (got a) (refused b) k e f z =
     let w : reduceds (t then (u then none)) ≡ refused b = rw (e, f) refl in
-    let q : ◌≡◌ {A = Read Trees} (refused b) (refused ConstantOperands) = sym w ∙ z in
-    let c : b ≡ ConstantOperands = cc in
+    let q : ◌≡◌ {A = Read Trees} (refused b) (refused k) = sym w ∙ z in
+    let c : b ≡ k = cc in
     rw (e, f) (ap refused c)
-pair_refused t u (got a) (got b) e f z =
+pair_refused t u (got a) (got b) k e f z =
     let w : reduceds (t then (u then none)) ≡ got (a then (b then none)) = rw (e, f) refl in
-    not_got ConstantOperands (a then (b then none)) (sym z ∙ w)
+    not_got k (a then (b then none)) (sym z ∙ w)
 
 pair_gets : (t u : Tree) (us : Trees) → reduceds (t then (u then none)) ≡ got us → (a b : Tree) × (reduced t ≡ got a) × (reduced u ≡ got b) × (us ≡ a then (b then none))
 unfolding reduceds also
@@ -230,13 +232,9 @@ interval_gets : (t u a b : Tree) → reduced t ≡ got a → reduced u ≡ got b
 unfolding reduced also
 interval_gets t u a b e f = rw (e, f) refl
 
-interval_sort : (a b : Tree) → sort_of (interval a b) ≡ 9
+interval_sort : (a b : Tree) → sort_of (interval a b) ≡ sort.Other
 unfolding sort_of
 interval_sort a b = refl
-
-interval_key : (a b : Tree) → key_of (interval a b) ≡ 0
-unfolding key_of
-interval_key a b = refl
 
 interval_listed : (t u : Tree) (n : ℕ) → Good (interval t u) n → Listed (interval t u) n
 unfolding encode encodes Good AllGood
@@ -244,13 +242,13 @@ interval_listed t u n g = record {
   items = t then (u then none);
   written = ap (λ (l : List ℕ). record_of 13 (encode t ++ l)) (sym (append-nil (encode u)));
   good = (g.1, (g.2, tt));
-  refuses = λ e. pair_refused t u (reduced t) (reduced u) refl refl e;
+  refuses = λ k e. pair_refused t u (reduced t) (reduced u) k refl refl e;
   gets = λ us e.
       let p = pair_gets t u us e in
       let a = p.0 in
       let b = p.1 in
       let w : encodes us ≡ encode a ++ (encode b ++ []) = ap encodes p.4 in
-      (interval a b, interval_gets t u a b p.2 p.3, ap (λ (l : List ℕ). record_of 13 (encode a ++ l)) (sym (append-nil (encode b))) ∙ ap (record_of 13) (sym w), interval_sort a b, interval_key a b);
+      (interval a b, interval_gets t u a b p.2 p.3, ap (λ (l : List ℕ). record_of 13 (encode a ++ l)) (sym (append-nil (encode b))) ∙ ap (record_of 13) (sym w), interval_sort a b);
 }
 
 pub listed : (t : Tree) (n : ℕ) → 11 ≤ kind_of t → Good t n → Listed t n
@@ -273,6 +271,10 @@ listed (interval t u) n l g = interval_listed t u n g
 abbrev pub At : List ℕ → ℕ → ℕ → Type 0
 At s kind p = (t : Tree) → s ≡ encode t → kind ≡ le16 s 4 → 11 ≤ kind → p ≡ 6 + length (name_of t)
 
+-- what the call of `fold_list` ensures
+abbrev pub Items : List ℕ → ℕ → ℕ → List ℕ → List ℕ → Result ℕ Refusal → Type 0
+Items s p from m m' r = (ts : Trees) (n : ℕ) → part s p (length s) ≡ encodes ts → AllGood ts n → Lists from (reduceds ts) m m' r
+
 record_body : (k : ℕ) (x : List ℕ) → drop 6 (record_of k x) ≡ x
 unfolding record_of
 record_body k x = refl
@@ -281,9 +283,9 @@ record_length : (k : ℕ) (x : List ℕ) → length (record_of k x) ≡ 6 + leng
 unfolding record_of
 record_length k x = omega arith
 
-answer-is : (at end : ℕ) (u : Tree) → end ≡ at + length (encode u) → sort_of u ≡ 9 → key_of u ≡ 0 → Done end 9 0 ≡ done_at at u
+answer-is : (at end : ℕ) (u : Tree) → end ≡ at + length (encode u) → sort_of u ≡ sort.Other → operand end sort.Other ≡ done_at at u
 unfolding done_at
-answer-is at end u e f g = ap (λ (i : ℕ). Done i 9 0) e ∙ ap (λ (i : ℕ). Done (at + length (encode u)) i 0) (sym f) ∙ ap (λ (i : ℕ). Done (at + length (encode u)) (sort_of u) i) (sym g)
+answer-is at end u e f = ap (λ (i : ℕ). operand i sort.Other) e ∙ ap (λ (i : Sort). operand (at + length (encode u)) i) (sym f)
 
 body_of : (s : List ℕ) (t : Tree) (x : List ℕ) (k : ℕ) → s ≡ encode t → encode t ≡ record_of k x → (drop 6 s ≡ x) × (length s ≡ 6 + length x)
 body_of s t x k e w = (ap (λ (l : List ℕ). drop 6 l) (e ∙ w) ∙ record_body k x, ap length (e ∙ w) ∙ record_length k x)
@@ -342,34 +344,33 @@ module _ (s : List ℕ) (at kind p : ℕ) (l : List ℕ) (a : At s kind p) (k : 
           small = omega (arith, y.small);
         }
 
-    module _ {from : ℕ} {m m' : List ℕ} {r : Folded} (e : from ≡ at + 6 + length (part s 6 p)) (f : m ≡ sets l (at + 6) (part s 6 p))
-        (w : (ts : Trees) (n : ℕ) → part s p (length s) ≡ encodes ts → AllGood ts n → Lists from (reduceds ts) m m' r) where
+    module _ {from : ℕ} {m : List ℕ} (e : from ≡ at + 6 + length (part s 6 p)) (f : m ≡ sets l (at + 6) (part s 6 p)) where
       same : length m ≡ length l
       same = ap length f ∙ length-sets l (at + 6) (part s 6 p)
 
-      pub items_fail : r ≡ Fails → Reduces at s l m' Fails
-      items_fail z t n i g = let x = parts t n i g in go t x (w x.of.items (n - 1) x.body x.of.good)
+      pub items_fail : {m' : List ℕ} {v : Refusal} {r : Result Operand Refusal} → Items s p from m m' (Err v) → r ≡ Err v → Reduces at s l m' r
+      items_fail {m'} {v} {r} w z t n i g = let x = parts t n i g in go t x (w x.of.items (n - 1) x.body x.of.good)
         where
-          go : (t : Tree) (x : Parts t n) → Lists from (reduceds x.of.items) m m' r → Folds at t l m' Fails
-          go t x (stops q v u) = fails (x.of.refuses q) refl (u ∙ same)
-          go t x (lists us q v u) = let o : ◌≡◌ {A = ℕ} 0 1 = cc (sym v ∙ z) in absurd (omega arith)
+          go : (t : Tree) (x : Parts t n) → Lists from (reduceds x.of.items) m m' (Err v) → Folds at t l m' r
+          go t x (stops k q c u) = let o : v ≡ k = cc in fails v (x.of.refuses v (q ∙ ap refused (sym o))) z (u ∙ same)
+          go t x (lists us q c u) = let o : ◌≡◌ {A = ℕ} 0 1 = cc in absurd (omega arith)
 
-      pub items-frame : {end i j : ℕ} → r ≡ Done end i j → (at + 6 ≤ end) × (end ≤ length m') × (length m' ≡ length l) × (length l ≤ tree_limit)
-      items-frame {end} {i} {j} z = go (w known.of.items (y.of.levels - 1) known.body known.of.good)
+      pub items-frame : {m' : List ℕ} {end : ℕ} → Items s p from m m' (Ok end) → (at + 6 ≤ end) × (end ≤ length m') × (length m' ≡ length l) × (length l ≤ tree_limit)
+      items-frame {m'} {end} w = go (w known.of.items (y.of.levels - 1) known.body known.of.good)
         where
-          go : Lists from (reduceds known.of.items) m m' r → (at + 6 ≤ end) × (end ≤ length m') × (length m' ≡ length l) × (length l ≤ tree_limit)
-          go (stops q v u) = let o : ◌≡◌ {A = ℕ} 0 1 = cc (sym v ∙ z) in absurd (omega arith)
-          go (lists us q v u) =
-              let o : end ≡ from + length (encodes us) = cc (sym z ∙ v) in
+          go : Lists from (reduceds known.of.items) m m' (Ok end) → (at + 6 ≤ end) × (end ≤ length m') × (length m' ≡ length l) × (length l ≤ tree_limit)
+          go (stops k q c u) = let o : ◌≡◌ {A = ℕ} 0 1 = cc in absurd (omega arith)
+          go (lists us q c u) =
+              let o : end ≡ from + length (encodes us) = cc in
               (omega arith, omega (arith, u.fits, u.kept), u.kept ∙ same, y.small)
 
-      pub items_done : {end i j : ℕ} {k' : List ℕ} → r ≡ Done end i j → k' ≡ sets m' at (frame_of kind (end - at - 6)) → Reduces at s l k' (Done end 9 0)
-      items_done {end} {i} {j} {k'} z v t n q g = let x = parts t n q g in go t x (high t q) (kind_of_lem s t q) (w x.of.items (n - 1) x.body x.of.good)
+      pub items_done : {m' : List ℕ} {end : ℕ} {k' : List ℕ} → Items s p from m m' (Ok end) → k' ≡ sets m' at (frame_of kind (end - at - 6)) → Reduces at s l k' (Ok (operand end sort.Other))
+      items_done {m'} {end} {k'} w v t n q g = let x = parts t n q g in go t x (high t q) (kind_of_lem s t q) (w x.of.items (n - 1) x.body x.of.good)
         where
-          go : (t : Tree) (x : Parts t n) → 11 ≤ kind_of t → le16 s 4 ≡ kind_of t → Lists from (reduceds x.of.items) m m' r → Folds at t l k' (Done end 9 0)
-          go t x hi ki (stops q v u) = let o : ◌≡◌ {A = ℕ} 0 1 = cc (sym v ∙ z) in absurd (omega arith)
+          go : (t : Tree) (x : Parts t n) → 11 ≤ kind_of t → le16 s 4 ≡ kind_of t → Lists from (reduceds x.of.items) m m' (Ok end) → Folds at t l k' (Ok (operand end sort.Other))
+          go t x hi ki (stops o q c u) = let z : ◌≡◌ {A = ℕ} 0 1 = cc in absurd (omega arith)
           go t x hi ki (lists us q c u) =
-              let o : end ≡ from + length (encodes us) = cc (sym z ∙ c) in
+              let o : end ≡ from + length (encodes us) = cc in
               let b = x.of.gets us q in
               let d : from ≡ at + 6 + length (name_of t) = e ∙ ap (λ (l : List ℕ). at + 6 + length l) x.name in
               let one : Holds (at + 6) (name_of t) l m =
@@ -382,4 +383,4 @@ module _ (s : List ℕ) (at kind p : ℕ) (l : List ℕ) (a : At s kind p) (k : 
               v ∙ ap (λ (o : ℕ). sets m' at (frame_of kind o)) size ∙ ap (λ (o : ℕ). sets m' at (frame_of o (length body))) (k ∙ ki) in
               let stands : Holds at (encode b.0) l k' = subst (λ (o : List ℕ). Holds at o l k') (sym b.2) (subst (λ (o : List ℕ). Holds at (record_of (kind_of t) body) l o) (sym last) whole) in
               let len : length (encode b.0) ≡ 6 + length body = ap length b.2 ∙ record_length (kind_of t) body in
-              done b.0 b.1 (record { answers = answer-is at end b.0 (omega (arith, length-append (name_of t) (encodes us))) b.3 b.4; holds = stands })
+              done b.0 (operand end sort.Other) b.1 refl (record { answers = answer-is at end b.0 (omega (arith, length-append (name_of t) (encodes us))) b.3; holds = stands })

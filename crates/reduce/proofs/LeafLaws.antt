@@ -3,6 +3,7 @@ use Prim.Native.Nat.{ℕ, ◌+◌, ◌*◌, ◌≤◌, ◌<◌}
 use mathlib.Core.Path.{◌≡◌, refl, sym, ap, ◌∙◌}
 use mathlib.Core.List.{List}
 use mathlib.Core.Bool.{Bool, true, false}
+use lib.Dec.{eqb}
 use native.Mathlib.Omega.{arith}
 use lib.ListN.{length, get_or}
 use lib.Seq.{sets}
@@ -14,11 +15,14 @@ use Rattle.tree.specs.Parse.{got}
 use Rattle.tree.specs.GoodWords.{Good}
 use Rattle.tree.specs.ByteLaws.{le16-le}
 use Rattle.tree.specs.ParseLaws.{both_true, within}
-use Rattle.tree.specs.TestsLaws.{OfKind, of_null, of_bool, of_num, of_str, of_date, of_timestamp, of_spatial, of_id, kind-is}
-use Rattle.reduce.specs.Sort.{sort_of, key_of}
-use Rattle.reduce.specs.declared.Folded.TheVariants.{Done}
+use Rattle.tree.specs.TestsLaws.{OfKind, of_null, of_unbounded, of_bool, of_num, of_str, of_date, of_timestamp, of_spatial, of_id, kind-is}
+use Rattle.std.specs.Prelude.{Ok}
+use Rattle.reduce.specs.declared.Operand.{Operand}
+use Rattle.reduce.specs.declared.Sort.{Sort}
+use Rattle.reduce.specs.declared.Sort.TheVariants as sort
+use Rattle.reduce.specs.Sort.{key, sort_of}
 use Rattle.reduce.specs.Reduced.{reduced}
-use Rattle.reduce.specs.WalkWords.{Folds, done, done_at, day_key}
+use Rattle.reduce.specs.WalkWords.{Folds, operand, done, done_at, day_key, second_key}
 use Rattle.reduce.proofs.NodeLaws.{kind_of_lem, IsLeaf, leaf_null, leaf_unbounded, leaf_bool, leaf_num, leaf_str, leaf-date, leaf-timestamp, leaf_spatial, leaf_id, is_leaf}
 use Rattle.reduce.proofs.RoomLaws.{holds_sets}
 
@@ -36,55 +40,37 @@ module _ {s : List ℕ} {k : ℕ} (t : Tree) (e : s ≡ encode t) (f : k ≡ le1
 
 -- its sort
 
-pub null_sort_lem : {t : Tree} → OfKind 0 t → 0 ≡ sort_of t
+pub null_sort_lem : {t : Tree} → OfKind 0 t → sort.Null ≡ sort_of t
 unfolding sort_of
 null_sort_lem of_null = refl
 
-truth_sort : (b : Bool) → 1 + pick b 1 0 ≡ pick b 2 1
-truth_sort true = refl
-truth_sort false = refl
+pub open_sort : {t : Tree} → OfKind 1 t → sort.Instant 0 ≡ sort_of t
+unfolding sort_of
+open_sort of_unbounded = refl
 
-pub bool_sort : {s : List ℕ} {t : Tree} {r : ℕ} → s ≡ encode t → r ≡ get_or s 6 0 → OfKind 2 t → 1 + r ≡ sort_of t
+is_one : (b : Bool) → eqb (pick b 1 0) 1 ≡ b
+is_one true = refl
+is_one false = refl
+
+pub bool_sort : {s : List ℕ} {t : Tree} {r : ℕ} → s ≡ encode t → r ≡ get_or s 6 0 → OfKind 2 t → sort.Bool (eqb r 1) ≡ sort_of t
 unfolding sort_of encode record_of
-bool_sort e f (of_bool b) = ap (λ (i : ℕ). 1 + i) (f ∙ ap (λ (l : List ℕ). get_or l 6 0) e) ∙ truth_sort b
+bool_sort e f (of_bool b) = ap (λ (i : ℕ). sort.Bool (eqb i 1)) (f ∙ ap (λ (l : List ℕ). get_or l 6 0) e) ∙ ap sort.Bool (is_one b)
 
-pub num_sort_lem : {t : Tree} → OfKind 3 t → 4 ≡ sort_of t
+pub num_sort_lem : {t : Tree} → OfKind 3 t → sort.Num ≡ sort_of t
 unfolding sort_of
 num_sort_lem (of_num m s) = refl
 
-pub str_sort_lem : {t : Tree} → OfKind 4 t → 5 ≡ sort_of t
+pub str_sort_lem : {t : Tree} → OfKind 4 t → sort.Str ≡ sort_of t
 unfolding sort_of
 str_sort_lem (of_str f s) = refl
 
-pub spatial_sort_lem : {t : Tree} → OfKind 7 t → 6 ≡ sort_of t
+pub spatial_sort_lem : {t : Tree} → OfKind 7 t → sort.Spatial ≡ sort_of t
 unfolding sort_of
 spatial_sort_lem (of_spatial n s) = refl
 
-pub id_sort : {t : Tree} → OfKind 8 t → 9 ≡ sort_of t
+pub id_sort : {t : Tree} → OfKind 8 t → sort.Other ≡ sort_of t
 unfolding sort_of
 id_sort (of_id s) = refl
-
--- one of the other kinds
-pub instant_sort_lem : {s : List ℕ} {k : ℕ} (t : Tree) → s ≡ encode t → k ≡ le16 s 4 → k < 9
-    → (k ≡ 2 → ⊥) → (k ≡ 0 → ⊥) → (k ≡ 3 → ⊥) → (k ≡ 4 → ⊥) → (k ≡ 7 → ⊥) → (k ≡ 8 → ⊥) → 3 ≡ sort_of t
-unfolding sort_of
-instant_sort_lem {s} {k} t e f l b n m c x i = go t (kind_here t e f)
-  where
-    go : (t : Tree) → k ≡ kind_of t → 3 ≡ sort_of t
-    go null g = absurd (n g)
-    go unbounded g = refl
-    go (bool q) g = absurd (b g)
-    go (num p q) g = absurd (m g)
-    go (str p q) g = absurd (c g)
-    go (date y m d) g = refl
-    go (timestamp y m d h i s) g = refl
-    go (spatial p q) g = absurd (x g)
-    go (id q) g = absurd (i g)
-    go (monadic o t) g = absurd (let v : ⊥ = omega (arith, g, l) in v)
-    go (dyadic o t u) g = absurd (let v : ⊥ = omega (arith, g, l) in v)
-    go (function n ts) g = absurd (let v : ⊥ = omega (arith, g, l) in v)
-    go (array ts) g = absurd (let v : ⊥ = omega (arith, g, l) in v)
-    go (interval t u) g = absurd (let v : ⊥ = omega (arith, g, l) in v)
 
 -- its place in time
 
@@ -99,41 +85,24 @@ pub day_read : (s : List ℕ) {a b c : ℕ} → (a ≡ le16 s 6) × (a < 65536) 
 unfolding day_key
 day_read s x y z = (rw (x.0, y.0, z.0) refl, omega (arith, x.1, y.1, z.1))
 
-pub date-key : {s : List ℕ} {t : Tree} {r : ℕ} (n : ℕ) → s ≡ encode t → Good t n → r ≡ day_key s → OfKind 5 t → r * 1000000 ≡ key_of t
-unfolding key_of day_key encode record_of date_bytes Good
+pub date-key : {s : List ℕ} {t : Tree} {r : ℕ} (n : ℕ) → s ≡ encode t → Good t n → r ≡ day_key s → OfKind 5 t → sort.Instant (r * 1000000) ≡ sort_of t
+unfolding sort_of day_key encode record_of date_bytes Good
 date-key {s} {t} {r} n e g f (of_date y m d) =
     let a : r ≡ (y * 100 + m) * 100 + d = f ∙ ap day_key e ∙ ap (λ (x : ℕ). (x * 100 + m) * 100 + d) (le16-le y (date_year y m d g.1)) in
-    omega (arith, a)
+    let b : r * 1000000 ≡ key y m d 0 0 0 = omega (arith, a) in
+    ap (λ (i : ℕ). sort.Instant i) b
 
-pub timestamp-key : {s : List ℕ} {t : Tree} {r a b c : ℕ} (n : ℕ) → s ≡ encode t → Good t n → r ≡ day_key s → a ≡ get_or s 10 0 → b ≡ get_or s 11 0 → c ≡ get_or s 12 0
-    → OfKind 6 t → ((r * 100 + a) * 100 + b) * 100 + c ≡ key_of t
-unfolding key_of day_key encode record_of date_bytes Good
-timestamp-key {s} {t} {r} {a} {b} {c} n e g f ea eb ec (of_timestamp y m d h i x) =
-    let day : r ≡ (y * 100 + m) * 100 + d = f ∙ ap day_key e ∙ ap (λ (z : ℕ). (z * 100 + m) * 100 + d) (le16-le y (date_year y m d g.1)) in
-    let hour : a ≡ h = ea ∙ ap (λ (l : List ℕ). get_or l 10 0) e in
-    let minute : b ≡ i = eb ∙ ap (λ (l : List ℕ). get_or l 11 0) e in
-    let second : c ≡ x = ec ∙ ap (λ (l : List ℕ). get_or l 12 0) e in
-    omega (arith, day, hour, minute, second)
+pub timestamp-key : {s : List ℕ} {t : Tree} {r : ℕ} (n : ℕ) → s ≡ encode t → Good t n → r ≡ second_key s → OfKind 6 t → sort.Instant r ≡ sort_of t
+unfolding sort_of second_key day_key encode record_of date_bytes Good
+timestamp-key {s} {t} {r} n e g f (of_timestamp y m d h i x) =
+    let a : r ≡ ((((y * 100 + m) * 100 + d) * 100 + h) * 100 + i) * 100 + x =
+    f ∙ ap second_key e ∙ ap (λ (z : ℕ). ((((z * 100 + m) * 100 + d) * 100 + h) * 100 + i) * 100 + x) (le16-le y (date_year y m d g.1)) in
+    ap (λ (j : ℕ). sort.Instant j) a
 
-pub no_key : {s : List ℕ} {k : ℕ} (t : Tree) → s ≡ encode t → k ≡ le16 s 4 → (k ≡ 5 → ⊥) → (k ≡ 6 → ⊥) → 0 ≡ key_of t
-unfolding key_of
-no_key {s} {k} t e f d z = go t (kind_here t e f)
-  where
-    go : (t : Tree) → k ≡ kind_of t → 0 ≡ key_of t
-    go null g = refl
-    go unbounded g = refl
-    go (bool b) g = refl
-    go (num m s) g = refl
-    go (str f s) g = refl
-    go (date p q w) g = absurd (d g)
-    go (timestamp p q w h i s) g = absurd (z g)
-    go (spatial n s) g = refl
-    go (id s) g = refl
-    go (monadic o t) g = refl
-    go (dyadic o t u) g = refl
-    go (function n ts) g = refl
-    go (array ts) g = refl
-    go (interval t u) g = refl
+pub second_read : (s : List ℕ) {d a b c : ℕ} → d ≡ day_key s → a ≡ get_or s 10 0 → b ≡ get_or s 11 0 → c ≡ get_or s 12 0
+    → ((d * 100 + a) * 100 + b) * 100 + c ≡ second_key s
+unfolding second_key
+second_read s w x y z = rw (w, x, y, z) refl
 
 -- It stays as it is.
 
@@ -149,12 +118,12 @@ leaf_reduced (leaf-timestamp y m d h i s) = refl
 leaf_reduced (leaf_spatial n s) = refl
 leaf_reduced (leaf_id s) = refl
 
-pub leaf-stays : {s l : List ℕ} {k : ℕ} (at : ℕ) (t : Tree) → s ≡ encode t → k ≡ le16 s 4 → k < 9 → at + length s ≤ length l → {m : List ℕ} {p a z : ℕ}
-    → (p ≡ at + length s) × (m ≡ sets l at s) → a ≡ sort_of t → z ≡ key_of t → Folds at t l m (Done p a z)
+pub leaf-stays : {s l : List ℕ} {k : ℕ} (at : ℕ) (t : Tree) → s ≡ encode t → k ≡ le16 s 4 → k < 9 → at + length s ≤ length l → {m : List ℕ} {p : ℕ} {a : Sort}
+    → (p ≡ at + length s) × (m ≡ sets l at s) → a ≡ sort_of t → Folds at t l m (Ok (operand p a))
 unfolding done_at
-leaf-stays {s} {l} {k} at t e f h r {m} {p} {a} {z} w b y =
+leaf-stays {s} {l} {k} at t e f h r {m} {p} {a} w b =
     let leaf : IsLeaf t = is_leaf t (omega (arith, kind_here t e f)) in
-    done t (leaf_reduced leaf) (record {
-      answers = simp (w.0, e, b, y) refl;
+    done t (operand p a) (leaf_reduced leaf) refl (record {
+      answers = ap (λ (i : ℕ). operand i a) (w.0 ∙ ap (λ (x : List ℕ). at + length x) e) ∙ ap (λ (x : Sort). operand (at + length (encode t)) x) b;
       holds = rw (w.1, ← e) (holds_sets at s l r);
     })

@@ -1,5 +1,4 @@
 -- The steps of the walk: what the calls below ensure, in their order, makes what a node ensures, and leaves the room that the next call wants.
-use Rattle.std.specs.Prelude.{Some}
 use Prim.Native.Nat.{ℕ, suc, ◌+◌, ◌-◌, ◌≤◌, ◌<◌}
 use mathlib.Core.Path.{◌≡◌, refl, ap, sym, ◌∙◌, subst}
 use mathlib.Core.List.{List, [], ◌∷◌, ◌++◌, append_assoc}
@@ -11,12 +10,12 @@ use lib.Seq.{sets, take_all, drop_at}
 use borrow.Author.Tests.{eqb-true}
 use Rattle.prelude.specs.Choice.{pick, both, some}
 use Rattle.prelude.specs.ChoiceLaws.{both_true}
-use Rattle.refusal.specs.declared.Refusal.TheVariants.{ConstantOperands}
+use Rattle.std.specs.Prelude.{Result, Ok, Err}
+use Rattle.refusal.specs.declared.Refusal.{Refusal}
 use Rattle.record.specs.Record.{le16, le32, record_of}
 use Rattle.op.specs.declared.Op.{Op}
 use Rattle.op.specs.declared.Op.TheVariants.{CaseI, AccentI}
-use Rattle.op.specs.Op.{op_number, op_of, one_of}
-use Rattle.op.specs.OpLaws.{number_of}
+use Rattle.op.specs.Op.{op_number, one_of}
 use Rattle.tree.specs.Limits.{tree_limit}
 use Rattle.tree.specs.TestsLaws.{OfKind, of_num, of_monadic, of_dyadic, kind-is}
 use Rattle.tree.specs.GoodWords.{Good}
@@ -27,53 +26,48 @@ use Rattle.reduce.specs.declared.Turn.TheVariants.{Negate}
 use Rattle.reduce.specs.declared.Meet.{Meet}
 use Rattle.reduce.specs.declared.Chain.{Chain}
 use Rattle.reduce.specs.declared.Chain.TheVariants.{Text, Twin, Other}
-use Rattle.reduce.specs.declared.Folded.{Folded}
-use Rattle.reduce.specs.declared.Folded.TheVariants.{Fails, Done}
-use Rattle.reduce.specs.Sort.{sort_of, key_of}
+use Rattle.reduce.specs.declared.Operand.{Operand}
+use Rattle.reduce.specs.declared.Sort.{Sort}
+use Rattle.reduce.specs.Sort.{sort_number, sort_of}
 use Rattle.reduce.specs.Rules.{turn, meet}
-use Rattle.reduce.specs.RuleWords.{turn_on, meet_on, instant_number}
-use Rattle.reduce.specs.RuleLaws.{turn-number, meet-number}
 use Rattle.reduce.specs.Reduced.{and_case, and_accent, turned, met, one_reduced, two_reduced, reduced}
 use Rattle.reduce.specs.ReducedLaws.{least_size, reduced_good, reduced_short}
-use Rattle.reduce.specs.WalkWords.{Recorded, Placed, Holds, Writes, Meets, fails, done, Folds, Kept, Pair, Second, First, chain_of, joined, operator_of, twin, way_of, written, done_at}
+use Rattle.reduce.specs.WalkWords.{Recorded, Operated, Placed, Holds, Writes, Meets, fails, done, Folds, Kept, Pair, chain_of, joined, operator_of, twin, way_of, written, operand, done_at}
 use Rattle.reduce.proofs.NodeLaws.{part, kind_of_lem, one_op, one_part, one_good, two_op, two_size, two_good, two_middle, two_first, two_second}
-use Rattle.reduce.proofs.ChainLaws.{below_recorded, below_length}
+use Rattle.reduce.proofs.RuleLaws.{op_is}
+use Rattle.reduce.proofs.ChainLaws.{Names, below_recorded, below_length}
 use Rattle.reduce.proofs.RoomLaws.{holds_sets, holds_then}
 use Rattle.reduce.proofs.TwiceLaws.{case_twice, accent_twice, case_of_str, accent_of_str}
 use Rattle.reduce.proofs.TurnLaws.{is_num}
-use Rattle.reduce.proofs.WayLaws.{turn_on_lem, turns, other_written, negate_sort}
+use Rattle.reduce.proofs.WayLaws.{turns, other_written, negate_sort}
 
 -- what a call of `fold` ensures
-abbrev pub Reduces : ℕ → List ℕ → List ℕ → List ℕ → Folded → Type 0
+abbrev pub Reduces : ℕ → List ℕ → List ℕ → List ℕ → Result Operand Refusal → Type 0
 Reduces at s l m r = (t : Tree) (n : ℕ) → s ≡ encode t → Good t n → Folds at t l m r
 
 -- ---- The answer of a call.
 
-not_done : (at : ℕ) (u : Tree) {B : Type 0} → done_at at u ≡ Fails → B
-unfolding done_at
-not_done at u e = let z : ◌≡◌ {A = ℕ} 0 1 = cc in absurd (omega arith)
+pub failed : {at : ℕ} {x : Read Tree} {l m : List ℕ} {n : Refusal} → Meets at x l m (Err n) → (x ≡ refused n) × (length m ≡ length l)
+failed {n = n} (fails k e q h) = let z : k ≡ n = cc in (e ∙ ap refused z, h)
+failed (done u d e q w) = let z : ◌≡◌ {A = ℕ} 0 1 = cc in absurd (omega arith)
 
-pub failed : {at : ℕ} {x : Read Tree} {l m : List ℕ} {r : Folded} → Meets at x l m r → r ≡ Fails → (x ≡ refused ConstantOperands) × (length m ≡ length l)
-failed (fails e q k) h = (e, k)
-failed {at} (done u e w) h = not_done at u (sym w.answers ∙ h)
+operand_or : Operand → Result Operand Refusal → Operand
+operand_or d (Ok b) = b
+operand_or d (Err n) = d
 
-pub record Found (at : ℕ) (x : Read Tree) (end sort key : ℕ) (l m : List ℕ) : Type 0 where
+pub record Found (at : ℕ) (x : Read Tree) (d : Operand) (l m : List ℕ) : Type 0 where
   pub tree : Tree
   pub is : x ≡ got tree
-  pub stops : end ≡ at + length (encode tree)
-  pub sorted : sort ≡ sort_of tree
-  pub placed : key ≡ key_of tree
+  pub stops : d.end ≡ at + length (encode tree)
+  pub sorted : d.sort ≡ sort_of tree
   pub holds : Holds at (encode tree) l m
 
-pub found : {at end sort key : ℕ} {x : Read Tree} {l m : List ℕ} {r : Folded} → Meets at x l m r → r ≡ Done end sort key → Found at x end sort key l m
-unfolding done_at
-found {end = end} {sort} {key} (fails e q k) h = let z : ◌≡◌ {A = ℕ} 0 1 = cc in absurd (omega arith)
-found {at} {end} {sort} {key} (done u e w) h =
-    let q : Done end sort key ≡ Done (at + length (encode u)) (sort_of u) (key_of u) = sym h ∙ w.answers in
-    let a : end ≡ at + length (encode u) = cc in
-    let b : sort ≡ sort_of u = cc in
-    let c : key ≡ key_of u = cc in
-    record { tree = u; is = e; stops = a; sorted = b; placed = c; holds = w.holds }
+pub found : {at : ℕ} {x : Read Tree} {l m : List ℕ} {d : Operand} → Meets at x l m (Ok d) → Found at x d l m
+unfolding done_at operand_or
+found (fails k e q h) = let z : ◌≡◌ {A = ℕ} 0 1 = cc in absurd (omega arith)
+found {at} {d = d} (done u b e q w) =
+    let y : d ≡ operand (at + length (encode u)) (sort_of u) = ap (operand_or d) q ∙ w.answers in
+    record { tree = u; is = e; stops = ap (λ (o : Operand). o.end) y; sorted = ap (λ (o : Operand). o.sort) y; holds = w.holds }
 
 -- ---- A Monadic.
 
@@ -92,63 +86,59 @@ one_is : (o : Op) (t : Tree) {x : Read Tree} → reduced t ≡ x → reduced (mo
 unfolding reduced
 one_is o t e = rw e refl
 
-one_fails : (o : Op) (t : Tree) → reduced t ≡ refused ConstantOperands → reduced (monadic o t) ≡ refused ConstantOperands
+one_fails : (o : Op) (t : Tree) (n : Refusal) → reduced t ≡ refused n → reduced (monadic o t) ≡ refused n
 unfolding also
-one_fails o t e = one_is o t e
+one_fails o t n e = one_is o t e
 
 one_turns : (o : Op) (t v : Tree) → reduced t ≡ got v → reduced (monadic o t) ≡ got (turned (turn o (sort_of v)) o v)
 unfolding also one_reduced
 one_turns o t v e = one_is o t e
 
-pub operand_fails : (s : List ℕ) (at : ℕ) {l m : List ℕ} {r : Folded} → Reduces (at + 8) (part s 8 (length s)) l m r → r ≡ Fails
-    → (o : Op) (t : Tree) (n : ℕ) → s ≡ encode (monadic o t) → Good t n → Folds at (monadic o t) l m Fails
-operand_fails s at f h o t n e g = let q = failed (f t n (one_part s o t e) g) h in fails (one_fails o t q.0) refl q.1
-
-pub operand_fails_any : (s : List ℕ) (at : ℕ) {l m : List ℕ} {r : Folded} → Reduces (at + 8) (part s 8 (length s)) l m r → r ≡ Fails
-    → (o : Op) (t : Tree) (n : ℕ) → s ≡ encode (monadic o t) → Good t n → way_of o t ≡ Other → Folds at (monadic o t) l m Fails
-operand_fails_any s at f h o t n e g w = operand_fails s at f h o t n e g
+pub operand_fails : (s : List ℕ) (at : ℕ) {l m : List ℕ} {v : Refusal} {r : Result Operand Refusal} → Reduces (at + 8) (part s 8 (length s)) l m (Err v) → r ≡ Err v
+    → (o : Op) (t : Tree) (n : ℕ) → s ≡ encode (monadic o t) → Good t n → way_of o t ≡ Other → Folds at (monadic o t) l m r
+operand_fails s at {v = v} f h o t n e g w = let q = failed (f t n (one_part s o t e) g) in fails v (one_fails o t v q.0) h q.1
 
 -- what the required tree says of the operand's place
-operand_found : (s : List ℕ) (at : ℕ) {end sort key : ℕ} {l m : List ℕ} {r : Folded} → Placed s at l → le16 s 4 ≡ 9 → Reduces (at + 8) (part s 8 (length s)) l m r → r ≡ Done end sort key
-    → (t : Tree) × Found (at + 8) (reduced t) end sort key l m
-operand_found s at p k f h =
+operand_found : (s : List ℕ) (at : ℕ) {d : Operand} {l m : List ℕ} → Placed s at l → le16 s 4 ≡ 9 → Reduces (at + 8) (part s 8 (length s)) l m (Ok d)
+    → (t : Tree) × Found (at + 8) (reduced t) d l m
+operand_found s at p k f =
     let q = below_recorded s p.of k in
-    (q.tree, found (f q.tree q.levels q.whole q.good) h)
+    (q.tree, found (f q.tree q.levels q.whole q.good))
 
-num_size : (v : Tree) → sort_of v ≡ 4 → length (encode v) ≡ 15
+num_size : (v : Tree) → sort_number (sort_of v) ≡ 4 → length (encode v) ≡ 15
 unfolding encode record_of
 num_size v e = go v (is_num v e)
   where
     go : (v : Tree) → OfKind 3 v → length (encode v) ≡ 15
     go v (of_num m s) = refl
 
-pub operand_room : (s : List ℕ) (at n : ℕ) {end sort key : ℕ} {l m : List ℕ} {r : Folded} (c : Turn) → Placed s at l → le16 s 4 ≡ 9 → Reduces (at + 8) (part s 8 (length s)) l m r → r ≡ Done end sort key
-    → c ≡ turn_on n sort → (at + 14 ≤ end) × (end ≤ length m) × (length m ≤ tree_limit) × (c ≡ Negate → at + 23 ≤ end)
-operand_room s at n {end} {sort} c p k f h e =
-    let q = operand_found s at p k f h in
+pub operand_room : (s : List ℕ) (at : ℕ) (o : Op) {d : Operand} {l m : List ℕ} (c : Turn) → Placed s at l → le16 s 4 ≡ 9 → Reduces (at + 8) (part s 8 (length s)) l m (Ok d)
+    → c ≡ turn o d.sort → (at + 14 ≤ d.end) × (d.end ≤ length m) × (length m ≤ tree_limit) × (c ≡ Negate → at + 23 ≤ d.end)
+operand_room s at o {d} c p k f e =
+    let q = operand_found s at p k f in
     let v = q.1.tree in
     let a = least_size v in (
       omega (arith, q.1.stops),
       omega (arith, q.1.stops, q.1.holds.fits, q.1.holds.kept),
       omega (arith, q.1.holds.kept, p.small),
       (λ z.
-          let b : sort ≡ 4 = negate_sort n sort (turn_on_lem n sort) (sym e ∙ z) in
-          let d = num_size v (sym q.1.sorted ∙ b) in
+          let b : sort_number d.sort ≡ 4 = negate_sort (op_number o) (sort_number d.sort) (turns o d.sort) (sym e ∙ z) in
+          let x = num_size v (ap sort_number (sym q.1.sorted) ∙ b) in
           omega (arith, q.1.stops)),
     )
 
-pub operand_turns : (s : List ℕ) (at op : ℕ) {end sort key : ℕ} {l m m' : List ℕ} {r r' : Folded} {c : Turn} → Reduces (at + 8) (part s 8 (length s)) l m r → r ≡ Done end sort key
-    → op ≡ le16 s 6 → c ≡ turn_on op sort
-    → ((o : Op) (v : Tree) (k : ℕ) (i : List ℕ) → Kept at end v i m → Good v k → op ≡ op_number o → c ≡ turn o (sort_of v) → written c ≡ true → Writes at (turned c o v) i m' r')
-    → (o : Op) (t : Tree) (n : ℕ) → s ≡ encode (monadic o t) → Good t n → way_of o t ≡ Other → Folds at (monadic o t) l m' r'
-operand_turns s at op {end} {sort} {l = l} {c = c} f h p q w o t n e g y =
-    let d = found (f t n (one_part s o t e) g) h in
-    let v = d.tree in
-    let i : op ≡ op_number o = p ∙ one_op s o t e in
-    let j : c ≡ turn o (sort_of v) = q ∙ ap (λ (k : ℕ). turn_on k sort) i ∙ ap (λ (k : ℕ). turn_on (op_number o) k) d.sorted ∙ sym (turn-number o (sort_of v)) in
-    let z : written c ≡ true = ap written j ∙ other_written o t v y d.is (turns o (sort_of v)) in
-    let x = w o v n l (record { stops = d.stops; holds = d.holds }) (reduced_good t v n g d.is) i j z in
-    done (turned c o v) (one_turns o t v d.is ∙ ap (λ (k : Turn). got (turned k o v)) (sym j)) x
+pub operand_turns : (s : List ℕ) (at : ℕ) (op : Op) {d e : Operand} {l m m' : List ℕ} {c : Turn} → Reduces (at + 8) (part s 8 (length s)) l m (Ok d) → Names s op → c ≡ turn op d.sort
+    → ((v : Tree) (k : ℕ) (i : List ℕ) → Kept at d.end v i m → Good v k → c ≡ turn op (sort_of v) → written c ≡ true → Writes at (turned c op v) i m' e)
+    → (o : Op) (t : Tree) (n : ℕ) → s ≡ encode (monadic o t) → Good t n → way_of o t ≡ Other → Folds at (monadic o t) l m' (Ok e)
+operand_turns s at op {d} {e} {l} {m} {m'} {c} f p q w o t n i g y =
+    let x : op ≡ o = p o (one_op s o t i) in
+    let a = found (f t n (one_part s o t i) g) in
+    let v = a.tree in
+    let j : c ≡ turn op (sort_of v) = q ∙ ap (λ (k : Sort). turn op k) a.sorted in
+    let b : way_of op t ≡ Other = subst (λ (k : Op). way_of k t ≡ Other) (sym x) y in
+    let z : written c ≡ true = ap written j ∙ other_written op t v b a.is (turns op (sort_of v)) in
+    let h = w v n l (record { stops = a.stops; holds = a.holds }) (reduced_good t v n g a.is) j z in
+    subst (λ (k : Op). Folds at (monadic k t) l m' (Ok e)) x (done (turned c op v) e (one_turns op t v a.is ∙ ap (λ (k : Turn). got (turned k op v)) (sym j)) refl h)
 
 -- ---- A Monadic by what stands below it.
 
@@ -156,17 +146,13 @@ operand_turns s at op {end} {sort} {l = l} {c = c} f h p q w o t n e g y =
 abbrev pub Looks : List ℕ → Chain → Type 0
 Looks s c = (o : Op) (t : Tree) → s ≡ encode (monadic o t) → c ≡ way_of o t
 
-pub other_way : (s : List ℕ) (at : ℕ) {l m : List ℕ} {r : Folded} {c : Chain} → le16 s 4 ≡ 9 → Looks s c → c ≡ Other
+pub other_way : (s : List ℕ) (at : ℕ) {l m : List ℕ} {r : Result Operand Refusal} {c : Chain} → le16 s 4 ≡ 9 → Looks s c → c ≡ Other
     → ((o : Op) (t : Tree) (n : ℕ) → s ≡ encode (monadic o t) → Good t n → way_of o t ≡ Other → Folds at (monadic o t) l m r)
     → Reduces at s l m r
 other_way s at {l} {m} {r} k f h w t n e g = go t (kind-is 9 t (sym (kind_of_lem s t e) ∙ k)) e g
   where
     go : (t : Tree) → OfKind 9 t → s ≡ encode t → Good t n → Folds at t l m r
     go t (of_monadic o u) e g = w o u (n - 1) e (one_good o u n g) (sym (f o u e) ∙ h)
-
--- the operators of a twin are one
-op_is : (o p : Op) → op_number o ≡ op_number p → o ≡ p
-op_is o p e = let z : Some o ≡ Some p = sym (number_of o) ∙ ap op_of e ∙ number_of p in cc
 
 pub data Twins (o : Op) : Tree → Type 0 where
   case_twins : (u : Tree) → o ≡ CaseI → Twins o (monadic CaseI u)
@@ -246,7 +232,7 @@ twin_again : (o : Op) (t : Tree) → Twins o t → reduced (monadic o t) ≡ red
 twin_again o t (case_twins u e) = ap (λ (x : Op). reduced (monadic x (monadic CaseI u))) e ∙ case_twice u
 twin_again o t (accent_twins u e) = ap (λ (x : Op). reduced (monadic x (monadic AccentI u))) e ∙ accent_twice u
 
-pub twin_way : (s : List ℕ) (at : ℕ) {l m : List ℕ} {r : Folded} {c : Chain} → le16 s 4 ≡ 9 → Looks s c → c ≡ Twin → Reduces at (part s 8 (length s)) l m r → Reduces at s l m r
+pub twin_way : (s : List ℕ) (at : ℕ) {l m : List ℕ} {r : Result Operand Refusal} {c : Chain} → le16 s 4 ≡ 9 → Looks s c → c ≡ Twin → Reduces at (part s 8 (length s)) l m r → Reduces at s l m r
 twin_way s at {l} {m} {r} k f h w t n e g = go t (kind-is 9 t (sym (kind_of_lem s t e) ∙ k)) e g
   where
     go : (t : Tree) → OfKind 9 t → s ≡ encode t → Good t n → Folds at t l m r
@@ -352,35 +338,34 @@ chain_way o t n f e = go (twin o t) e
     go true q = let z : ◌≡◌ {A = ℕ} 0 1 = cc in absurd (omega arith)
     go false q = q
 
-pub text_room : (s : List ℕ) (at n f : ℕ) (l : List ℕ) {c : Chain} → Placed s at l → le16 s 4 ≡ 9 → Looks s c → c ≡ Text n f
-    → (n ≤ length s) × (7 ≤ length (part s (length s - n) (length s))) × (at + length (part s (length s - n) (length s)) ≤ length l)
-text_room s at n f l {c} p k w h = go p.of.tree (kind-is 9 p.of.tree (sym (kind_of_lem s p.of.tree p.of.whole) ∙ k)) p.of.whole
-  where
-    go : (t : Tree) → OfKind 9 t → s ≡ encode t → (n ≤ length s) × (7 ≤ length (part s (length s - n) (length s))) × (at + length (part s (length s - n) (length s)) ≤ length l)
-    go t (of_monadic o u) e =
-        let d = ends (monadic o u) n f (chain_way o u n f (sym (w o u e) ∙ h)) in
-        let q = ends_part s (monadic o u) n f d e in
-        let j : length (part s (length s - n) (length s)) ≡ n = ap length q.2 ∙ sym d.size in
-        (q.0, omega (arith, q.1), omega (arith, q.0, p.fits))
-
 flags_low : (f : ℕ) (x : List ℕ) (n : ℕ) → Good (str f x) n → f < 256
 unfolding Good
 flags_low f x n g = omega (arith, g.1)
 
-pub text_way : (s : List ℕ) (at n f : ℕ) {l m : List ℕ} {r : Folded} {c : Chain} → Placed s at l → le16 s 4 ≡ 9 → Looks s c → c ≡ Text n f
-    → ((g : ℕ) (x : List ℕ) → part s (length s - n) (length s) ≡ encode (str g x) → f < 256 → (r ≡ done_at at (str f x)) × (m ≡ sets l at (encode (str f x))))
-    → Reduces at s l m r
+pub text_room : (s : List ℕ) (at n f : ℕ) (l : List ℕ) {c : Chain} → Placed s at l → le16 s 4 ≡ 9 → Looks s c → c ≡ Text n f
+    → (n ≤ length s) × (7 ≤ length (part s (length s - n) (length s))) × (at + length (part s (length s - n) (length s)) ≤ length l) × (f < 256)
+text_room s at n f l {c} p k w h = go p.of.tree (kind-is 9 p.of.tree (sym (kind_of_lem s p.of.tree p.of.whole) ∙ k)) p.of.whole p.of.good
+  where
+    go : (t : Tree) → OfKind 9 t → s ≡ encode t → Good t p.of.levels → (n ≤ length s) × (7 ≤ length (part s (length s - n) (length s))) × (at + length (part s (length s - n) (length s)) ≤ length l) × (f < 256)
+    go t (of_monadic o u) e g =
+        let d = ends (monadic o u) n f (chain_way o u n f (sym (w o u e) ∙ h)) in
+        let q = ends_part s (monadic o u) n f d e in
+        let j : length (part s (length s - n) (length s)) ≡ n = ap length q.2 ∙ sym d.size in
+        (q.0, omega (arith, q.1), omega (arith, q.0, p.fits), flags_low f d.text p.of.levels (reduced_good (monadic o u) (str f d.text) p.of.levels g d.becomes))
+
+pub text_way : (s : List ℕ) (at n f : ℕ) {l m : List ℕ} {r : Operand} {c : Chain} → Placed s at l → le16 s 4 ≡ 9 → Looks s c → c ≡ Text n f
+    → ((g : ℕ) (x : List ℕ) → part s (length s - n) (length s) ≡ encode (str g x) → (r ≡ done_at at (str f x)) × (m ≡ sets l at (encode (str f x))))
+    → Reduces at s l m (Ok r)
 text_way s at n f {l} {m} {r} p k w h q t i e g = go t (kind-is 9 t (sym (kind_of_lem s t e) ∙ k)) e g
   where
-    go : (t : Tree) → OfKind 9 t → s ≡ encode t → Good t i → Folds at t l m r
+    go : (t : Tree) → OfKind 9 t → s ≡ encode t → Good t i → Folds at t l m (Ok r)
     go t (of_monadic o u) e g =
         let d = ends (monadic o u) n f (chain_way o u n f (sym (w o u e) ∙ h)) in
         let y = ends_part s (monadic o u) n f d e in
-        let z = reduced_good (monadic o u) (str f d.text) i g d.becomes in
-        let j = q d.flags d.text y.2 (flags_low f d.text i z) in
+        let j = q d.flags d.text y.2 in
         let v = reduced_short (monadic o u) (str f d.text) d.becomes in
         let b : at + length (encode (str f d.text)) ≤ length l = omega (arith, p.fits, ap length e) in
-        done (str f d.text) d.becomes (record { answers = j.0; holds = subst (λ (k : List ℕ). Holds at (encode (str f d.text)) l k) (sym j.1) (holds_sets at (encode (str f d.text)) l b) })
+        done (str f d.text) r d.becomes refl (record { answers = j.0; holds = subst (λ (k : List ℕ). Holds at (encode (str f d.text)) l k) (sym j.1) (holds_sets at (encode (str f d.text)) l b) })
 
 -- ---- A Dyadic.
 
@@ -388,15 +373,15 @@ two_is : (o : Op) (t u : Tree) {x y : Read Tree} → reduced t ≡ x → reduced
 unfolding reduced
 two_is o t u e f = rw (e, f) refl
 
-first_fails : (o : Op) (t u : Tree) → reduced t ≡ refused ConstantOperands → reduced (dyadic o t u) ≡ refused ConstantOperands
+first_fails : (o : Op) (t u : Tree) (n : Refusal) → reduced t ≡ refused n → reduced (dyadic o t u) ≡ refused n
 unfolding also
-first_fails o t u e = two_is o t u e refl
+first_fails o t u n e = two_is o t u e refl
 
-second_fails : (o : Op) (t u a : Tree) → reduced t ≡ got a → reduced u ≡ refused ConstantOperands → reduced (dyadic o t u) ≡ refused ConstantOperands
+second_fails : (o : Op) (t u a : Tree) (n : Refusal) → reduced t ≡ got a → reduced u ≡ refused n → reduced (dyadic o t u) ≡ refused n
 unfolding also
-second_fails o t u a e f = two_is o t u e f
+second_fails o t u a n e f = two_is o t u e f
 
-two_meet : (o : Op) (t u a b : Tree) → reduced t ≡ got a → reduced u ≡ got b → reduced (dyadic o t u) ≡ met (meet o (sort_of a) (sort_of b) (key_of a) (key_of b)) o a b
+two_meet : (o : Op) (t u a b : Tree) → reduced t ≡ got a → reduced u ≡ got b → reduced (dyadic o t u) ≡ met (meet o (sort_of a) (sort_of b)) o a b
 unfolding also two_reduced
 two_meet o t u a b e f = two_is o t u e f
 
@@ -434,87 +419,91 @@ first-placed s at d l p k e =
     let a = two_size s q.1.op t q.1.second q.1.whole in
     record { of = record { tree = t; levels = q.0 - 1; whole = w; good = q.1.goods.0 }; fits = omega (arith, p.fits, ap length w); small = p.small }
 
-pub dyadic_fails : (s : List ℕ) (at d : ℕ) {l m : List ℕ} {r : Folded} → Placed s at l → le16 s 4 ≡ 10 → d ≡ le32 s 8 → Reduces (at + 8) (part s 8 (12 + d)) l m r → r ≡ Fails → Reduces at s l m Fails
-dyadic_fails s at d {l} {m} {r} p k z f h t n e g = go t (kind-is 10 t (sym (kind_of_lem s t e) ∙ k)) e g
-  where
-    go : (t : Tree) → OfKind 10 t → s ≡ encode t → Good t n → Folds at t l m Fails
-    go t (of_dyadic o x y) e g =
-        let q = failed (f x (n - 1) (two_first s (12 + d) o x y e (middle_is s at d l p z o x y e)) (two_good o x y n g).0) h in
-        fails (first_fails o x y q.0) refl q.1
+module _ (s : List ℕ) (at d : ℕ) {l : List ℕ} (p : Placed s at l) (k : le16 s 4 ≡ 10) (z : d ≡ le32 s 8) where
+  pub dyadic_fails : {m : List ℕ} {v : Refusal} {r : Result Operand Refusal} → Reduces (at + 8) (part s 8 (12 + d)) l m (Err v) → r ≡ Err v → Reduces at s l m r
+  dyadic_fails {m} {v} {r} f h t n e g = go t (kind-is 10 t (sym (kind_of_lem s t e) ∙ k)) e g
+    where
+      go : (t : Tree) → OfKind 10 t → s ≡ encode t → Good t n → Folds at t l m r
+      go t (of_dyadic o x y) e g =
+          let q = failed (f x (n - 1) (two_first s (12 + d) o x y e (middle_is s at d l p z o x y e)) (two_good o x y n g).0) in
+          fails v (first_fails o x y v q.0) h q.1
 
-pub second_of : (s : List ℕ) (at d : ℕ) {end sort key : ℕ} {l m : List ℕ} {r : Folded} → Placed s at l → le16 s 4 ≡ 10 → d ≡ le32 s 8 → Reduces (at + 8) (part s 8 (12 + d)) l m r → r ≡ Done end sort key
-    → Second s (12 + d) at end m
-second_of s at d p k z f h =
-    let q = two_of s p.of k in
-    let o = q.1.op in
-    let t = q.1.first in
-    let u = q.1.second in
-    let i = middle_is s at d _ p z o t u q.1.whole in
-    let y = found (f t (q.0 - 1) (two_first s (12 + d) o t u q.1.whole i) q.1.goods.0) h in
-    let a = least_size y.tree in
-    let b = reduced_short t y.tree y.is in
-    let j = two_size s o t u q.1.whole in
-    record {
-      op = o;
-      first = t;
-      second = u;
-      levels = q.0 - 1;
-      whole = q.1.whole;
-      good = q.1.goods.1;
-      middle = i;
-      low = omega (arith, y.stops);
-      fits = omega (arith, y.stops, y.holds.kept, p.fits);
-      small = omega (arith, y.holds.kept, p.small);
-    }
+  -- the first operand is reduced
+  module _ {m : List ℕ} {a : Operand} (f : Reduces (at + 8) (part s 8 (12 + d)) l m (Ok a)) where
+    -- what is known before the second one is, which stands at 12 + d
+    pub record Second : Type 0 where
+      pub second : Tree
+      pub levels : ℕ
+      pub whole : part s (12 + d) (length s) ≡ encode second
+      pub good : Good second levels
+      pub middle : (12 + d ≤ length s) × (length s - (12 + d) < length s)
+      pub low : at + 14 ≤ a.end
+      pub fits : a.end + length (encode second) ≤ length m
+      pub small : length m ≤ tree_limit
 
-pub dyadic_second : (s : List ℕ) (at d : ℕ) {end sort key : ℕ} {l m m' : List ℕ} {r r' : Folded} → Placed s at l → le16 s 4 ≡ 10 → d ≡ le32 s 8 → Reduces (at + 8) (part s 8 (12 + d)) l m r → r ≡ Done end sort key
-    → ((o : Op) (t u a : Tree) (n : ℕ) (i : List ℕ) → s ≡ encode (dyadic o t u) → Good u n → First (12 + d) sort key at end t a i m → Folds at (dyadic o t u) i m' r')
-    → Reduces at s l m' r'
-dyadic_second s at d {end} {sort} {key} {l} {m} {m'} {r} {r'} p k z f h w t n e g = go t (kind-is 10 t (sym (kind_of_lem s t e) ∙ k)) e g
-  where
-    go : (t : Tree) → OfKind 10 t → s ≡ encode t → Good t n → Folds at t l m' r'
-    go t (of_dyadic o x y) e g =
-        let i = middle_is s at d l p z o x y e in
-        let q = found (f x (n - 1) (two_first s (12 + d) o x y e i) (two_good o x y n g).0) h in
-        w o x y q.tree (n - 1) l e (two_good o x y n g).1 (record { middle = i; becomes = q.is; sorted = q.sorted; placed = q.placed; stops = q.stops; holds = q.holds })
+    pub second_of : Second
+    second_of =
+        let q = two_of s p.of k in
+        let o = q.1.op in
+        let t = q.1.first in
+        let u = q.1.second in
+        let i = middle_is s at d l p z o t u q.1.whole in
+        let y = found (f t (q.0 - 1) (two_first s (12 + d) o t u q.1.whole i) q.1.goods.0) in
+        let b = least_size y.tree in
+        let c = reduced_short t y.tree y.is in
+        let j = two_size s o t u q.1.whole in
+        record {
+          second = u;
+          levels = q.0 - 1;
+          whole = two_second s (12 + d) o t u q.1.whole i;
+          good = q.1.goods.1;
+          middle = (omega (arith, i), omega (arith, i));
+          low = omega (arith, y.stops);
+          fits = omega (arith, y.stops, y.holds.kept, p.fits);
+          small = omega (arith, y.holds.kept, p.small);
+        }
 
--- ---- Its second operand.
+    pub second-placed : Placed (part s (12 + d) (length s)) a.end m
+    second-placed =
+        let y = second_of in
+        record { of = record { tree = y.second; levels = y.levels; whole = y.whole; good = y.good }; fits = omega (arith, y.fits, ap length y.whole); small = y.small }
 
-pub second_start : (s : List ℕ) (m at from : ℕ) (l : List ℕ) → Second s m at from l → (8 ≤ m) × (m ≤ length s) × (length s - m < length s)
-second_start s m at from l p =
-    let a = two_size s p.op p.first p.second p.whole in
-    (omega (arith, p.middle), omega (arith, p.middle), omega (arith, p.middle))
+    pub second_refused : {m' : List ℕ} {v : Refusal} {r : Result Operand Refusal} → Reduces a.end (part s (12 + d) (length s)) m m' (Err v) → r ≡ Err v → Reduces at s l m' r
+    second_refused {m'} {v} {r} g h t n e y = go t (kind-is 10 t (sym (kind_of_lem s t e) ∙ k)) e y
+      where
+        go : (t : Tree) → OfKind 10 t → s ≡ encode t → Good t n → Folds at t l m' r
+        go t (of_dyadic o x u) e y =
+            let i = middle_is s at d l p z o x u e in
+            let b = found (f x (n - 1) (two_first s (12 + d) o x u e i) (two_good o x u n y).0) in
+            let q = failed (g u (n - 1) (two_second s (12 + d) o x u e i) (two_good o x u n y).1) in
+            fails v (second_fails o x u b.tree v b.is q.0) h (q.1 ∙ b.holds.kept)
 
-pub second-placed : (s : List ℕ) (m at from : ℕ) (l : List ℕ) → Second s m at from l → Placed (part s m (length s)) from l
-second-placed s m at from l p =
-    let w = two_second s m p.op p.first p.second p.whole p.middle in
-    record { of = record { tree = p.second; levels = p.levels; whole = w; good = p.good }; fits = omega (arith, p.fits, ap length w); small = p.small }
+    -- so is the second
+    module _ {m' : List ℕ} {b : Operand} (g : Reduces a.end (part s (12 + d) (length s)) m m' (Ok b)) where
+      pub second-room : (at + 20 ≤ b.end) × (b.end ≤ length m') × (length m' ≤ tree_limit)
+      second-room =
+          let y = second_of in
+          let x = found (g y.second y.levels y.whole y.good) in
+          let c = least_size x.tree in
+          (omega (arith, x.stops, y.low), omega (arith, x.stops, x.holds.fits, x.holds.kept), omega (arith, x.holds.kept, y.small))
 
-pub second_refused : (s : List ℕ) (m sort key at from : ℕ) {j k : List ℕ} {r : Folded} → Reduces from (part s m (length s)) j k r → r ≡ Fails
-    → (o : Op) (t u a : Tree) (n : ℕ) (l : List ℕ) → s ≡ encode (dyadic o t u) → Good u n → First m sort key at from t a l j → Folds at (dyadic o t u) l k Fails
-second_refused s m sort key at from f h o t u a n l e g w =
-    let q = failed (f u n (two_second s m o t u e w.middle) g) h in
-    fails (second_fails o t u a w.becomes q.0) refl (q.1 ∙ w.holds.kept)
+      pub dyadic_meets : (op : Op) {e : List ℕ} {r : Result Operand Refusal} {c : Meet} → Names s op → c ≡ meet op a.sort b.sort
+          → ((v w : Tree) (i : List ℕ) → Pair at b.end v w i m' → Meets at (met c op v w) i e r) → Reduces at s l e r
+      dyadic_meets op {e} {r} {c} h q w t n i y = go t (kind-is 10 t (sym (kind_of_lem s t i) ∙ k)) i y
+        where
+          go : (t : Tree) → OfKind 10 t → s ≡ encode t → Good t n → Folds at t l e r
+          go t (of_dyadic o x u) i y =
+              let j = middle_is s at d l p z o x u i in
+              let v = found (f x (n - 1) (two_first s (12 + d) o x u i j) (two_good o x u n y).0) in
+              let v' = found (g u (n - 1) (two_second s (12 + d) o x u i j) (two_good o x u n y).1) in
+              let same : op ≡ o = h o (two_op s o x u i) in
+              let now : c ≡ meet op (sort_of v.tree) (sort_of v'.tree) = q ∙ ap (λ (k : Sort). meet op k b.sort) v.sorted ∙ ap (λ (k : Sort). meet op (sort_of v.tree) k) v'.sorted in
+              let here : Holds (at + 8 + length (encode v.tree)) (encode v'.tree) m m' = subst (λ (k : ℕ). Holds k (encode v'.tree) m m') v.stops v'.holds in
+              let pair : Pair at b.end v.tree v'.tree l m' = record { stops = v'.stops ∙ ap (λ (k : ℕ). k + length (encode v'.tree)) v.stops; holds = holds_then v.holds here } in
+              let is : reduced (dyadic op x u) ≡ met c op v.tree v'.tree = two_meet op x u v.tree v'.tree v.is v'.is ∙ ap (λ (k : Meet). met k op v.tree v'.tree) (sym now) in
+              subst (λ (k : Op). Folds at (dyadic k x u) l e r) same (subst (λ (k : Read Tree). Meets at k l e r) (sym is) (w v.tree v'.tree l pair))
 
-pub second-room : (s : List ℕ) (m at from : ℕ) {end sort key : ℕ} {j k : List ℕ} {r : Folded} → Second s m at from j → Reduces from (part s m (length s)) j k r → r ≡ Done end sort key
-    → (at + 20 ≤ end) × (end ≤ length k) × (length k ≤ tree_limit)
-second-room s m at from p f h =
-    let y = found (f p.second p.levels (two_second s m p.op p.first p.second p.whole p.middle) p.good) h in
-    let a = least_size y.tree in
-    (omega (arith, y.stops, p.low), omega (arith, y.stops, y.holds.fits, y.holds.kept), omega (arith, y.holds.kept, p.small))
+-- ---- The operator of a record.
 
-pub second_meets : (s : List ℕ) (m sort key at from op : ℕ) {end b y : ℕ} {j k k' : List ℕ} {r r' : Folded} {c : Meet} → Reduces from (part s m (length s)) j k r → r ≡ Done end b y
-    → op ≡ le16 s 6 → c ≡ meet_on op (instant_number op) sort b key y
-    → ((o : Op) (v w : Tree) (i : List ℕ) → Pair at end v w i k → op ≡ op_number o → Meets at (met c o v w) i k' r')
-    → (o : Op) (t u a : Tree) (n : ℕ) (l : List ℕ) → s ≡ encode (dyadic o t u) → Good u n → First m sort key at from t a l j → Folds at (dyadic o t u) l k' r'
-second_meets s m sort key at from op {end} {b} {y} {j} {k} {k'} {r} {r'} {c} f h p q w o t u a n l e g z =
-    let d = found (f u n (two_second s m o t u e z.middle) g) h in
-    let v = d.tree in
-    let i : op ≡ op_number o = p ∙ two_op s o t u e in
-    let x : c ≡ meet o (sort_of a) (sort_of v) (key_of a) (key_of v) =
-    q ∙ ap (λ (x : ℕ). meet_on x (instant_number x) sort b key y) i ∙ ap (λ (x : ℕ). meet_on (op_number o) (instant_number (op_number o)) x b key y) z.sorted
-    ∙ ap (λ (x : ℕ). meet_on (op_number o) (instant_number (op_number o)) (sort_of a) x key y) d.sorted ∙ ap (λ (x : ℕ). meet_on (op_number o) (instant_number (op_number o)) (sort_of a) (sort_of v) x y) z.placed
-    ∙ ap (λ (x : ℕ). meet_on (op_number o) (instant_number (op_number o)) (sort_of a) (sort_of v) (key_of a) x) d.placed ∙ sym (meet-number o (sort_of a) (sort_of v) (key_of a) (key_of v)) in
-    let here : Holds (at + 8 + length (encode a)) (encode v) j k = subst (λ (x : ℕ). Holds x (encode v) j k) z.stops d.holds in
-    let pair : Pair at end a v l k = record { stops = d.stops ∙ ap (λ (x : ℕ). x + length (encode v)) z.stops; holds = holds_then z.holds here } in
-    subst (λ (x : Read Tree). Meets at x l k' r') (sym (two_meet o t u a v z.becomes d.is ∙ ap (λ (x : Meet). met x o a v) (sym x))) (w o a v l pair i)
+pub two_operated : (s : List ℕ) → Recorded s → le16 s 4 ≡ 10 → Operated s
+two_operated s r k = let q = two_of s r k in record { op = q.1.op; is = two_op s q.1.op q.1.first q.1.second q.1.whole }

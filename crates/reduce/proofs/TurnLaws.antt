@@ -18,37 +18,39 @@ use Rattle.tree.specs.Tree.{Tree, null, unbounded, bool, num, str, date, timesta
 use Rattle.tree.specs.GoodWords.{Good}
 use Rattle.tree.specs.ByteLaws.{le64-le, twos-low}
 use Rattle.tree.specs.TestsLaws.{OfKind, of_num}
-use Rattle.reduce.specs.declared.Folded.{Folded}
-use Rattle.reduce.specs.declared.Folded.TheVariants.{Done}
+use Rattle.reduce.specs.declared.Operand.{Operand}
+use Rattle.reduce.specs.declared.Sort.{Sort}
+use Rattle.reduce.specs.declared.Sort.TheVariants as sort
 use Rattle.reduce.specs.declared.Turn.{Turn}
 use Rattle.reduce.specs.declared.Turn.TheVariants.{Keep, ToNull, ToBool, Stay, Negate, NoCase, NoAccent}
-use Rattle.reduce.specs.Sort.{num_sort, sort_of, key_of}
+use Rattle.reduce.specs.Sort.{sort_number, sort_of}
 use Rattle.reduce.specs.Rules.{turn}
 use Rattle.reduce.specs.Reduced.{minus, turned}
 use Rattle.reduce.specs.ReducedLaws.{monadic_size}
-use Rattle.reduce.specs.WalkWords.{Holds, Kept, Writes, done_at, head_of, kept_sort, written}
+use Rattle.reduce.specs.WalkWords.{Holds, Kept, Writes, operand, done_at, head_of, written}
+use Rattle.reduce.proofs.RuleLaws.{op_apart}
 use Rattle.reduce.proofs.WayLaws.{negate_sort, turns}
 use Rattle.reduce.proofs.RoomLaws.{holds_stands, keep_one, fold_over}
 
 -- Null and Bools.
 
-over : {at end : ℕ} {l m n : List ℕ} {r : Folded} (v u : Tree) → Kept at end v l m → at + length (encode u) ≤ length m
+over : {at end : ℕ} {l m n : List ℕ} {r : Operand} (v u : Tree) → Kept at end v l m → at + length (encode u) ≤ length m
     → (r ≡ done_at at u) × (n ≡ sets m at (encode u)) → Writes at u l n r
 over v u p h w = record { answers = w.0; holds = rw w.1 (fold_over u p.holds h) }
 
-pub turned_null : {at end : ℕ} {l m n : List ℕ} {c : Turn} {r : Folded} (o : Op) (v : Tree) → c ≡ ToNull → Kept at end v l m → at + 6 ≤ length m
+pub turned_null : {at end : ℕ} {l m n : List ℕ} {c : Turn} {r : Operand} (o : Op) (v : Tree) → c ≡ ToNull → Kept at end v l m → at + 6 ≤ length m
     → (r ≡ done_at at null) × (n ≡ sets m at (encode null)) → Writes at (turned c o v) l n r
 unfolding turned encode record_of
 turned_null o v e p h w = rw e (over v null p h w)
 
-pub turned_bool : {at end : ℕ} {l m n : List ℕ} {c : Turn} {r : Folded} (o : Op) (v : Tree) (x : Bool) → c ≡ ToBool x → Kept at end v l m → at + 7 ≤ length m
+pub turned_bool : {at end : ℕ} {l m n : List ℕ} {c : Turn} {r : Operand} (o : Op) (v : Tree) (x : Bool) → c ≡ ToBool x → Kept at end v l m → at + 7 ≤ length m
     → (r ≡ done_at at (bool x)) × (n ≡ sets m at (encode (bool x))) → Writes at (turned c o v) l n r
 unfolding turned encode record_of
 turned_bool o v x e p h w = rw e (over v (bool x) p h w)
 
 -- The Num behind `at`.
 
-pub is_num : (t : Tree) → sort_of t ≡ 4 → OfKind 3 t
+pub is_num : (t : Tree) → sort_number (sort_of t) ≡ 4 → OfKind 3 t
 unfolding sort_of
 is_num null e = absurd (let v : ⊥ = omega (arith, e) in v)
 is_num unbounded e = absurd (let v : ⊥ = omega (arith, e) in v)
@@ -62,7 +64,7 @@ is_num (spatial n s) e = absurd (let v : ⊥ = omega (arith, e) in v)
 is_num (id s) e = absurd (let v : ⊥ = omega (arith, e) in v)
 is_num (monadic o t) e = absurd (go (one_of o (CaseI ∷ [])) (one_of o (AccentI ∷ [])) e)
   where
-    go : (a b : Bool) → ◌≡◌ {A = ℕ} (pick a 7 (pick b 8 9)) 4 → ⊥
+    go : (a b : Bool) → sort_number (pick a sort.CaseI (pick b sort.AccentI sort.Other)) ≡ 4 → ⊥
     go true b e = omega (arith, e)
     go false true e = omega (arith, e)
     go false false e = omega (arith, e)
@@ -105,9 +107,9 @@ unfolding encode record_of
 num_length m s = refl
 
 -- what is read of it, and what is written
-pub negated_num : {at n q x : ℕ} {l m e : List ℕ} {r : Folded} (v : Tree) (k : ℕ) → Holds (at + 8) (encode v) l m → Good v k → sort_of v ≡ num_sort → at + 23 ≤ length m
+pub negated_num : {at n q x : ℕ} {l m e : List ℕ} {r : Operand} (v : Tree) (k : ℕ) → Holds (at + 8) (encode v) l m → Good v k → sort_number (sort_of v) ≡ 4 → at + 23 ≤ length m
     → q ≡ le64 m (at + 14) → ((z : ℤ) → nat_abs z ≤ mantissa_limit → q ≡ twos z → n ≡ twos (neg_ℤ z)) → (x ≡ get_or m (at + 22) 0) × (x < 256)
-    → ((z : ℤ) → n ≡ twos z → x < 256 → (r ≡ done_at at (num z x)) × (e ≡ sets m at (encode (num z x)))) → Writes at (minus v) l e r
+    → ((z : ℤ) → n ≡ twos z → (r ≡ done_at at (num z x)) × (e ≡ sets m at (encode (num z x)))) → Writes at (minus v) l e r
 unfolding minus Good
 negated_num {at} {n} {q} {x} {l} {m} {e} {r} v k h g f room eq opp ex put = go (is_num v f) h g
   where
@@ -117,16 +119,16 @@ negated_num {at} {n} {q} {x} {l} {m} {e} {r} v k h g f room eq opp ex put = go (
         let stands : drop (at + 8) m ≡ encode (num z s) ++ rest = holds_stands h in
         let scale : x ≡ s = ex.0 ∙ num_scale z s at m rest stands in
         let two : n ≡ twos (neg_ℤ z) = opp z g.1 (eq ∙ num_mantissa z s at m rest g.1 stands) in
-        let w = put (neg_ℤ z) two ex.1 in
+        let w = put (neg_ℤ z) two in
         let fits : at + length (encode (num (neg_ℤ z) s)) ≤ length m = omega (arith, room, num_length (neg_ℤ z) s) in
         rw (← scale) (record { answers = w.0; holds = rw w.1 (fold_over (num (neg_ℤ z) x) h (rw scale fits)) })
 
 -- Negate is asked of a Num alone.
 
-pub turned_negate : {at end : ℕ} {l m n : List ℕ} {c : Turn} {r : Folded} (o : Op) (v : Tree) (k : ℕ) → c ≡ Negate → Kept at end v l m → Good v k → c ≡ turn o (sort_of v)
-    → ((v : Tree) (k : ℕ) (l : List ℕ) → Holds (at + 8) (encode v) l m → Good v k → sort_of v ≡ num_sort → Writes at (minus v) l n r) → Writes at (turned c o v) l n r
+pub turned_negate : {at end : ℕ} {l m n : List ℕ} {c : Turn} {r : Operand} (o : Op) (v : Tree) (k : ℕ) → c ≡ Negate → Kept at end v l m → Good v k → c ≡ turn o (sort_of v)
+    → ((v : Tree) (k : ℕ) (l : List ℕ) → Holds (at + 8) (encode v) l m → Good v k → sort_number (sort_of v) ≡ 4 → Writes at (minus v) l n r) → Writes at (turned c o v) l n r
 unfolding turned
-turned_negate {at} {end} {l} o v k e p g t f = rw e (f v k l p.holds g (negate_sort (op_number o) (sort_of v) (turns o (sort_of v)) (sym t ∙ e)))
+turned_negate {at} {end} {l} o v k e p g t f = rw e (f v k l p.holds g (negate_sort (op_number o) (sort_number (sort_of v)) (turns o (sort_of v)) (sym t ∙ e)))
 
 -- What is kept.
 
@@ -139,24 +141,27 @@ kept_arm Stay f g h e = absurd (false≢true e)
 kept_arm NoCase f g h e = absurd (false≢true e)
 kept_arm NoAccent f g h e = absurd (false≢true e)
 
-plainly : (b : Bool) (x y : ℕ) → pick (pick b true false) x y ≡ pick b x y
-plainly true x y = refl
-plainly false x y = refl
+pub kept_case : {o : Op} (v : Tree) → o ≡ CaseI → sort.CaseI ≡ sort_of (monadic o v)
+unfolding sort_of some
+kept_case v e = rw e refl
 
-kept_sorted : (o : Op) (v : Tree) → kept_sort (op_number o) ≡ sort_of (monadic o v)
-unfolding kept_sort sort_of some
-kept_sorted o v = simp (plainly (eqb (op_number o) 16), plainly (eqb (op_number o) 17)) refl
+pub kept_accent : {o : Op} (v : Tree) → o ≡ AccentI → sort.AccentI ≡ sort_of (monadic o v)
+unfolding sort_of some
+kept_accent v e = rw e refl
 
-monadic_done : {q : ℕ} (at end : ℕ) (o : Op) (v : Tree) → end ≡ at + 8 + length (encode v) → q ≡ kept_sort (op_number o) → Done end q 0 ≡ done_at at (monadic o v)
-unfolding done_at key_of
-monadic_done {q} at end o v e f =
+pub kept_other : {o : Op} (v : Tree) → (o ≡ CaseI → ⊥) → (o ≡ AccentI → ⊥) → sort.Other ≡ sort_of (monadic o v)
+unfolding sort_of some
+kept_other {o} v n m = simp (op_apart o CaseI n, op_apart o AccentI m)
+
+monadic_done : (at end : ℕ) (o : Op) (v : Tree) {q : Sort} → end ≡ at + 8 + length (encode v) → q ≡ sort_of (monadic o v) → operand end q ≡ done_at at (monadic o v)
+unfolding done_at
+monadic_done at end o v {q} e f =
     let z : end ≡ at + length (encode (monadic o v)) = omega (arith, e, monadic_size o v) in
-    let s : q ≡ sort_of (monadic o v) = f ∙ kept_sorted o v in
-    ap (λ (i : ℕ). Done i q 0) z ∙ ap (λ (i : ℕ). Done (at + length (encode (monadic o v))) i 0) s
+    ap (λ (i : ℕ). operand i q) z ∙ ap (λ (i : Sort). operand (at + length (encode (monadic o v))) i) f
 
-pub turned_kept : {at end op q : ℕ} {l m n : List ℕ} {c : Turn} (o : Op) (v : Tree) → c ≡ Keep → Kept at end v l m → op ≡ op_number o → q ≡ kept_sort op
-    → n ≡ sets m at (head_of 9 op (end - at - 8)) → Writes at (turned c o v) l n (Done end q 0)
+pub turned_kept : {at end : ℕ} {q : Sort} {l m n : List ℕ} {c : Turn} (o : Op) (v : Tree) → c ≡ Keep → Kept at end v l m → q ≡ sort_of (monadic o v)
+    → n ≡ sets m at (head_of 9 (op_number o) (end - at - 8)) → Writes at (turned c o v) l n (operand end q)
 unfolding turned
-turned_kept {at} {end} {op} {q} {l} {m} o v e p f s w =
+turned_kept {at} {end} {q} {l} {m} o v e p s w =
     let z : end - at - 8 ≡ length (encode v) = omega (arith, p.stops) in
-    rw e (record { answers = monadic_done at end o v p.stops (s ∙ ap kept_sort f); holds = rw (w, f, z) (keep_one o v p.holds) })
+    rw e (record { answers = monadic_done at end o v p.stops s; holds = rw (w, z) (keep_one o v p.holds) })

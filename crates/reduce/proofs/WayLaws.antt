@@ -19,10 +19,10 @@ use Rattle.reduce.specs.declared.Turn.TheVariants.{Keep, ToNull, ToBool, Stay, N
 use Rattle.reduce.specs.declared.Meet.{Meet}
 use Rattle.reduce.specs.declared.Meet.TheVariants.{Keeps, MeetNull, MeetBool, Clash}
 use Rattle.reduce.specs.declared.Chain.TheVariants.{Text, Twin, Other}
-use Rattle.reduce.specs.Sort.{sort_of, key_of}
+use Rattle.reduce.specs.declared.Sort.{Sort}
+use Rattle.reduce.specs.declared.Sort.TheVariants as sort
+use Rattle.reduce.specs.Sort.{sort_number, sort_of}
 use Rattle.reduce.specs.Rules.{turn, meet}
-use Rattle.reduce.specs.RuleWords.{turn_on}
-use Rattle.reduce.specs.RuleLaws.{turn-number}
 use Rattle.reduce.specs.Reduced.{and_case, and_accent, minus, flagged, turned, met, one_reduced, two_reduced, reduced, reduceds}
 use Rattle.reduce.specs.ReducedLaws.{minus_keeps, flagged_keeps, same_tree}
 use Rattle.reduce.specs.WalkWords.{chain_of, operator_of, twin, way_of, written}
@@ -43,22 +43,26 @@ either_way : (P : Turn → Type 0) (b : Bool) {x y : Turn} → (b ≡ true → P
 either_way P true f g = f refl
 either_way P false f g = g refl
 
-pub turn_on_lem : (n a : ℕ) → TurnOf n a (turn_on n a)
-unfolding turn_on
-turn_on_lem n a =
-    let P : Turn → Type 0 = λ (x : Turn). TurnOf n a x in
-    either_way P (eqb n 1) (λ u. either_way P (eqb a 0) (λ v. nulls) (λ v. either_way P (eqb a 4) (λ w. negates (eqb-true a 4 w)) (λ w. keeps)))
-    (λ u. either_way P (eqb n 7) (λ v. either_way P (eqb a 0) (λ w. nulls) (λ w. either_way P (ltb a 3) (λ x. bools (eqb a 1)) (λ x. keeps)))
-    (λ v. either_way P (eqb n 51) (λ w. either_way P (eqb a 0) (λ x. bools true) (λ x. keeps))
-    (λ w. either_way P (eqb n 52) (λ x. either_way P (eqb a 0) (λ y. bools false) (λ y. keeps))
-    (λ x. either_way P (eqb n 16)
-    (λ y. either_way P (eqb a 5) (λ z. case_joins (eqb-true n 16 y) (eqb-true a 5 z)) (λ z. either_way P (eqb a 7) (λ i. case_stays (eqb-true n 16 y) (eqb-true a 7 i)) (λ i. keeps)))
-    (λ y. either_way P (eqb n 17)
-    (λ z. either_way P (eqb a 5) (λ i. accent_joins (eqb-true n 17 z) (eqb-true a 5 i)) (λ i. either_way P (eqb a 8) (λ j. accent_stays (eqb-true n 17 z) (eqb-true a 8 j)) (λ j. keeps)))
-    (λ z. keeps))))))
+single : (b : Bool) → pick b true false ≡ true → b ≡ true
+single true e = refl
+single false e = e
 
-pub turns : (o : Op) (a : ℕ) → TurnOf (op_number o) a (turn o a)
-turns o a = subst (λ (x : Turn). TurnOf (op_number o) a x) (sym (turn-number o a)) (turn_on_lem (op_number o) a)
+pub turns : (o : Op) (a : Sort) → TurnOf (op_number o) (sort_number a) (turn o a)
+unfolding turn some
+turns o a =
+    let n : ℕ = op_number o in
+    let k : ℕ = sort_number a in
+    let P : Turn → Type 0 = λ (x : Turn). TurnOf (op_number o) (sort_number a) x in
+    let one : ℕ → Bool = λ (i : ℕ). pick (eqb (op_number o) i) true false in
+    either_way P (one 1) (λ u. either_way P (eqb k 0) (λ v. nulls) (λ v. either_way P (eqb k 4) (λ w. negates (eqb-true k 4 w)) (λ w. keeps)))
+    (λ u. either_way P (one 7) (λ v. either_way P (eqb k 0) (λ w. nulls) (λ w. either_way P (ltb k 3) (λ x. bools (eqb k 1)) (λ x. keeps)))
+    (λ v. either_way P (one 51) (λ w. either_way P (eqb k 0) (λ x. bools true) (λ x. keeps))
+    (λ w. either_way P (one 52) (λ x. either_way P (eqb k 0) (λ y. bools false) (λ y. keeps))
+    (λ x. either_way P (one 16)
+    (λ y. either_way P (eqb k 5) (λ z. case_joins (eqb-true n 16 (single (eqb n 16) y)) (eqb-true k 5 z)) (λ z. either_way P (eqb k 7) (λ i. case_stays (eqb-true n 16 (single (eqb n 16) y)) (eqb-true k 7 i)) (λ i. keeps)))
+    (λ y. either_way P (one 17)
+    (λ z. either_way P (eqb k 5) (λ i. accent_joins (eqb-true n 17 (single (eqb n 17) z)) (eqb-true k 5 i)) (λ i. either_way P (eqb k 8) (λ j. accent_stays (eqb-true n 17 (single (eqb n 17) z)) (eqb-true k 8 j)) (λ j. keeps)))
+    (λ z. keeps))))))
 
 -- ---- Sorts.
 
@@ -70,7 +74,7 @@ flagged_sort : (g : ℕ → ℕ) (t : Tree) → sort_of (flagged g t) ≡ sort_o
 unfolding sort_of
 flagged_sort g t = flagged_keeps (λ (x : Tree). sort_of x ≡ sort_of t) g (λ f s e. e) t refl
 
-bool_sort : (b : Bool) (k : ℕ) → 3 ≤ k → sort_of (bool b) ≡ k → ⊥
+bool_sort : (b : Bool) (k : ℕ) → 3 ≤ k → sort_number (sort_of (bool b)) ≡ k → ⊥
 unfolding sort_of
 bool_sort true k h e = omega arith
 bool_sort false k h e = omega arith
@@ -81,20 +85,20 @@ pub record KeptSort (o : Op) (k : ℕ) : Type 0 where
   pub case : k ≡ 7 → op_number o ≡ 16
   pub accent : k ≡ 8 → op_number o ≡ 17
 
-kept_sort_lem : (o : Op) (v : Tree) → KeptSort o (sort_of (monadic o v))
+kept_sort_lem : (o : Op) (v : Tree) → KeptSort o (sort_number (sort_of (monadic o v)))
 unfolding sort_of some
 kept_sort_lem o v = go (eqb (op_number o) 16) (eqb (op_number o) 17) refl refl
   where
-    go : (a b : Bool) → eqb (op_number o) 16 ≡ a → eqb (op_number o) 17 ≡ b → KeptSort o (pick (pick a true false) 7 (pick (pick b true false) 8 9))
+    go : (a b : Bool) → eqb (op_number o) 16 ≡ a → eqb (op_number o) 17 ≡ b → KeptSort o (sort_number (pick (pick a true false) sort.CaseI (pick (pick b true false) sort.AccentI sort.Other)))
     go true b e f = record { no_str = λ z. omega arith; case = λ z. eqb-true (op_number o) 16 e; accent = λ z. absurd (let v : ⊥ = omega arith in v) }
     go false true e f = record { no_str = λ z. omega arith; case = λ z. absurd (let v : ⊥ = omega arith in v); accent = λ z. eqb-true (op_number o) 17 f }
     go false false e f = record { no_str = λ z. omega arith; case = λ z. absurd (let v : ⊥ = omega arith in v); accent = λ z. absurd (let v : ⊥ = omega arith in v) }
 
 -- what a tree must be, if it reduces to v
 pub record Comes (t v : Tree) : Type 0 where
-  pub from_str : sort_of v ≡ 5 → (n : ℕ) × (f : ℕ) × (chain_of t ≡ Text n f)
-  pub from_case : sort_of v ≡ 7 → operator_of t ≡ 17
-  pub from_accent : sort_of v ≡ 8 → operator_of t ≡ 18
+  pub from_str : sort_number (sort_of v) ≡ 5 → (n : ℕ) × (f : ℕ) × (chain_of t ≡ Text n f)
+  pub from_case : sort_number (sort_of v) ≡ 7 → operator_of t ≡ 17
+  pub from_accent : sort_number (sort_of v) ≡ 8 → operator_of t ≡ 18
 
 case_chain : (o : Op) (t : Tree) (n f : ℕ) → op_number o ≡ 16 → chain_of t ≡ Text n f → chain_of (monadic o t) ≡ Text n (and_case f)
 unfolding chain_of some
@@ -104,13 +108,13 @@ accent_chain : (o : Op) (t : Tree) (n f : ℕ) → op_number o ≡ 17 → chain_
 unfolding chain_of some
 accent_chain o t n f e q = let h : op_number o ≡ 16 → ⊥ = λ z. omega arith in simp (ne_eqb (op_number o) 16 h, eq-eqb (op_number o) 17 e, q)
 
-plain : (t v : Tree) → (sort_of v ≡ 5 → ⊥) → (sort_of v ≡ 7 → ⊥) → (sort_of v ≡ 8 → ⊥) → Comes t v
+plain : (t v : Tree) → (sort_number (sort_of v) ≡ 5 → ⊥) → (sort_number (sort_of v) ≡ 7 → ⊥) → (sort_number (sort_of v) ≡ 8 → ⊥) → Comes t v
 plain t v a b c = record { from_str = λ z. absurd (a z); from_case = λ z. absurd (b z); from_accent = λ z. absurd (c z) }
 
-plain_other : (t v : Tree) → sort_of v ≡ 9 → Comes t v
+plain_other : (t v : Tree) → sort_number (sort_of v) ≡ 9 → Comes t v
 plain_other t v h = plain t v (λ z. omega arith) (λ z. omega arith) (λ z. omega arith)
 
-dyadic_sort : (o : Op) (t u : Tree) → sort_of (dyadic o t u) ≡ 9
+dyadic_sort : (o : Op) (t u : Tree) → sort_number (sort_of (dyadic o t u)) ≡ 9
 unfolding sort_of
 dyadic_sort o t u = refl
 
@@ -118,23 +122,23 @@ plain_null : (t : Tree) → Comes t null
 unfolding sort_of
 plain_null t = plain t null (λ z. omega arith) (λ z. omega arith) (λ z. omega arith)
 
-one_comes : (o : Op) (t w : Tree) {c : Turn} → TurnOf (op_number o) (sort_of w) c → Comes t w → Comes (monadic o t) (turned c o w)
+one_comes : (o : Op) (t w : Tree) {c : Turn} → TurnOf (op_number o) (sort_number (sort_of w)) c → Comes t w → Comes (monadic o t) (turned c o w)
 unfolding turned
 one_comes o t w keeps h = let k = kept_sort_lem o w in record { from_str = λ z. absurd (k.no_str z); from_case = λ z. ap suc (k.case z); from_accent = λ z. ap suc (k.accent z) }
 one_comes o t w nulls h = plain_null (monadic o t)
 one_comes o t w (bools b) h = plain (monadic o t) (bool b) (bool_sort b 5 (omega arith)) (bool_sort b 7 (omega arith)) (bool_sort b 8 (omega arith))
 one_comes o t w (case_stays n a) h = record { from_str = λ z. absurd (let v : ⊥ = omega arith in v); from_case = λ z. ap suc n; from_accent = λ z. absurd (let v : ⊥ = omega arith in v) }
 one_comes o t w (accent_stays n a) h = record { from_str = λ z. absurd (let v : ⊥ = omega arith in v); from_case = λ z. absurd (let v : ⊥ = omega arith in v); from_accent = λ z. ap suc n }
-one_comes o t w (negates a) h = let k = minus_sort w in plain (monadic o t) (minus w) (λ z. omega arith) (λ z. omega arith) (λ z. omega arith)
+one_comes o t w (negates a) h = let k = ap sort_number (minus_sort w) in plain (monadic o t) (minus w) (λ z. omega arith) (λ z. omega arith) (λ z. omega arith)
 one_comes o t w (case_joins n a) h =
-    let k = flagged_sort and_case w in
+    let k = ap sort_number (flagged_sort and_case w) in
     record {
       from_str = λ z. let p = h.from_str a in (p.0, and_case p.1, case_chain o t p.0 p.1 n p.2);
       from_case = λ z. absurd (let v : ⊥ = omega arith in v);
       from_accent = λ z. absurd (let v : ⊥ = omega arith in v);
     }
 one_comes o t w (accent_joins n a) h =
-    let k = flagged_sort and_accent w in
+    let k = ap sort_number (flagged_sort and_accent w) in
     record {
       from_str = λ z. let p = h.from_str a in (p.0, and_accent p.1, accent_chain o t p.0 p.1 n p.2);
       from_case = λ z. absurd (let v : ⊥ = omega arith in v);
@@ -165,7 +169,7 @@ comes (monadic o t) v e =
 comes (dyadic o t s) v e =
     let p = also_got (reduced t) (λ a. also (reduced s) (λ b. two_reduced o a b)) v e in
     let q = also_got (reduced s) (λ b. two_reduced o p.0 b) v p.2 in
-    two_comes o t s p.0 q.0 v (meet o (sort_of p.0) (sort_of q.0) (key_of p.0) (key_of q.0)) q.2
+    two_comes o t s p.0 q.0 v (meet o (sort_of p.0) (sort_of q.0)) q.2
 comes (function n ts) v e =
     let p = also_got (reduceds ts) (λ us. got (function n us)) v e in
     subst (λ (x : Tree). Comes (function n ts) x) (same_tree p.2) (plain (function n ts) (function n p.0) (λ z. omega arith) (λ z. omega arith) (λ z. omega arith))
@@ -199,7 +203,7 @@ no_twin o t k e a b q h = go (eqb (op_number o) 16) (eqb (op_number o) 17) refl 
     go false true f g i j = false≢true (sym j ∙ i)
     go false false f g i j = let m = eqb-false (op_number o) 16 f in let n = eqb-false (op_number o) 17 g in omega arith
 
-pub other_written : (o : Op) (t v : Tree) {c : Turn} → way_of o t ≡ Other → reduced t ≡ got v → TurnOf (op_number o) (sort_of v) c → written c ≡ true
+pub other_written : (o : Op) (t v : Tree) {c : Turn} → way_of o t ≡ Other → reduced t ≡ got v → TurnOf (op_number o) (sort_number (sort_of v)) c → written c ≡ true
 other_written o t v w e keeps = refl
 other_written o t v w e nulls = refl
 other_written o t v w e (bools b) = refl

@@ -4,9 +4,7 @@ pub mod Rules
 pub mod Reduced
 pub mod Reducing
 -- Laws.
-pub mod RuleWords
 pub mod WalkWords
-pub mod RuleLaws
 pub mod ReducedLaws
 pub mod PlaceLaws
 pub mod SelfLaws

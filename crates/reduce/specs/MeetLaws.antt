@@ -1,6 +1,6 @@
 -- Laws of specs/Rules.antt, as cases that another crate can name: And and Or stay unless both operands are Null or Bool; any other operator without a
 -- Null stays, or is one of the five between two instants: document 02, slip 8.
-use Rattle.std.specs.Prelude.{◌≡◌, refl, [], ◌∷◌, Bool, true, false, ◌⊎◌, eqb}
+use Rattle.std.specs.Prelude.{◌≡◌, refl, [], ◌∷◌, Bool, true, false, ◌⊎◌}
 use Rattle.std.proofs.Common.{inl, inr}
 use Rattle.prelude.specs.Choice.{pick, both, some}
 use Rattle.refusal.specs.declared.Refusal.TheVariants.{ConstantOperands}
@@ -11,8 +11,9 @@ use Rattle.tree.specs.Tree.{Tree, bool, dyadic}
 use Rattle.tree.specs.Parse.{got}
 use Rattle.tree.specs.ParseLaws.{not_got}
 use Rattle.reduce.specs.declared.Meet.TheVariants.{Keeps, MeetBool, Clash}
-use Rattle.reduce.specs.Sort.{sort_of, key_of, null_sort, instant_sort}
-use Rattle.reduce.specs.Rules.{is_logic, is_constant, meet_and, meet_or, happens, meet_other, meet}
+use Rattle.reduce.specs.declared.Sort.TheVariants as sort
+use Rattle.reduce.specs.Sort.{same_sort, is_logic, is_constant, sort_of, key_of}
+use Rattle.reduce.specs.Rules.{meet_and, meet_or, happens, meet_other, meet}
 use Rattle.reduce.specs.Reduced.{met, two_reduced}
 use Rattle.reduce.specs.ReducedLaws.{same_tree}
 
@@ -28,19 +29,19 @@ module _ (a b u : Tree) (p : both (is_logic (sort_of a)) (is_logic (sort_of b)) 
 -- two instants under one of the five, and what it says of them
 pub record Instants (o : Op) (a b u : Tree) : Type 0 where
   pub five : is_instant_or_interval o ≡ true
-  pub left : eqb (sort_of a) instant_sort ≡ true
-  pub right : eqb (sort_of b) instant_sort ≡ true
+  pub left : same_sort (sort_of a) (sort.Instant 0) ≡ true
+  pub right : same_sort (sort_of b) (sort.Instant 0) ≡ true
   pub is : bool (happens o (key_of a) (key_of b)) ≡ u
 
-pub others_meet : (o : Op) (a b u : Tree) → one_of o (And ∷ []) ≡ false → one_of o (Or ∷ []) ≡ false → eqb (sort_of a) null_sort ≡ false → eqb (sort_of b) null_sort ≡ false
+pub others_meet : (o : Op) (a b u : Tree) → one_of o (And ∷ []) ≡ false → one_of o (Or ∷ []) ≡ false → same_sort (sort_of a) sort.Null ≡ false → same_sort (sort_of b) sort.Null ≡ false
     → two_reduced o a b ≡ got u → (dyadic o a b ≡ u) ⊎ Instants o a b u
 unfolding two_reduced meet meet_other met
 others_meet o a b u e f p q h =
-    let g : met (pick (both (is_constant (sort_of a)) (is_constant (sort_of b))) (pick (both (is_instant_or_interval o) (both (eqb (sort_of a) instant_sort) (eqb (sort_of b) instant_sort))) (MeetBool (happens o (key_of a) (key_of b))) Clash) Keeps) o a b ≡ got u
+    let g : met (pick (both (is_constant (sort_of a)) (is_constant (sort_of b))) (pick (both (is_instant_or_interval o) (both (same_sort (sort_of a) (sort.Instant 0)) (same_sort (sort_of b) (sort.Instant 0)))) (MeetBool (happens o (key_of a) (key_of b))) Clash) Keeps) o a b ≡ got u
     = rw (e, f, p, q) at h in
-    go (both (is_constant (sort_of a)) (is_constant (sort_of b))) (is_instant_or_interval o) (eqb (sort_of a) instant_sort) (eqb (sort_of b) instant_sort) refl refl refl g
+    go (both (is_constant (sort_of a)) (is_constant (sort_of b))) (is_instant_or_interval o) (same_sort (sort_of a) (sort.Instant 0)) (same_sort (sort_of b) (sort.Instant 0)) refl refl refl g
   where
-    go : (c i x y : Bool) → is_instant_or_interval o ≡ i → eqb (sort_of a) instant_sort ≡ x → eqb (sort_of b) instant_sort ≡ y
+    go : (c i x y : Bool) → is_instant_or_interval o ≡ i → same_sort (sort_of a) (sort.Instant 0) ≡ x → same_sort (sort_of b) (sort.Instant 0) ≡ y
         → met (pick c (pick (both i (both x y)) (MeetBool (happens o (key_of a) (key_of b))) Clash) Keeps) o a b ≡ got u → (dyadic o a b ≡ u) ⊎ Instants o a b u
     go true true true true i x y g = inr (record { five = i; left = x; right = y; is = same_tree g })
     go true true true false i x y g = not_got ConstantOperands u g

@@ -21,7 +21,7 @@ use Rattle.reduce.specs.declared.Turn.{Turn}
 use Rattle.reduce.specs.declared.Turn.TheVariants.{Keep, ToNull, ToBool, Stay, Negate, NoCase, NoAccent}
 use Rattle.reduce.specs.declared.Meet.{Meet}
 use Rattle.reduce.specs.declared.Meet.TheVariants.{Keeps, MeetNull, MeetBool, Clash}
-use Rattle.reduce.specs.Sort.{sort_of, key_of}
+use Rattle.reduce.specs.Sort.{sort_of}
 use Rattle.reduce.specs.Rules.{turn, meet}
 use Rattle.reduce.specs.Reduced.{minus, flagged, and_case, and_accent, turned, met, one_reduced, two_reduced, reduced, reduceds}
 use Rattle.reduce.specs.ReducedLaws.{same_tree, minus_keeps, flagged_keeps, reduced_good, reduced_short}
@@ -114,7 +114,7 @@ mutual
       let l = both_true (inner t) (inner s) k.1 in
       let x = reduced_stands t p.0 l.0 p.1 in
       let y = reduced_stands s q.0 l.1 q.1 in
-      met_stands (meet o (sort_of p.0) (sort_of q.0) (key_of p.0) (key_of q.0)) o t s p.0 q.0 u
+      met_stands (meet o (sort_of p.0) (sort_of q.0)) o t s p.0 q.0 u
       (operands_kept o t s p.0 q.0 k.0 x y) x.in_place_lem y.in_place_lem q.2
   reduced_stands (function r ts) u i e =
       let p = also_got (reduceds ts) (λ us. got (function r us)) u e in

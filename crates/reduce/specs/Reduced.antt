@@ -8,7 +8,7 @@ use Rattle.reduce.specs.declared.Turn.{Turn}
 use Rattle.reduce.specs.declared.Turn.TheVariants.{Keep, ToNull, ToBool, Stay, Negate, NoCase, NoAccent}
 use Rattle.reduce.specs.declared.Meet.{Meet}
 use Rattle.reduce.specs.declared.Meet.TheVariants.{Keeps, MeetNull, MeetBool, Clash}
-use Rattle.reduce.specs.Sort.{sort_of, key_of}
+use Rattle.reduce.specs.Sort.{sort_of}
 use Rattle.reduce.specs.Rules.{turn, meet}
 
 -- Minus of a Num: the scale stays, a zero stays 0
@@ -70,7 +70,7 @@ unfoldable pub one_reduced : Op → Tree → Tree
 one_reduced o v = turned (turn o (sort_of v)) o v
 
 unfoldable pub two_reduced : Op → Tree → Tree → Read Tree
-two_reduced o a b = met (meet o (sort_of a) (sort_of b) (key_of a) (key_of b)) o a b
+two_reduced o a b = met (meet o (sort_of a) (sort_of b)) o a b
 
 unfoldable mutual
   pub reduced : Tree → Read Tree

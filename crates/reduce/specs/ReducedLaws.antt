@@ -15,7 +15,7 @@ use Rattle.reduce.specs.declared.Turn.{Turn}
 use Rattle.reduce.specs.declared.Turn.TheVariants.{Keep, ToNull, ToBool, Stay, Negate, NoCase, NoAccent}
 use Rattle.reduce.specs.declared.Meet.{Meet}
 use Rattle.reduce.specs.declared.Meet.TheVariants.{Keeps, MeetNull, MeetBool, Clash}
-use Rattle.reduce.specs.Sort.{sort_of, key_of}
+use Rattle.reduce.specs.Sort.{sort_of}
 use Rattle.reduce.specs.Rules.{turn, meet}
 use Rattle.reduce.specs.Reduced.{minus, flagged, and_case, and_accent, turned, met, one_reduced, two_reduced, reduced, reduceds}
 
@@ -132,7 +132,7 @@ mutual
   reduced_good (dyadic o t s) u n g e =
       let p = also_got (reduced t) (λ a. also (reduced s) (λ b. two_reduced o a b)) u e in
       let q = also_got (reduced s) (λ b. two_reduced o p.0 b) u p.2 in
-      met_good (meet o (sort_of p.0) (sort_of q.0) (key_of p.0) (key_of q.0)) o p.0 q.0 u n g.0 g.1 (reduced_good t p.0 (n - 1) g.2 p.1) (reduced_good s q.0 (n - 1) g.3 q.1) q.2
+      met_good (meet o (sort_of p.0) (sort_of q.0)) o p.0 q.0 u n g.0 g.1 (reduced_good t p.0 (n - 1) g.2 p.1) (reduced_good s q.0 (n - 1) g.3 q.1) q.2
   reduced_good (function r ts) u n g e =
       let p = also_got (reduceds ts) (λ us. got (function r us)) u e in
       subst (λ (x : Tree). Good x n) (same_tree p.2) (g.0, g.1, reduceds_good ts p.0 (n - 1) g.2 p.1)
@@ -254,7 +254,7 @@ mutual
   reduced_short (dyadic o t s) u e =
       let p = also_got (reduced t) (λ a. also (reduced s) (λ b. two_reduced o a b)) u e in
       let q = also_got (reduced s) (λ b. two_reduced o p.0 b) u p.2 in
-      omega (arith, met_size (meet o (sort_of p.0) (sort_of q.0) (key_of p.0) (key_of q.0)) o p.0 q.0 u q.2, reduced_short t p.0 p.1, reduced_short s q.0 q.1, dyadic_size o t s)
+      omega (arith, met_size (meet o (sort_of p.0) (sort_of q.0)) o p.0 q.0 u q.2, reduced_short t p.0 p.1, reduced_short s q.0 q.1, dyadic_size o t s)
   reduced_short (function r ts) u e =
       let p = also_got (reduceds ts) (λ us. got (function r us)) u e in
       omega (arith, ap (λ (x : Tree). length (encode x)) (same_tree p.2), function_size r ts, function_size r p.0, reduceds_short ts p.0 p.1)

@@ -19,7 +19,7 @@ use Rattle.tree.specs.RefusalLaws.{of_tree, gives, also-gives, later, tree_gives
 use Rattle.tree.specs.Written.{said}
 use Rattle.reduce.specs.declared.Meet.{Meet}
 use Rattle.reduce.specs.declared.Meet.TheVariants.{Keeps, MeetNull, MeetBool, Clash}
-use Rattle.reduce.specs.Sort.{sort_of, key_of}
+use Rattle.reduce.specs.Sort.{sort_of}
 use Rattle.reduce.specs.Rules.{meet}
 use Rattle.reduce.specs.Reduced.{met, one_reduced, two_reduced, reduced, reduceds}
 use Rattle.reduce.specs.Reducing.{fitted, reducing, answer, heard}
@@ -63,7 +63,7 @@ module _ (rs : List Refusal) (e : is_of rs ConstantOperands ≡ true) where
     reduced_gives (monadic o t) = also-gives rs (reduced t) (λ v. got (one_reduced o v)) (reduced_gives t) (λ v. refl)
     reduced_gives (dyadic o t u) =
         also-gives rs (reduced t) (λ a. also (reduced u) (λ b. two_reduced o a b)) (reduced_gives t) (λ a.
-        also-gives rs (reduced u) (λ b. two_reduced o a b) (reduced_gives u) (λ b. met-gives (meet o (sort_of a) (sort_of b) (key_of a) (key_of b)) o a b))
+        also-gives rs (reduced u) (λ b. two_reduced o a b) (reduced_gives u) (λ b. met-gives (meet o (sort_of a) (sort_of b)) o a b))
     reduced_gives (function n ts) = also-gives rs (reduceds ts) (λ us. got (function n us)) (reduceds_gives ts) (λ us. refl)
     reduced_gives (array ts) = also-gives rs (reduceds ts) (λ us. got (array us)) (reduceds_gives ts) (λ us. refl)
     reduced_gives (interval t u) =

@@ -9,35 +9,33 @@ use Rattle.reduce.specs.declared.Turn.{Turn}
 use Rattle.reduce.specs.declared.Turn.TheVariants.{Keep, ToNull, ToBool, Stay, Negate, NoCase, NoAccent}
 use Rattle.reduce.specs.declared.Meet.{Meet}
 use Rattle.reduce.specs.declared.Meet.TheVariants.{Keeps, MeetNull, MeetBool, Clash}
-use Rattle.reduce.specs.Sort.{null_sort, false_sort, true_sort, instant_sort, num_sort, str_sort, case_sort, accent_sort}
-
-abbrev pub is_logic : ℕ → Bool
-is_logic a = ltb a 3
-
-abbrev pub is_constant : ℕ → Bool
-is_constant a = ltb a 7
+use Rattle.reduce.specs.declared.Sort.{Sort}
+use Rattle.reduce.specs.declared.Sort.TheVariants as sort
+use Rattle.reduce.specs.Sort.{same_sort, is_logic, is_constant, place_of}
 
 -- Monadic, its operand being of the sort a.
-unfoldable pub turn : Op → ℕ → Turn
+unfoldable pub turn : Op → Sort → Turn
 turn o a =
-    pick (one_of o (Minus ∷ [])) (pick (eqb a null_sort) ToNull (pick (eqb a num_sort) Negate Keep))
-    (pick (one_of o (Neg ∷ [])) (pick (eqb a null_sort) ToNull (pick (is_logic a) (ToBool (eqb a false_sort)) Keep))
-    (pick (one_of o (IsNull ∷ [])) (pick (eqb a null_sort) (ToBool true) Keep)
-    (pick (one_of o (IsNotNull ∷ [])) (pick (eqb a null_sort) (ToBool false) Keep)
-    (pick (one_of o (CaseI ∷ [])) (pick (eqb a str_sort) NoCase (pick (eqb a case_sort) Stay Keep))
-    (pick (one_of o (AccentI ∷ [])) (pick (eqb a str_sort) NoAccent (pick (eqb a accent_sort) Stay Keep)) Keep)))))
+    pick (one_of o (Minus ∷ [])) (pick (same_sort a sort.Null) ToNull (pick (same_sort a sort.Num) Negate Keep))
+    (pick (one_of o (Neg ∷ [])) (pick (same_sort a sort.Null) ToNull (pick (is_logic a) (ToBool (same_sort a (sort.Bool false))) Keep))
+    (pick (one_of o (IsNull ∷ [])) (pick (same_sort a sort.Null) (ToBool true) Keep)
+    (pick (one_of o (IsNotNull ∷ [])) (pick (same_sort a sort.Null) (ToBool false) Keep)
+    (pick (one_of o (CaseI ∷ [])) (pick (same_sort a sort.Str) NoCase (pick (same_sort a sort.CaseI) Stay Keep))
+    (pick (one_of o (AccentI ∷ [])) (pick (same_sort a sort.Str) NoAccent (pick (same_sort a sort.AccentI) Stay Keep)) Keep)))))
 
 -- And: false if one is false, true if both are true, else Null; if both are Bool or Null
-unfoldable pub meet_and : ℕ → ℕ → Meet
+unfoldable pub meet_and : Sort → Sort → Meet
 meet_and a b =
     pick (both (is_logic a) (is_logic b))
-    (pick (either (eqb a false_sort) (eqb b false_sort)) (MeetBool false) (pick (both (eqb a true_sort) (eqb b true_sort)) (MeetBool true) MeetNull))
+    (pick (either (same_sort a (sort.Bool false)) (same_sort b (sort.Bool false))) (MeetBool false)
+    (pick (both (same_sort a (sort.Bool true)) (same_sort b (sort.Bool true))) (MeetBool true) MeetNull))
     Keeps
 
-unfoldable pub meet_or : ℕ → ℕ → Meet
+unfoldable pub meet_or : Sort → Sort → Meet
 meet_or a b =
     pick (both (is_logic a) (is_logic b))
-    (pick (either (eqb a true_sort) (eqb b true_sort)) (MeetBool true) (pick (both (eqb a false_sort) (eqb b false_sort)) (MeetBool false) MeetNull))
+    (pick (either (same_sort a (sort.Bool true)) (same_sort b (sort.Bool true))) (MeetBool true)
+    (pick (both (same_sort a (sort.Bool false)) (same_sort b (sort.Bool false))) (MeetBool false) MeetNull))
     Keeps
 
 -- the five of `instant_or_interval` between instants, by their places in time
@@ -47,15 +45,15 @@ happens o x y =
     (pick (one_of o (TBefore ∷ [])) (ltb x y)
     (pick (one_of o (TDisjoint ∷ [])) (negated (eqb x y)) (eqb x y)))
 
--- any other operator: of sorts a and b, and of places x and y in time if these are instants
-unfoldable pub meet_other : Op → ℕ → ℕ → ℕ → ℕ → Meet
-meet_other o a b x y =
-    pick (either (eqb a null_sort) (eqb b null_sort)) MeetNull
+-- any other operator: of sorts a and b
+unfoldable pub meet_other : Op → Sort → Sort → Meet
+meet_other o a b =
+    pick (either (same_sort a sort.Null) (same_sort b sort.Null)) MeetNull
     (pick (both (is_constant a) (is_constant b))
-    (pick (both (is_instant_or_interval o) (both (eqb a instant_sort) (eqb b instant_sort))) (MeetBool (happens o x y)) Clash)
+    (pick (both (is_instant_or_interval o) (both (same_sort a (sort.Instant 0)) (same_sort b (sort.Instant 0)))) (MeetBool (happens o (place_of a) (place_of b))) Clash)
     Keeps)
 
-unfoldable pub meet : Op → ℕ → ℕ → ℕ → ℕ → Meet
-meet o a b x y =
+unfoldable pub meet : Op → Sort → Sort → Meet
+meet o a b =
     pick (one_of o (And ∷ [])) (meet_and a b)
-    (pick (one_of o (Or ∷ [])) (meet_or a b) (meet_other o a b x y))
+    (pick (one_of o (Or ∷ [])) (meet_or a b) (meet_other o a b))

@@ -10,7 +10,7 @@ use Rattle.reduce.specs.declared.Turn.{Turn}
 use Rattle.reduce.specs.declared.Turn.TheVariants.{Keep, ToNull, ToBool, Stay, Negate, NoCase, NoAccent}
 use Rattle.reduce.specs.declared.Meet.{Meet}
 use Rattle.reduce.specs.declared.Meet.TheVariants.{Keeps, MeetNull, MeetBool, Clash}
-use Rattle.reduce.specs.Sort.{sort_of, key_of}
+use Rattle.reduce.specs.Sort.{sort_of}
 use Rattle.reduce.specs.Rules.{turn, meet}
 use Rattle.reduce.specs.Reduced.{and_case, and_accent, turned, met, one_reduced, two_reduced, reduced, reduceds}
 use Rattle.reduce.specs.ReducedLaws.{same_tree, minus_keeps, flagged_keeps}
@@ -29,7 +29,7 @@ one_again Negate o v k e = minus_keeps Stays (λ m s h. refl) v e
 one_again NoCase o v k e = flagged_keeps Stays and_case (λ f s h. refl) v e
 one_again NoAccent o v k e = flagged_keeps Stays and_accent (λ f s h. refl) v e
 
-two_again : (c : Meet) (o : Op) (a b u : Tree) → meet o (sort_of a) (sort_of b) (key_of a) (key_of b) ≡ c → Stays a → Stays b → met c o a b ≡ got u → Stays u
+two_again : (c : Meet) (o : Op) (a b u : Tree) → meet o (sort_of a) (sort_of b) ≡ c → Stays a → Stays b → met c o a b ≡ got u → Stays u
 unfolding met reduced also two_reduced
 two_again Keeps o a b u k e f q = subst Stays (same_tree q) (rw (e, f, k) refl)
 two_again MeetNull o a b u k e f q = subst Stays (same_tree q) refl
@@ -56,7 +56,7 @@ mutual
   reduced_again (dyadic o t s) u e =
       let p = also_got (reduced t) (λ a. also (reduced s) (λ b. two_reduced o a b)) u e in
       let q = also_got (reduced s) (λ b. two_reduced o p.0 b) u p.2 in
-      two_again (meet o (sort_of p.0) (sort_of q.0) (key_of p.0) (key_of q.0)) o p.0 q.0 u refl (reduced_again t p.0 p.1) (reduced_again s q.0 q.1) q.2
+      two_again (meet o (sort_of p.0) (sort_of q.0)) o p.0 q.0 u refl (reduced_again t p.0 p.1) (reduced_again s q.0 q.1) q.2
   reduced_again (function r ts) u e =
       let p = also_got (reduceds ts) (λ us. got (function r us)) u e in
       subst Stays (same_tree p.2) (let z = reduceds_again ts p.0 p.1 in rw z refl)

@@ -1,76 +1,86 @@
--- What a reduced operand is to the node above it: its sort, by number, and the place in time of an instant: document 02, slip 8; `as_literal` of
+-- What a reduced operand is to the node above it: its sort, with a Bool's value and an instant's place in time: document 02, slip 8; `as_literal` of
 -- src/expr.rs.
-use Rattle.std.specs.Prelude.{ℕ, ◌+◌, ◌*◌, [], ◌∷◌}
+use Rattle.std.specs.Prelude.{ℕ, ◌+◌, ◌*◌, [], ◌∷◌, Bool, eqb, ltb}
 use Rattle.prelude.specs.Choice.{pick}
 use Rattle.op.specs.declared.Op.TheVariants.{CaseI, AccentI}
 use Rattle.op.specs.Op.{one_of}
 use Rattle.tree.specs.Tree.{Tree, null, unbounded, bool, num, str, date, timestamp, spatial, id, monadic, dyadic, function, array, interval}
+use Rattle.reduce.specs.declared.Sort.{Sort}
+use Rattle.reduce.specs.declared.Sort.TheVariants as sort
 
--- Sorts of trees, by number. Those below 7 are what `as_literal` accepts.
-abbrev pub null_sort : ℕ
-null_sort = 0
+-- Sorts, as another crate can name them.
+abbrev pub null_sort : Sort
+null_sort = sort.Null
 
-abbrev pub false_sort : ℕ
-false_sort = 1
+abbrev pub instant_sort : Sort
+instant_sort = sort.Instant 0
 
-abbrev pub true_sort : ℕ
-true_sort = 2
+abbrev pub case_sort : Sort
+case_sort = sort.CaseI
 
--- Date, Timestamp, Unbounded
-abbrev pub instant_sort : ℕ
-instant_sort = 3
+abbrev pub accent_sort : Sort
+accent_sort = sort.AccentI
 
-abbrev pub num_sort : ℕ
-num_sort = 4
+abbrev pub other_sort : Sort
+other_sort = sort.Other
 
-abbrev pub str_sort : ℕ
-str_sort = 5
+-- by number, false before true
+abbrev pub sort_number : Sort → ℕ
+sort_number sort.Null = 0
+sort_number (sort.Bool b) = pick b 2 1
+sort_number (sort.Instant n) = 3
+sort_number sort.Num = 4
+sort_number sort.Str = 5
+sort_number sort.Spatial = 6
+sort_number sort.CaseI = 7
+sort_number sort.AccentI = 8
+sort_number sort.Other = 9
 
-abbrev pub spatial_sort : ℕ
-spatial_sort = 6
+-- instants are of one sort, wherever they lie
+abbrev pub same_sort : Sort → Sort → Bool
+same_sort a b = eqb (sort_number a) (sort_number b)
 
--- Monadic CaseI, Monadic AccentI
-abbrev pub case_sort : ℕ
-case_sort = 7
+-- Null and Bools
+abbrev pub is_logic : Sort → Bool
+is_logic a = ltb (sort_number a) 3
 
-abbrev pub accent_sort : ℕ
-accent_sort = 8
+-- what `as_literal` accepts
+abbrev pub is_constant : Sort → Bool
+is_constant a = ltb (sort_number a) 7
 
-abbrev pub other_sort : ℕ
-other_sort = 9
+-- the place of an instant in time
+abbrev pub place_of : Sort → ℕ
+place_of sort.Null = 0
+place_of (sort.Bool b) = 0
+place_of (sort.Instant n) = n
+place_of sort.Num = 0
+place_of sort.Str = 0
+place_of sort.Spatial = 0
+place_of sort.CaseI = 0
+place_of sort.AccentI = 0
+place_of sort.Other = 0
 
-unfoldable pub sort_of : Tree → ℕ
-sort_of null = null_sort
-sort_of unbounded = instant_sort
-sort_of (bool b) = pick b true_sort false_sort
-sort_of (num m s) = num_sort
-sort_of (str f s) = str_sort
-sort_of (date y m d) = instant_sort
-sort_of (timestamp y m d h i s) = instant_sort
-sort_of (spatial n s) = spatial_sort
-sort_of (id s) = other_sort
-sort_of (monadic o t) = pick (one_of o (CaseI ∷ [])) case_sort (pick (one_of o (AccentI ∷ [])) accent_sort other_sort)
-sort_of (dyadic o t u) = other_sort
-sort_of (function n ts) = other_sort
-sort_of (array ts) = other_sort
-sort_of (interval t u) = other_sort
-
--- The place of an instant in time: a Date is midnight, Unbounded lies below every instant and equals itself.
+-- the place of a date and a time of day
 abbrev pub key : ℕ → ℕ → ℕ → ℕ → ℕ → ℕ → ℕ
 key y m d h i s = ((((y * 100 + m) * 100 + d) * 100 + h) * 100 + i) * 100 + s
 
-unfoldable pub key_of : Tree → ℕ
-key_of null = 0
-key_of unbounded = 0
-key_of (bool b) = 0
-key_of (num m s) = 0
-key_of (str f s) = 0
-key_of (date y m d) = key y m d 0 0 0
-key_of (timestamp y m d h i s) = key y m d h i s
-key_of (spatial n s) = 0
-key_of (id s) = 0
-key_of (monadic o t) = 0
-key_of (dyadic o t u) = 0
-key_of (function n ts) = 0
-key_of (array ts) = 0
-key_of (interval t u) = 0
+-- a Date is midnight, Unbounded lies below every instant and equals itself
+unfoldable pub sort_of : Tree → Sort
+sort_of null = sort.Null
+sort_of unbounded = sort.Instant 0
+sort_of (bool b) = sort.Bool b
+sort_of (num m s) = sort.Num
+sort_of (str f s) = sort.Str
+sort_of (date y m d) = sort.Instant (key y m d 0 0 0)
+sort_of (timestamp y m d h i s) = sort.Instant (key y m d h i s)
+sort_of (spatial n s) = sort.Spatial
+sort_of (id s) = sort.Other
+sort_of (monadic o t) = pick (one_of o (CaseI ∷ [])) sort.CaseI (pick (one_of o (AccentI ∷ [])) sort.AccentI sort.Other)
+sort_of (dyadic o t u) = sort.Other
+sort_of (function n ts) = sort.Other
+sort_of (array ts) = sort.Other
+sort_of (interval t u) = sort.Other
+
+-- the place of a tree in time, if it is an instant
+abbrev pub key_of : Tree → ℕ
+key_of t = place_of (sort_of t)

@@ -1,9 +1,8 @@
 -- The contracts of the walk (src/walk.rt, src/chains.rt, src/leaves.rt, src/records.rt): what is written of a record into the room, and what is known of
 -- it then.
-use Rattle.std.specs.Prelude.{ℕ, Result, suc, ◌+◌, ◌*◌, ◌≤◌, ◌≡◌, List, [], ◌∷◌, ◌++◌, Bool, true, false, eqb, length, take, get_or}
+use Rattle.std.specs.Prelude.{ℕ, Result, Ok, Err, suc, ◌+◌, ◌*◌, ◌≤◌, ◌≡◌, List, [], ◌∷◌, ◌++◌, Bool, true, false, eqb, length, take, get_or}
 use Rattle.prelude.specs.Choice.{pick, both}
 use Rattle.refusal.specs.declared.Refusal.{Refusal}
-use Rattle.refusal.specs.declared.Refusal.TheVariants.{ConstantOperands}
 use Rattle.record.specs.Record.{le, le16}
 use Rattle.op.specs.declared.Op.{Op}
 use Rattle.op.specs.declared.Op.TheVariants.{CaseI, AccentI}
@@ -17,9 +16,9 @@ use Rattle.reduce.specs.declared.Turn.{Turn}
 use Rattle.reduce.specs.declared.Turn.TheVariants.{Keep, ToNull, ToBool, Stay, Negate, NoCase, NoAccent}
 use Rattle.reduce.specs.declared.Chain.{Chain}
 use Rattle.reduce.specs.declared.Chain.TheVariants.{Text, Twin, Other}
-use Rattle.reduce.specs.declared.Folded.{Folded}
-use Rattle.reduce.specs.declared.Folded.TheVariants.{Fails, Done}
-use Rattle.reduce.specs.Sort.{case_sort, accent_sort, other_sort, sort_of, key_of}
+use Rattle.reduce.specs.declared.Sort.{Sort}
+use Rattle.reduce.specs.declared.Operand.{Operand}
+use Rattle.reduce.specs.Sort.{sort_of}
 use Rattle.reduce.specs.Reduced.{and_case, and_accent, reduced}
 use Rattle.reduce.specs.Reducing.{answer}
 
@@ -32,7 +31,12 @@ pub record Recorded (s : List ℕ) : Type 0 where
   pub whole : s ≡ encode tree
   pub good : Good tree levels
 
--- and has room from `at` on
+-- that of a Monadic or Dyadic has an operator
+pub record Operated (s : List ℕ) : Type 0 where
+  pub op : Op
+  pub is : le16 s 6 ≡ op_number op
+
+-- a record that has room from `at` on
 pub record Placed (s : List ℕ) (at : ℕ) (room : List ℕ) : Type 0 where
   pub of : Recorded s
   pub fits : at + length s ≤ length room
@@ -46,27 +50,34 @@ frame_of k n = le 4 (n + 2) ++ le 2 k
 abbrev pub head_of : ℕ → ℕ → ℕ → List ℕ
 head_of k o n = le 4 (suc (suc n) + 2) ++ (le 2 k ++ le 2 o)
 
+-- the record of a Num whose mantissa is these eight bytes
+abbrev pub num_of : ℕ → ℕ → List ℕ
+num_of n s = 11 ∷ 0 ∷ 0 ∷ 0 ∷ 3 ∷ 0 ∷ (le 8 n ++ (s ∷ []))
+
 -- The room: a step at `at` leaves what stands before `at`, and behind it the bytes x; of what comes after nothing is said.
 pub record Holds (at : ℕ) (x entry exit : List ℕ) : Type 0 where
   pub kept : length exit ≡ length entry
   pub fits : at + length x ≤ length entry
   pub front : take (at + length x) exit ≡ take at entry ++ x
 
+abbrev pub operand : ℕ → Sort → Operand
+operand e k = record { end = e; sort = k }
+
 -- what is known of the reduced tree u that stands at `at`
-unfoldable pub done_at : ℕ → Tree → Folded
-done_at at u = Done (at + length (encode u)) (sort_of u) (key_of u)
+unfoldable pub done_at : ℕ → Tree → Operand
+done_at at u = operand (at + length (encode u)) (sort_of u)
 
 -- u was written at `at`
-pub record Writes (at : ℕ) (u : Tree) (entry exit : List ℕ) (r : Folded) : Type 0 where
+pub record Writes (at : ℕ) (u : Tree) (entry exit : List ℕ) (r : Operand) : Type 0 where
   pub answers : r ≡ done_at at u
   pub holds : Holds at (encode u) entry exit
 
--- What became of a tree: 14, or u, which was written at `at`.
-pub data Meets (at : ℕ) (x : Read Tree) (entry exit : List ℕ) (r : Folded) : Type 0 where
-  fails : x ≡ refused ConstantOperands → r ≡ Fails → length exit ≡ length entry → Meets at x entry exit r
-  done : (u : Tree) → x ≡ got u → Writes at u entry exit r → Meets at x entry exit r
+-- What became of a tree: a refusal, or u, which was written at `at`.
+pub data Meets (at : ℕ) (x : Read Tree) (entry exit : List ℕ) (r : Result Operand Refusal) : Type 0 where
+  fails : (n : Refusal) → x ≡ refused n → r ≡ Err n → length exit ≡ length entry → Meets at x entry exit r
+  done : (u : Tree) (d : Operand) → x ≡ got u → r ≡ Ok d → Writes at u entry exit d → Meets at x entry exit r
 
-abbrev pub Folds : ℕ → Tree → List ℕ → List ℕ → Folded → Type 0
+abbrev pub Folds : ℕ → Tree → List ℕ → List ℕ → Result Operand Refusal → Type 0
 Folds at t entry exit r = Meets at (reduced t) entry exit r
 
 -- Nodes.
@@ -80,32 +91,6 @@ pub record Kept (at end : ℕ) (v : Tree) (entry exit : List ℕ) : Type 0 where
 pub record Pair (at end : ℕ) (a b : Tree) (entry exit : List ℕ) : Type 0 where
   pub stops : end ≡ at + 8 + length (encode a) + length (encode b)
   pub holds : Holds (at + 8) (encode a ++ encode b) entry exit
-
--- what is known before the second operand of a Dyadic, which stands at m, is reduced and written at `from`
-pub record Second (s : List ℕ) (m at from : ℕ) (room : List ℕ) : Type 0 where
-  pub op : Op
-  pub first : Tree
-  pub second : Tree
-  pub levels : ℕ
-  pub whole : s ≡ encode (dyadic op first second)
-  pub good : Good second levels
-  pub middle : m ≡ 8 + length (encode first)
-  pub low : at + 14 ≤ from
-  pub fits : from + length (encode second) ≤ length room
-  pub small : length room ≤ tree_limit
-
--- and what the first operand became
-pub record First (m sort key at from : ℕ) (t a : Tree) (entry exit : List ℕ) : Type 0 where
-  pub middle : m ≡ 8 + length (encode t)
-  pub becomes : reduced t ≡ got a
-  pub sorted : sort ≡ sort_of a
-  pub placed : key ≡ key_of a
-  pub stops : from ≡ at + 8 + length (encode a)
-  pub holds : Holds (at + 8) (encode a) entry exit
-
--- the sort of a Monadic that is kept, by its operator's number
-unfoldable pub kept_sort : ℕ → ℕ
-kept_sort n = pick (eqb n 16) case_sort (pick (eqb n 17) accent_sort other_sort)
 
 -- the rules that are written where the operand stands; the others are seen before it is written
 abbrev pub written : Turn → Bool
@@ -173,6 +158,10 @@ way_of o t = pick (twin o t) Twin (chain_of (monadic o t))
 unfoldable pub day_key : List ℕ → ℕ
 day_key s = (le16 s 6 * 100 + get_or s 8 0) * 100 + get_or s 9 0
 
+-- that of a timestamp
+unfoldable pub second_key : List ℕ → ℕ
+second_key s = ((day_key s * 100 + get_or s 10 0) * 100 + get_or s 11 0) * 100 + get_or s 12 0
+
 -- Lists.
 
 -- s is the records of some trees, and has room from `at` on
@@ -184,10 +173,10 @@ pub record Row (s : List ℕ) (at : ℕ) (room : List ℕ) : Type 0 where
   pub fits : at + length s ≤ length room
   pub small : length room ≤ tree_limit
 
--- what became of them
-pub data Lists (at : ℕ) (x : Read Trees) (entry exit : List ℕ) (r : Folded) : Type 0 where
-  stops : x ≡ refused ConstantOperands → r ≡ Fails → length exit ≡ length entry → Lists at x entry exit r
-  lists : (us : Trees) → x ≡ got us → r ≡ Done (at + length (encodes us)) other_sort 0 → Holds at (encodes us) entry exit → Lists at x entry exit r
+-- what became of them: a refusal, or the place after them
+pub data Lists (at : ℕ) (x : Read Trees) (entry exit : List ℕ) (r : Result ℕ Refusal) : Type 0 where
+  stops : (n : Refusal) → x ≡ refused n → r ≡ Err n → length exit ≡ length entry → Lists at x entry exit r
+  lists : (us : Trees) → x ≡ got us → r ≡ Ok (at + length (encodes us)) → Holds at (encodes us) entry exit → Lists at x entry exit r
 
 -- what stands before the items of a Function, Array or Interval
 abbrev pub name_of : Tree → List ℕ

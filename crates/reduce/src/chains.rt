@@ -1,33 +1,44 @@
 // What stands below a Monadic, seen before anything is written, so that no text is moved: CaseI and AccentI of a Str, and of themselves.
-ghost use Rattle.std.specs.Prelude.{◌≡◌};
+ghost use Rattle.std.specs.Prelude.{◌≡◌, [], ◌∷◌};
+ghost use Rattle.record.specs.Record.{le16};
 ghost use Rattle.op.specs.declared.Op.{Op};
+ghost use Rattle.op.specs.declared.Op.TheVariants.{CaseI, AccentI};
+ghost use Rattle.op.specs.Op.{one_of, op_number};
 ghost use Rattle.tree.specs.Tree.{Tree, encode, monadic};
-ghost use Rattle.reduce.specs.WalkWords.{Recorded, chain_of, joined, twin, way_of};
+ghost use Rattle.reduce.specs.WalkWords.{Operated, Recorded, chain_of, joined, twin, way_of};
 ghost use Rattle.reduce.specs.Reduced.{and_accent, and_case};
 
 use crate::Chain;
 use crate::records::OPERAND;
-use op::{ACCENT_I, CASE_I};
+use op::Op;
 use record::{BODY, KIND};
 use tree::{MONADIC, STR};
 
-fn with_case(c: Chain) -> Chain
-    ensures { result ≡ joined and_case c }
+// The operator of a Monadic or Dyadic.
+pub(crate) fn op_at(s: &[u8]) -> Op
+    requires { Operated s.now }
+    ensures { (o : Op) → le16 s.now 6 ≡ op_number o → result ≡ o }
 {
-    match c {
-        Chain::Text(n, flags) => Chain::Text(n, flags / 2 * 2 + 1),
-        Chain::Twin => Chain::Other,
-        Chain::Other => Chain::Other,
-    }
+    op::op_of(record::word_at(s, BODY)).unwrap()
 }
 
-fn with_accent(c: Chain) -> Chain
-    ensures { result ≡ joined and_accent c }
+// A chain below one more CaseI or AccentI.
+fn joined(c: Chain, op: Op) -> Chain
+    ensures case { op ≡ CaseI → result ≡ joined and_case c }
+    ensures accent { op ≡ AccentI → result ≡ joined and_accent c }
 {
     match c {
-        Chain::Text(n, flags) => Chain::Text(n, 2 + flags % 2),
-        Chain::Twin => Chain::Other,
-        Chain::Other => Chain::Other,
+        Chain::Text { len, flags } => match op {
+            Op::CaseI => Chain::Text {
+                len,
+                flags: flags / 2 * 2 + 1,
+            },
+            _ => Chain::Text {
+                len,
+                flags: 2 + flags % 2,
+            },
+        },
+        Chain::Twin | Chain::Other => Chain::Other,
     }
 }
 
@@ -38,45 +49,50 @@ fn text_below(s: &[u8]) -> Chain
 {
     let kind = record::word_at(s, KIND);
     if kind == STR {
-        return Chain::Text(s.len(), record::byte_at(s, BODY));
+        let flags = record::byte_at(s, BODY);
+        return Chain::Text {
+            len: s.len(),
+            flags,
+        };
     }
     if kind != MONADIC {
         return Chain::Other;
     }
-    let op = record::word_at(s, BODY);
-    if op == CASE_I {
-        return with_case(text_below(&s[OPERAND..]));
+    match op_at(s) {
+        Op::CaseI => joined(text_below(&s[OPERAND..]), Op::CaseI),
+        Op::AccentI => joined(text_below(&s[OPERAND..]), Op::AccentI),
+        _ => Chain::Other,
     }
-    if op == ACCENT_I {
-        return with_accent(text_below(&s[OPERAND..]));
-    }
-    Chain::Other
+}
+
+// Those of which a second one changes nothing.
+#[tactic(auto, using(op::specs::OpLaws::one_of_lem, op::specs::OpLaws::none_of_lem))]
+fn folds(op: Op) -> bool
+    ensures { result ≡ one_of op (CaseI ∷ AccentI ∷ []) }
+{
+    matches!(op, Op::CaseI | Op::AccentI)
 }
 
 // CaseI of CaseI, or AccentI of AccentI.
 fn is_twin(s: &[u8]) -> bool
+    requires { Operated s.now }
     ensures { (o : Op) (t : Tree) → s.now ≡ encode (monadic o t) → result ≡ twin o t }
 {
-    let op = record::word_at(s, BODY);
-    if op < CASE_I {
+    if !folds(op_at(s)) {
         return false;
     }
-    if ACCENT_I < op {
-        return false;
-    }
-    if record::word_at(s, OPERAND + KIND) != MONADIC {
-        return false;
-    }
-    record::word_at(s, OPERAND + BODY) == op
+    record::word_at(s, OPERAND + KIND) == MONADIC
+        && record::word_at(s, OPERAND + BODY) == record::word_at(s, BODY)
 }
 
 // How a Monadic is to be reduced.
 pub(crate) fn chain(s: &[u8]) -> Chain
-    requires { Recorded s.now }
+    requires { Recorded s.now × (le16 s.now 4 ≡ 9) }
     ensures { (o : Op) (t : Tree) → s.now ≡ encode (monadic o t) → result ≡ way_of o t }
 {
     if is_twin(s) {
-        return Chain::Twin;
+        Chain::Twin
+    } else {
+        text_below(s)
     }
-    text_below(s)
 }

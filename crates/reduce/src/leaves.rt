@@ -3,14 +3,12 @@ ghost use Rattle.std.specs.Prelude.{◌≡◌, ℕ, ◌<◌};
 ghost use Rattle.record.specs.Record.{le16};
 ghost use Rattle.tree.specs.Tree.{Tree, encode};
 ghost use Rattle.tree.specs.GoodWords.{Good};
-ghost use Rattle.reduce.specs.Sort.{key_of, sort_of};
-ghost use Rattle.reduce.specs.WalkWords.{day_key};
+ghost use Rattle.reduce.specs.Sort.{sort_of};
+ghost use Rattle.reduce.specs.WalkWords.{day_key, second_key};
 
-use crate::sorts::{
-    FALSE_SORT, INSTANT_SORT, NULL_SORT, NUM_SORT, OTHER_SORT, SPATIAL_SORT, STR_SORT,
-};
+use crate::Sort;
 use record::BODY;
-use tree::{BOOL, DATE, ID, NULL, NUM, SPATIAL, STR, TIMESTAMP};
+use tree::{BOOL, DATE, NULL, NUM, SPATIAL, STR, TIMESTAMP, UNBOUNDED};
 
 // Where the fields of a Date and of a Timestamp stand behind the year.
 const MONTH: usize = 8;
@@ -26,24 +24,6 @@ const SECOND: usize = 12;
 // The time of day that a Date stands for: hour, minute and second, two digits each.
 const MIDNIGHT: usize = 0;
 
-// Its sort.
-pub(crate) fn leaf_sort(s: &[u8], kind: usize) -> usize
-    ensures { (t : Tree) → s.now ≡ encode t → kind ≡ le16 s.now 4 → kind < 9 → result ≡ sort_of t }
-{
-    if kind == BOOL {
-        // 0 or 1
-        return FALSE_SORT + record::byte_at(s, BODY);
-    }
-    match kind {
-        NULL => NULL_SORT,
-        NUM => NUM_SORT,
-        STR => STR_SORT,
-        SPATIAL => SPATIAL_SORT,
-        ID => OTHER_SORT,
-        _ => INSTANT_SORT,
-    }
-}
-
 // The place of its date in time.
 fn day_key(s: &[u8]) -> usize
     ensures { (result ≡ day_key s.now) × (result < 656000000) }
@@ -52,17 +32,28 @@ fn day_key(s: &[u8]) -> usize
     month * 100 + record::byte_at(s, DAY)
 }
 
-// Its place in time, if it is an instant.
-pub(crate) fn leaf_key(s: &[u8], kind: usize) -> usize
-    ensures { (t : Tree) (n : ℕ) → s.now ≡ encode t → Good t n → kind ≡ le16 s.now 4 → kind < 9 → result ≡ key_of t }
+// The place of its date and time of day in time.
+fn second_key(s: &[u8]) -> usize
+    ensures { result ≡ second_key s.now }
 {
-    if kind == DATE {
-        return day_key(s) * 1000000 + MIDNIGHT;
+    let hour = day_key(s) * 100 + record::byte_at(s, HOUR);
+    let minute = hour * 100 + record::byte_at(s, MINUTE);
+    minute * 100 + record::byte_at(s, SECOND)
+}
+
+// Its sort.
+pub(crate) fn leaf_sort(s: &[u8], kind: usize) -> Sort
+    ensures { (t : Tree) (n : ℕ) → s.now ≡ encode t → Good t n → kind ≡ le16 s.now 4 → kind < 9 → result ≡ sort_of t }
+{
+    match kind {
+        NULL => Sort::Null,
+        UNBOUNDED => Sort::Instant(0),
+        BOOL => Sort::Bool(record::byte_at(s, BODY) == 1),
+        NUM => Sort::Num,
+        STR => Sort::Str,
+        DATE => Sort::Instant(day_key(s) * 1000000 + MIDNIGHT),
+        TIMESTAMP => Sort::Instant(second_key(s)),
+        SPATIAL => Sort::Spatial,
+        _ => Sort::Other,
     }
-    if kind == TIMESTAMP {
-        let hour = day_key(s) * 100 + record::byte_at(s, HOUR);
-        let minute = hour * 100 + record::byte_at(s, MINUTE);
-        return minute * 100 + record::byte_at(s, SECOND);
-    }
-    0
 }

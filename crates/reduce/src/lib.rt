@@ -7,6 +7,7 @@ ghost use Rattle.tree.specs.GoodWords.{Good};
 ghost use Rattle.tree.specs.Tree.{Tree, encode};
 ghost use Rattle.tree.specs.Parse.{also};
 ghost use Rattle.tree.specs.Written.{leaves, said};
+ghost use Rattle.reduce.specs.Sort.{is_constant, is_logic};
 ghost use Rattle.reduce.specs.Reduced.{reduced};
 ghost use Rattle.reduce.specs.Reducing.{answer, fitted, heard, reducing};
 ghost use Rattle.reduce.specs.WalkWords.{Answers, Placed, Recorded};
@@ -19,11 +20,49 @@ mod chains;
 mod leaves;
 mod records;
 mod rules;
-mod sorts;
 mod walk;
 
 // As long as most filters are.
 const SMALL: usize = 1024;
+
+// What a reduced operand is to the node above it.
+#[derive(Clone, Copy)]
+enum Sort {
+    Null,
+    Bool(bool),
+    // Date, Timestamp, Unbounded, at its place in time
+    Instant(usize),
+    Num,
+    Str,
+    Spatial,
+    // Monadic CaseI, Monadic AccentI
+    CaseI,
+    AccentI,
+    Other,
+}
+
+impl Sort {
+    // What And and Or join.
+    fn is_logic(self) -> bool
+        ensures { result ≡ is_logic self }
+    {
+        matches!(self, Sort::Null | Sort::Bool(_))
+    }
+
+    // What `as_literal` accepts.
+    fn is_constant(self) -> bool
+        ensures { result ≡ is_constant self }
+    {
+        !matches!(self, Sort::CaseI | Sort::AccentI | Sort::Other)
+    }
+}
+
+// A reduced tree in the room: where it ends, and what it is to the node above it.
+#[derive(Clone, Copy)]
+struct Operand {
+    end: usize,
+    sort: Sort,
+}
 
 // What a Monadic becomes, its operand being reduced.
 #[derive(Clone, Copy)]
@@ -50,18 +89,11 @@ enum Meet {
     Clash,
 }
 
-// What a record became: 14, or where what was written of it ends, its sort, and its place in time.
-#[derive(Clone, Copy)]
-enum Folded {
-    Fails,
-    Done(usize, usize, usize),
-}
-
 // What stands below a Monadic, looked at before anything is written.
 #[derive(Clone, Copy)]
 enum Chain {
     // Only CaseI and AccentI down to a Str, whose record has so many bytes; and its flags, joined with theirs.
-    Text(usize, usize),
+    Text { len: usize, flags: usize },
     // The same CaseI or AccentI again.
     Twin,
     Other,
@@ -72,16 +104,12 @@ fn reduce_in(tree: &[u8], room: &mut [u8], out: &mut [u8]) -> Result<usize, Refu
     requires { Placed tree.now 0 room.old }
     ensures { (t : Tree) (n : ℕ) → tree.now ≡ encode t → Good t n → Answers (also (reduced t) (λ u. fitted (length out.old) (encode u))) out.old out.new result }
 {
-    match fold(tree, room, 0) {
-        Folded::Fails => Err(Refusal::ConstantOperands),
-        Folded::Done(end, _, _) => {
-            if out.len() < end {
-                return Err(Refusal::BufferTooShort);
-            }
-            emit::put(&room[0..end], out, 0);
-            Ok(end)
-        }
+    let end = fold(tree, room, 0)?.end;
+    if out.len() < end {
+        return Err(Refusal::BufferTooShort);
     }
+    emit::put(&room[..end], out, 0);
+    Ok(end)
 }
 
 // Reduces an accepted tree. A room has to be filled with something before it is used, so most filters get a small one.

@@ -20,7 +20,7 @@ use Rattle.truth.specs.declared.Truth.TheVariants.{True, False, Unknown, Missing
 use Rattle.truth.specs.Grammar as grammar
 use Rattle.time.specs.Filter.{time_filter, is_operand, is_end}
 use Rattle.time.specs.FilterTruth.{tree_atom, end_atom, end_on, holds, cond_truth, temporal_truth, truth_on}
-use Rattle.reduce.specs.Sort.{sort_of, key_of}
+use Rattle.reduce.specs.Sort.{sort_of}
 use Rattle.reduce.specs.Rules.{happens, meet_other, meet}
 use Rattle.reduce.specs.Reduced.{met, two_reduced, reduced}
 use Rattle.reduced_time.specs.Hypotheses.{lacks, without_null, of_one_width, besides, no_lone}
@@ -44,7 +44,7 @@ abbrev pub lone_null : Tree
 lone_null = dyadic TBefore null (interval (date 2020 1 1) a)
 
 pub lone_null_lem : (w : Writing) → Case w nulled lone_null null False Unknown × (holds nulled lone_null ≡ true) × (of_one_width lone_null ≡ true) × (without_null lone_null ≡ false)
-unfolding reduced also two_reduced meet meet_other met sort_of key_of happens is_instant_or_interval is_temporal some time_filter is_operand is_end by_operator truth_on temporal_truth cond_truth tree_atom end_atom end_on grammar.value translate t_before t_equals check_id is_id is_interval ends_of start_of stop_of first second look order literal.date literal.timestamp literal.clock literal.low literal.open_end grammar.holds holds everywhere lacks of_one_width besides no_lone
+unfolding reduced also two_reduced meet meet_other met sort_of happens is_instant_or_interval is_temporal some time_filter is_operand is_end by_operator truth_on temporal_truth cond_truth tree_atom end_atom end_on grammar.value translate t_before t_equals check_id is_id is_interval ends_of start_of stop_of first second look order literal.date literal.timestamp literal.clock literal.low literal.open_end grammar.holds holds everywhere lacks of_one_width besides no_lone
 lone_null_lem w = (record { filter = refl; reduces = refl; was = refl; is = refl }, refl, refl, refl)
 
 -- All dates or all timestamps. A Date and the Timestamp of its midnight: the same instant, but other strings.
@@ -52,7 +52,7 @@ abbrev pub mixed : Tree
 mixed = dyadic TEquals (date 2020 1 1) (timestamp 2020 1 1 0 0 0)
 
 pub mixed_widths : (w : Writing) → Case w [] mixed (bool true) False True × (holds [] mixed ≡ true) × (without_null mixed ≡ true) × (of_one_width mixed ≡ false)
-unfolding reduced also two_reduced meet meet_other met sort_of key_of happens is_instant_or_interval is_temporal some time_filter is_operand is_end by_operator truth_on temporal_truth cond_truth tree_atom end_atom end_on grammar.value translate t_before t_equals check_id is_id is_interval ends_of start_of stop_of first second look order literal.date literal.timestamp literal.clock literal.low literal.open_end grammar.holds holds everywhere lacks of_one_width besides no_lone
+unfolding reduced also two_reduced meet meet_other met sort_of happens is_instant_or_interval is_temporal some time_filter is_operand is_end by_operator truth_on temporal_truth cond_truth tree_atom end_atom end_on grammar.value translate t_before t_equals check_id is_id is_interval ends_of start_of stop_of first second look order literal.date literal.timestamp literal.clock literal.low literal.open_end grammar.holds holds everywhere lacks of_one_width besides no_lone
 mixed_widths w = (record { filter = refl; reduces = refl; was = refl; is = refl }, refl, refl, refl)
 
 -- Idle: a lone Unbounded. It lies below the earliest date, and the text says so, too.
@@ -60,7 +60,7 @@ abbrev pub lone_unbounded : Tree
 lone_unbounded = dyadic TBefore unbounded (date 1 1 1)
 
 pub lone_unbounded_lem : (w : Writing) → Case w [] lone_unbounded (bool true) True True
-unfolding reduced also two_reduced meet meet_other met sort_of key_of happens is_instant_or_interval is_temporal some time_filter is_operand is_end by_operator truth_on temporal_truth cond_truth tree_atom end_atom end_on grammar.value translate t_before t_equals check_id is_id is_interval ends_of start_of stop_of first second look order literal.date literal.timestamp literal.clock literal.low literal.open_end grammar.holds holds everywhere lacks of_one_width besides no_lone
+unfolding reduced also two_reduced meet meet_other met sort_of happens is_instant_or_interval is_temporal some time_filter is_operand is_end by_operator truth_on temporal_truth cond_truth tree_atom end_atom end_on grammar.value translate t_before t_equals check_id is_id is_interval ends_of start_of stop_of first second look order literal.date literal.timestamp literal.clock literal.low literal.open_end grammar.holds holds everywhere lacks of_one_width besides no_lone
 lone_unbounded_lem w = record { filter = refl; reduces = refl; was = refl; is = refl }
 
 -- Idle: the row's columns. Where one is missing it is missing after reducing.
@@ -68,7 +68,7 @@ abbrev pub lacking : Tree
 lacking = dyadic TBefore a (date 2020 1 1)
 
 pub missing_column : (w : Writing) → Case w [] lacking lacking Missing Missing × (holds [] lacking ≡ false)
-unfolding reduced also two_reduced meet meet_other met sort_of key_of happens is_instant_or_interval is_temporal some time_filter is_operand is_end by_operator truth_on temporal_truth cond_truth tree_atom end_atom end_on grammar.value translate t_before t_equals check_id is_id is_interval ends_of start_of stop_of first second look order literal.date literal.timestamp literal.clock literal.low literal.open_end grammar.holds holds everywhere lacks of_one_width besides no_lone
+unfolding reduced also two_reduced meet meet_other met sort_of happens is_instant_or_interval is_temporal some time_filter is_operand is_end by_operator truth_on temporal_truth cond_truth tree_atom end_atom end_on grammar.value translate t_before t_equals check_id is_id is_interval ends_of start_of stop_of first second look order literal.date literal.timestamp literal.clock literal.low literal.open_end grammar.holds holds everywhere lacks of_one_width besides no_lone
 missing_column w = (record { filter = refl; reduces = refl; was = refl; is = refl }, refl)
 
 -- With Null it would not be idle: a column is dropped with it.
@@ -76,5 +76,5 @@ abbrev pub dropped : Tree
 dropped = dyadic TEquals null a
 
 pub dropped_column : (w : Writing) → Case w [] dropped null Missing Unknown × (holds [] dropped ≡ false)
-unfolding reduced also two_reduced meet meet_other met sort_of key_of happens is_instant_or_interval is_temporal some time_filter is_operand is_end by_operator truth_on temporal_truth cond_truth tree_atom end_atom end_on grammar.value translate t_before t_equals check_id is_id is_interval ends_of start_of stop_of first second look order literal.date literal.timestamp literal.clock literal.low literal.open_end grammar.holds holds everywhere lacks of_one_width besides no_lone
+unfolding reduced also two_reduced meet meet_other met sort_of happens is_instant_or_interval is_temporal some time_filter is_operand is_end by_operator truth_on temporal_truth cond_truth tree_atom end_atom end_on grammar.value translate t_before t_equals check_id is_id is_interval ends_of start_of stop_of first second look order literal.date literal.timestamp literal.clock literal.low literal.open_end grammar.holds holds everywhere lacks of_one_width besides no_lone
 dropped_column w = (record { filter = refl; reduces = refl; was = refl; is = refl }, refl)

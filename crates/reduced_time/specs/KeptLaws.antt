@@ -36,8 +36,8 @@ use Rattle.time.specs.Ogc.{ten}
 use Rattle.time.specs.InstantLaws.{date-instant}
 use Rattle.time.specs.OperatorLaws.{done, ◌also◌, among}
 use Rattle.time.proofs.ConverseLaws.{predicate_truth}
-use Rattle.reduce.specs.Sort.{sort_of, key_of, key, null_sort, instant_sort, case_sort, accent_sort, other_sort}
-use Rattle.reduce.specs.Rules.{turn, meet, meet_and, meet_or, happens, is_logic}
+use Rattle.reduce.specs.Sort.{same_sort, is_logic, sort_of, key_of, key, null_sort, instant_sort, case_sort, accent_sort, other_sort}
+use Rattle.reduce.specs.Rules.{turn, meet, meet_and, meet_or, happens}
 use Rattle.reduce.specs.Reduced.{turned, met, one_reduced, two_reduced, reduced}
 use Rattle.reduce.specs.ReducedLaws.{same_tree}
 use Rattle.reduce.specs.MeetLaws.{and_stays, or_stays, Instants, others_meet}
@@ -94,7 +94,7 @@ operand_is t e = go (is_interval t) refl e
 
 -- ---- What is compared stays as it is.
 
-comparable-same : {t : Tree} → ComparableIs t → (reduced t ≡ got t) × (eqb (sort_of t) null_sort ≡ false)
+comparable-same : {t : Tree} → ComparableIs t → (reduced t ≡ got t) × (same_sort (sort_of t) null_sort ≡ false)
 unfolding reduced sort_of
 comparable-same (comparable_str f s e) = (refl, refl)
 comparable-same (comparable-date y m d) = (refl, refl)
@@ -114,7 +114,7 @@ unfolding reduced parse.also
 operand_same (end_operand p) = end_same p
 operand_same (interval_operand p q) = let x = end_same p in let y = end_same q in rw (x, y) refl
 
-operand_sort : {t : Tree} → OperandIs t → is_not NULL t ≡ true → eqb (sort_of t) null_sort ≡ false
+operand_sort : {t : Tree} → OperandIs t → is_not NULL t ≡ true → same_sort (sort_of t) null_sort ≡ false
 unfolding sort_of
 operand_sort (end_operand null_end) e = absurd (false≢true e)
 operand_sort (end_operand open_end_lem) e = refl
@@ -144,7 +144,7 @@ are_timestamps : (dates : Bool) → negated (eqb TIMESTAMP (unwritten dates)) �
 are_timestamps true e = absurd (false≢true e)
 are_timestamps false e = refl
 
-written_is : (dates : Bool) (n : ℕ) {t : Tree} → OperandIs t → eqb (sort_of t) instant_sort ≡ true → Good t n → lacks (unwritten dates) t ≡ true → Written dates t
+written_is : (dates : Bool) (n : ℕ) {t : Tree} → OperandIs t → same_sort (sort_of t) instant_sort ≡ true → Good t n → lacks (unwritten dates) t ≡ true → Written dates t
 unfolding sort_of Good lacks everywhere
 written_is dates n (end_operand null_end) e g f = absurd (false≢true e)
 written_is dates n (end_operand open_end_lem) e g f = unbound
@@ -164,7 +164,7 @@ module _ (w : Writing) (cs : List Column) (dates : Bool) where
   -- their strings compare as their places in time
   compared-key : (sign : Kind) {t u : Tree} → Written dates t → Written dates u
       → compared sign (end_on w cs (slot_at t u 0) t) (end_on w cs (slot_at t u 2) u) ≡ truth_of (grammar.holds sign (by_key (key_of t) (key_of u)))
-  unfolding end_on end_atom tree_atom value key_of is_interval
+  unfolding end_on end_atom tree_atom value sort_of is_interval
   compared-key sign unbound unbound = ap (λ (i : Ordering). truth_of (grammar.holds sign i)) (opens_by_key w)
   compared-key sign unbound (day y m d p e) =
       ap (λ (i : Ordering). truth_of (grammar.holds sign i)) (open_by_key w ten _ (key y m d 0 0 0) (date-instant y m d e) (key_positive y m d 0 0 0 e))

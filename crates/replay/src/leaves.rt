@@ -1,17 +1,16 @@
 // Records of the leaf kinds, each with the text that the Rust itself wrote. A case: the record, the text.
 // A case is right if the crate `literal` writes that text into a buffer that just holds it, changes no byte beside it,
 // and changes nothing where the buffer is one byte short.
-use crate::cases::{Turn, all_are};
-use crate::lines::say;
+use input::Part;
 use instant::{Clock, Date};
 use literal::Writing;
 use record::{BODY, KIND, byte_at, dword_at, word_at};
+use replay_cases::{Case, Kind, Tally};
 use settings::{AI, CI, PLAIN};
 use std::io;
 use tree::{BOOL, DATE, NULL, NUM, SPATIAL, STR, TIMESTAMP, UNBOUNDED};
 
-// What is counted of a case that is right.
-const RIGHT: u8 = 1;
+pub(crate) struct Leaves;
 
 // What every byte of a buffer is before a text is written.
 const BLANK: u8 = 238;
@@ -21,7 +20,7 @@ const START: usize = 3;
 
 // The bytes from i on, none past the end.
 fn from(s: &[u8], i: usize) -> &[u8] {
-    if i <= s.len() { &s[i..] } else { &s[0..0] }
+    s.get(i..).unwrap_or(&[])
 }
 
 // A Str is its text in quotes, apostrophes doubled, and then the collation that its flags ask for.
@@ -71,65 +70,43 @@ fn write_leaf(kind: usize, body: &[u8], out: &mut [u8]) -> usize {
     }
 }
 
+fn are_blank(s: &[u8]) -> bool {
+    s.iter().all(|&b| b == BLANK)
+}
+
 // Into a part of the buffer that just holds the text.
-fn fits(kind: usize, body: &[u8], text: &[u8], out: &mut [u8]) -> bool {
+fn fits(kind: usize, body: &[u8], text: &[u8]) -> bool {
+    let mut out = [BLANK; 1024];
     let end = START + text.len();
-    if out.len() < end {
-        return false;
-    }
-    if write_leaf(kind, body, &mut out[0..end]) != end {
-        return false;
-    }
-    if out.len() < end {
-        return false;
-    }
-    if &out[START..end] == text {
-        if all_are(&out[0..START], BLANK) {
-            return all_are(&out[end..], BLANK);
-        }
-    }
-    false
+    end <= out.len()
+        && write_leaf(kind, body, &mut out[..end]) == end
+        && &out[START..end] == text
+        && are_blank(&out[..START])
+        && are_blank(&out[end..])
 }
 
 // Into a part of the buffer that is one byte short: the text is counted, and nothing is written (of a Str with a collation its quoted text may be).
-fn falls_short(kind: usize, body: &[u8], text: &[u8], out: &mut [u8]) -> bool {
+fn falls_short(kind: usize, body: &[u8], text: &[u8]) -> bool {
+    let mut out = [BLANK; 1024];
     let short = START - 1 + text.len();
-    if out.len() < short {
-        return false;
-    }
-    if write_leaf(kind, body, &mut out[0..short]) != START + text.len() {
-        return false;
-    }
-    if kind == STR {
-        if byte_at(body, 0) != PLAIN {
-            return true;
-        }
-    }
-    all_are(out, BLANK)
+    short <= out.len()
+        && write_leaf(kind, body, &mut out[..short]) == START + text.len()
+        && (kind == STR && byte_at(body, 0) != PLAIN || are_blank(&out))
 }
 
-// RIGHT for a leaf that is written as it should be, else 0.
-fn score(record: &[u8], text: &[u8]) -> u8 {
-    let kind = word_at(record, KIND);
-    let body = from(record, BODY);
-    let mut room = [BLANK; 1024];
-    let mut short = [BLANK; 1024];
-    if fits(kind, body, text, &mut room) {
-        if falls_short(kind, body, text, &mut short) {
-            return RIGHT;
-        }
+impl Kind<2> for Leaves {
+    fn judged(&self, _place: u64, parts: &[Part; 2]) -> Option<Case> {
+        let record = parts[0].bytes();
+        let text = parts[1].bytes();
+        let kind = word_at(record, KIND);
+        let body = from(record, BODY);
+        crate::of_right(fits(kind, body, text) && falls_short(kind, body, text))
     }
-    0
-}
 
-pub(crate) fn judged(record: &[u8], text: &[u8]) -> Turn {
-    Turn::Case {
-        want: RIGHT,
-        found: score(record, text),
+    fn report<P: Print>(&self, rt: &P, name: &str, tally: &Tally) -> io::Result<()> {
+        println!(rt;
+            "{name}: {} leaves right of {}",
+            tally.counts[1], tally.done
+        )
     }
-}
-
-pub(crate) fn report(rt: &impl Print, done: u64, counts: [u64; 16]) -> io::Result<()> {
-    say(rt, b"", counts[1])?;
-    say(rt, b" leaves right of ", done)
 }

@@ -1,29 +1,28 @@
 // The reader's answers. A case: the text, the row, the answer, which is a byte: 0 false, 1 true, 2 unknown, or a refusal's number.
-use crate::cases::{Turn, of_byte};
-use crate::lines::say;
+use input::Part;
+use replay_cases::{Case, Kind, Tally};
 use std::io;
-use truth::Reading;
 
-fn code(r: Reading) -> u8 {
-    match r {
-        Reading::False => 0,
-        Reading::True => 1,
-        Reading::Unknown => 2,
-        Reading::Refused(x) => u8::from(x),
+pub(crate) struct Readings;
+
+impl Kind<3> for Readings {
+    fn judged(&self, _place: u64, parts: &[Part; 3]) -> Option<Case> {
+        let [text, row, answer] = parts;
+        let found = match truth::read(text.bytes(), row.bytes()) {
+            Ok(Some(false)) => 0,
+            Ok(Some(true)) => 1,
+            Ok(None) => 2,
+            Err(r) => u8::from(r),
+        };
+        crate::of_byte(answer.bytes(), found)
     }
-}
 
-pub(crate) fn judged<'a>(text: &'a [u8], row: &'a [u8], answer: &'a [u8]) -> Turn {
-    of_byte(answer, code(truth::read(text, row)))
-}
-
-pub(crate) fn report(rt: &impl Print, done: u64, counts: [u64; 16]) -> io::Result<()> {
-    say(rt, b"cases ", done)?;
-    say(rt, b", right: true ", counts[1])?;
-    say(rt, b", false ", counts[0])?;
-    say(rt, b", unknown ", counts[2])?;
-    say(rt, b", refused 10 ", counts[10])?;
-    say(rt, b", 11 ", counts[11])?;
-    say(rt, b", 12 ", counts[12])?;
-    say(rt, b", 13 ", counts[13])
+    fn report<P: Print>(&self, rt: &P, name: &str, tally: &Tally) -> io::Result<()> {
+        let [no, yes, unknown, ..] = tally.counts;
+        let [.., r10, r11, r12, r13, _, _] = tally.counts;
+        println!(rt;
+            "{name}: cases {}, right: true {yes}, false {no}, unknown {unknown}, refused 10 {r10}, 11 {r11}, 12 {r12}, 13 {r13}",
+            tally.done
+        )
+    }
 }

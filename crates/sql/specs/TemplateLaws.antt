@@ -6,23 +6,38 @@ use Rattle.prelude.specs.Choice.{pick, both, between}
 use Rattle.prelude.specs.Bytes.{bytes}
 use Rattle.prelude.specs.Table.{both_left, both_right}
 use Rattle.sql.specs.Condition.{Cond, Sign, test, is_not_null, not_null, and, or, not, brackets, lt, gt, eq, ne, print, print_sign, check_id, check_ids}
-use Rattle.sql.specs.Template.{fill, digit_of, template_of, parts, part_of, spelt}
+use Rattle.sql.specs.Template.{fill, digit_of, template_of, place, part_of, spelt}
+use Rattle.sql.specs.declared.Part.{Part}
+use Rattle.sql.specs.declared.Part.TheVariants as parts
 use Rattle.sql.specs.Translators.{Translator, t_after, t_before, t_contains, t_disjoint, t_during, t_equals, t_finished_by, t_finishes, t_intersects, t_meets, t_met_by, t_overlapped_by, t_overlaps, t_started_by, t_starts, translate}
 
--- codes one after the other
-pub spelt-append : (a b : List ℕ) → spelt (a ++ b) ≡ spelt a ++ spelt b
+-- parts one after the other
+pub spelt-append : (a b : List Part) → spelt (a ++ b) ≡ spelt a ++ spelt b
 unfolding spelt
 spelt-append [] b = refl
 spelt-append (x ∷ a) b = ap (λ (l : List ℕ). part_of x ++ l) (spelt-append a b) ∙ sym (append_assoc (part_of x) (spelt a) (spelt b))
 
--- an end's code is its digit
-pub digit-part : (i : ℕ) → i < 4 → part_of i ≡ (48 + i) ∷ []
-unfolding part_of parts
-digit-part zero h = refl
-digit-part (suc zero) h = refl
-digit-part (suc (suc zero)) h = refl
-digit-part (suc (suc (suc zero))) h = refl
-digit-part (suc (suc (suc (suc i)))) h = absurd (let v : ⊥ = omega arith in v)
+-- an end's part is its digit
+pub digit-part : (p : Part) → place p < 4 → part_of p ≡ (48 + place p) ∷ []
+unfolding part_of
+digit-part parts.E0 h = refl
+digit-part parts.E1 h = refl
+digit-part parts.E2 h = refl
+digit-part parts.E3 h = refl
+digit-part parts.Open h = absurd (let v : ⊥ = omega arith in v)
+digit-part parts.Close h = absurd (let v : ⊥ = omega arith in v)
+digit-part parts.CloseBoth h = absurd (let v : ⊥ = omega arith in v)
+digit-part parts.Greater h = absurd (let v : ⊥ = omega arith in v)
+digit-part parts.Less h = absurd (let v : ⊥ = omega arith in v)
+digit-part parts.Equal h = absurd (let v : ⊥ = omega arith in v)
+digit-part parts.Unequal h = absurd (let v : ⊥ = omega arith in v)
+digit-part parts.Quote h = absurd (let v : ⊥ = omega arith in v)
+digit-part parts.IsNotNull h = absurd (let v : ⊥ = omega arith in v)
+digit-part parts.IsNotNullQuote h = absurd (let v : ⊥ = omega arith in v)
+digit-part parts.NotNull h = absurd (let v : ⊥ = omega arith in v)
+digit-part parts.Or h = absurd (let v : ⊥ = omega arith in v)
+digit-part parts.And h = absurd (let v : ⊥ = omega arith in v)
+digit-part parts.Not h = absurd (let v : ⊥ = omega arith in v)
 
 pub fill-append : (slot : ℕ → List ℕ) (a b : List ℕ) → fill slot (a ++ b) ≡ fill slot a ++ fill slot b
 unfolding fill

@@ -1,324 +1,320 @@
 // The conditions of the temporal operators over their four ends (src/ds/sql.rs and the fifteen `t_…_sql` of src/ds/gpkg.rs).
 #![tactic(auto)]
 
-ghost use Rattle.std.specs.Prelude.{◌≡◌, ◌++◌, ◌+◌, ◌≤◌, ◌<◌, length};
+ghost use Rattle.std.specs.Prelude.{◌≡◌, ◌++◌, ◌+◌, ◌≤◌, ℕ, Bool, length};
+ghost use Rattle.op.specs.Op.{op_number};
 ghost use Rattle.operand.specs.Ends.{columns};
-ghost use Rattle.sql.specs.Template.{held, spelt, template_of, guarded_text, guarded_both_text, check_id_text, check_ids_text, either_text};
+ghost use Rattle.sql.specs.Template.{held, spelt, part_of, place, template_of, guarded_text, guarded_both_text, check_id_text, check_ids_text, both_text, neither_text, either_text};
 ghost use Rattle.sql.specs.Translators.{t_after, t_before, t_contains, t_disjoint, t_during, t_equals, t_finished_by, t_finishes, t_intersects, t_meets, t_met_by, t_overlapped_by, t_overlaps, t_started_by, t_starts, translate};
 
-use op::{
-    T_AFTER, T_BEFORE, T_CONTAINS, T_DISJOINT, T_DURING, T_EQUALS, T_FINISHED_BY, T_FINISHES,
-    T_INTERSECTS, T_MEETS, T_MET_BY, T_OVERLAPPED_BY, T_OVERLAPS, T_STARTED_BY,
+use Part::{
+    And, Close, CloseBoth, E0, E1, E2, E3, Equal, Greater, IsNotNull, IsNotNullQuote, Less, Not,
+    NotNull, Open, Or, Quote, Unequal,
 };
+use arrayvec::ArrayVec;
+use op::Op;
 use operand::End;
 
-// A text in parts, each by its code (specs/Template.antt has them): 0 to 3 are the ends.
-#[derive(Clone, Copy)]
-pub struct Template {
-    pub codes: [u8; 24],
-    pub len: usize,
+// A part of a condition's text: an end, or words (specs/Template.antt has them). The ends stand first, at their places.
+#[derive(Clone, Copy, Default, PartialEq, Eq)]
+pub enum Part {
+    #[default]
+    E0,
+    E1,
+    E2,
+    E3,
+    // `(`
+    Open,
+    // `)`
+    Close,
+    // `))`
+    CloseBoth,
+    // ` > `
+    Greater,
+    // ` < `
+    Less,
+    // ` = `
+    Equal,
+    // ` != `
+    Unequal,
+    // `"`
+    Quote,
+    // `" IS NOT NULL AND (`
+    IsNotNull,
+    // `" IS NOT NULL AND "`
+    IsNotNullQuote,
+    // `" NOT NULL AND (`
+    NotNull,
+    // `) OR (`
+    Or,
+    // `) AND (`
+    And,
+    // `NOT((`
+    Not,
 }
 
-// The ends.
-const E0: u8 = 0;
+// A condition's text in parts, of which none has more than 21.
+pub type Template = ArrayVec<Part, 24>;
 
-const E1: u8 = 1;
-
-const E2: u8 = 2;
-
-const E3: u8 = 3;
-
-// `(`
-pub const OPEN: u8 = 4;
-
-// `)`
-pub const CLOSE: u8 = 5;
-
-// `))`
-pub const CLOSE_BOTH: u8 = 6;
-
-// ` > `
-pub const GREATER: u8 = 7;
-
-// ` < `
-pub const LESS: u8 = 8;
-
-// ` = `
-pub const EQUAL: u8 = 9;
-
-// ` != `
-pub const UNEQUAL: u8 = 10;
-
-// `"`
-pub const QUOTE: u8 = 11;
-
-// `" IS NOT NULL AND (`
-pub const IS_NOT_NULL: u8 = 12;
-
-// `" IS NOT NULL AND "`
-pub const IS_NOT_NULL_QUOTE: u8 = 13;
-
-// `" NOT NULL AND (`
-pub const NOT_NULL: u8 = 14;
-
-// `) OR (`
-pub const OR: u8 = 15;
-
-// `) AND (`
-pub const AND: u8 = 16;
-
-// `NOT((`
-pub const NOT: u8 = 17;
-
-// A template with some codes after it.
-fn push(t: Template, s: &[u8]) -> Template
-    requires { t.len + length s.now ≤ 24 }
-    ensures { (held result ≡ held t ++ spelt s.now) × (result.len ≡ t.len + length s.now) }
+// A template with some parts after it.
+fn append(t: &mut Template, parts: &[Part])
+    requires { length t.old.items + length parts.now ≤ 24 }
+    ensures { t.new.items ≡ t.old.items ++ parts.now }
 {
-    let mut codes = t.codes;
-    let n = t.len;
-    let mut k = 0;
-    while k < s.len() {
-        codes[n + k] = s[k];
-        k += 1;
+    for &part in parts {
+        t.push(part);
     }
-    Template { codes, len: n + k }
 }
 
-// The template of some codes.
-fn sql(s: &[u8]) -> Template
-    requires { length s.now ≤ 24 }
-    ensures { (held result ≡ spelt s.now) × (result.len ≡ length s.now) }
+// The template of some parts.
+fn sql(parts: &[Part]) -> Template
+    requires { length parts.now ≤ 24 }
+    ensures { result.items ≡ parts.now }
 {
-    let codes = [0u8; 24];
-    push(Template { codes, len: 0 }, s)
+    let mut t = ArrayVec::new();
+    append(&mut t, parts);
+    t
 }
 
 // `"i" IS NOT NULL AND (base)`
-fn guarded(i: u8, base: &[u8]) -> Template
-    requires { (length base.now ≡ 3) × (i < 4) }
-    ensures { (held result ≡ guarded_text i (spelt base.now)) × (result.len ≡ 7) }
+fn guarded(i: Part, base: [Part; 3]) -> Template
+    ensures { (held result ≡ guarded_text (part_of i) (spelt base)) × (length result.items ≤ 9) }
 {
-    let front = [QUOTE, i, IS_NOT_NULL];
-    push(push(sql(&front), base), &[CLOSE])
+    let [x, sign, y] = base;
+    sql(&[Quote, i, IsNotNull, x, sign, y, Close])
 }
 
 // `"i" IS NOT NULL AND "j" NOT NULL AND (base)`
-fn guarded_both(i: u8, j: u8, base: &[u8]) -> Template
-    requires { (length base.now ≡ 3) × (i < 4) × (j < 4) }
-    ensures { (held result ≡ guarded_both_text i j (spelt base.now)) × (result.len ≡ 9) }
+fn guarded_both(i: Part, j: Part, base: [Part; 3]) -> Template
+    ensures { (held result ≡ guarded_both_text (part_of i) (part_of j) (spelt base)) × (length result.items ≤ 9) }
 {
-    let front = [QUOTE, i, IS_NOT_NULL_QUOTE, j, NOT_NULL];
-    push(push(sql(&front), base), &[CLOSE])
+    let [x, sign, y] = base;
+    sql(&[Quote, i, IsNotNullQuote, j, NotNull, x, sign, y, Close])
 }
 
-// Guards the base by an end that is a column, named by its number.
-fn check_id(i: u8, e: [End; 4], base: &[u8]) -> Template
-    requires { (length base.now ≡ 3) × (i < 4) }
-    ensures { (held result ≡ check_id_text (columns e) i (spelt base.now)) × (result.len ≤ 9) }
+// Whether a part is an end that is a column.
+fn is_column(i: Part, e: &[End; 4]) -> bool
+    ensures { result ≡ columns e.now (place i) }
 {
-    if operand::is_column(e[i as usize]) {
+    let n = i as usize;
+    n < 4 && operand::is_column(e[n])
+}
+
+// Guards the base by an end that is a column.
+fn check_id(i: Part, e: &[End; 4], base: [Part; 3]) -> Template
+    ensures { (held result ≡ check_id_text (columns e.now (place i)) (part_of i) (spelt base)) × (length result.items ≤ 9) }
+{
+    if is_column(i, e) {
         guarded(i, base)
     } else {
-        sql(base)
+        sql(&base)
     }
 }
 
 // Guards the base by two ends, in argument order.
-fn check_ids(i: u8, j: u8, e: [End; 4], base: &[u8]) -> Template
-    requires { (length base.now ≡ 3) × (i < 4) × (j < 4) }
-    ensures { (held result ≡ check_ids_text (columns e) i j (spelt base.now)) × (result.len ≤ 9) }
+fn check_ids(i: Part, j: Part, e: &[End; 4], base: [Part; 3]) -> Template
+    ensures { (held result ≡ check_ids_text (columns e.now (place i)) (columns e.now (place j)) (part_of i) (part_of j) (spelt base)) × (length result.items ≤ 9) }
 {
-    if operand::is_column(e[i as usize]) {
-        if operand::is_column(e[j as usize]) {
-            guarded_both(i, j, base)
-        } else {
-            guarded(i, base)
-        }
-    } else {
-        check_id(j, e, base)
+    match (is_column(i, e), is_column(j, e)) {
+        (true, true) => guarded_both(i, j, base),
+        (true, false) => guarded(i, base),
+        (false, _) => check_id(j, e, base),
     }
+}
+
+// `(x) AND (y)`
+fn both(x: [Part; 3], y: [Part; 3]) -> Template
+    ensures { held result ≡ both_text (spelt x) (spelt y) }
+{
+    let [i, s, j] = x;
+    let [k, t, l] = y;
+    sql(&[Open, i, s, j, And, k, t, l, Close])
+}
+
+// `NOT((x) OR (y))`
+fn neither(x: [Part; 3], y: [Part; 3]) -> Template
+    ensures { held result ≡ neither_text (spelt x) (spelt y) }
+{
+    let [i, s, j] = x;
+    let [k, t, l] = y;
+    sql(&[Not, i, s, j, Or, k, t, l, CloseBoth])
 }
 
 // `(t) OR (u)`
 fn either(t: Template, u: Template) -> Template
-    requires { (t.len ≤ 9) × (u.len ≤ 9) }
-    ensures { (held result ≡ either_text (held t) (held u)) × (result.len ≡ 3 + (t.len + u.len)) }
+    requires { (length t.items ≤ 9) × (length u.items ≤ 9) }
+    ensures { held result ≡ either_text (held t) (held u) }
 {
-    let a = t.codes;
-    let n = t.len;
-    let b = u.codes;
-    let m = u.len;
-    let x = push(push(sql(&[OPEN]), &a[..n]), &[OR]);
-    push(push(x, &b[..m]), &[CLOSE])
+    let mut both = sql(&[Open]);
+    append(&mut both, t.as_slice());
+    both.push(Or);
+    append(&mut both, u.as_slice());
+    both.push(Close);
+    both
 }
 
 // Mixed (instant and interval) arguments.
 
-fn t_after_sql(a: bool, b: bool, e: [End; 4]) -> Template
-    ensures { (held result ≡ template_of (t_after a b (columns e))) × (result.len ≤ 24) }
+fn t_after_sql(a: bool, b: bool, e: &[End; 4]) -> Template
+    ensures { held result ≡ template_of (t_after a b (columns e.now)) }
 {
-    if a {
-        if b {
-            return check_ids(E1, E2, e, &[E0, GREATER, E3]);
-        }
-        return check_id(E1, e, &[E0, GREATER, E2]);
+    match (a, b) {
+        (true, true) => check_ids(E1, E2, e, [E0, Greater, E3]),
+        (true, false) => check_id(E1, e, [E0, Greater, E2]),
+        (false, true) => check_id(E2, e, [E0, Greater, E3]),
+        (false, false) => sql(&[E0, Greater, E2]),
     }
-    if b {
-        return check_id(E2, e, &[E0, GREATER, E3]);
-    }
-    sql(&[E0, GREATER, E2])
 }
 
-fn t_before_sql(a: bool, b: bool, e: [End; 4]) -> Template
-    ensures { (held result ≡ template_of (t_before a b (columns e))) × (result.len ≤ 24) }
+fn t_before_sql(a: bool, b: bool, e: &[End; 4]) -> Template
+    ensures { held result ≡ template_of (t_before a b (columns e.now)) }
 {
-    if a {
-        if b {
-            return check_ids(E0, E3, e, &[E1, LESS, E2]);
-        }
-        return check_id(E0, e, &[E1, LESS, E2]);
+    match (a, b) {
+        (true, true) => check_ids(E0, E3, e, [E1, Less, E2]),
+        (true, false) => check_id(E0, e, [E1, Less, E2]),
+        (false, true) => check_id(E3, e, [E0, Less, E2]),
+        (false, false) => sql(&[E0, Less, E2]),
     }
-    if b {
-        return check_id(E3, e, &[E0, LESS, E2]);
-    }
-    sql(&[E0, LESS, E2])
 }
 
-fn t_disjoint_sql(a: bool, b: bool, e: [End; 4]) -> Template
-    ensures { (held result ≡ template_of (t_disjoint a b (columns e))) × (result.len ≤ 24) }
+fn t_disjoint_sql(a: bool, b: bool, e: &[End; 4]) -> Template
+    ensures { held result ≡ template_of (t_disjoint a b (columns e.now)) }
 {
-    if a {
-        if b {
-            let before = check_ids(E0, E3, e, &[E1, LESS, E2]);
-            return either(before, check_ids(E1, E2, e, &[E0, GREATER, E3]));
+    match (a, b) {
+        (true, true) => {
+            let before = check_ids(E0, E3, e, [E1, Less, E2]);
+            either(before, check_ids(E1, E2, e, [E0, Greater, E3]))
         }
-        let before = check_id(E0, e, &[E1, LESS, E2]);
-        return either(before, check_id(E1, e, &[E0, GREATER, E2]));
+        (true, false) => {
+            let before = check_id(E0, e, [E1, Less, E2]);
+            either(before, check_id(E1, e, [E0, Greater, E2]))
+        }
+        (false, true) => {
+            let before = check_id(E3, e, [E0, Less, E2]);
+            either(before, check_id(E2, e, [E0, Greater, E3]))
+        }
+        (false, false) => sql(&[E0, Unequal, E2]),
     }
-    if b {
-        let before = check_id(E3, e, &[E0, LESS, E2]);
-        return either(before, check_id(E2, e, &[E0, GREATER, E3]));
-    }
-    sql(&[E0, UNEQUAL, E2])
 }
 
-fn t_equals_sql(a: bool, b: bool, e: [End; 4]) -> Template
-    ensures { (held result ≡ template_of (t_equals a b (columns e))) × (result.len ≤ 24) }
+#[tactic(auto, unfolding(crate::specs::Translators::t_equals, crate::specs::Condition::print, crate::specs::Template::both_text, crate::specs::Template::spelt, crate::specs::Template::part_of))]
+fn t_equals_sql(a: bool, b: bool, e: &[End; 4]) -> Template
+    ensures { held result ≡ template_of (t_equals a b (columns e.now)) }
 {
-    if a {
-        if b {
-            return sql(&[OPEN, E0, EQUAL, E2, AND, E1, EQUAL, E3, CLOSE]);
-        }
-        return sql(&[OPEN, E0, EQUAL, E2, AND, E1, EQUAL, E2, CLOSE]);
+    match (a, b) {
+        (true, true) => both([E0, Equal, E2], [E1, Equal, E3]),
+        (true, false) => both([E0, Equal, E2], [E1, Equal, E2]),
+        (false, true) => both([E0, Equal, E2], [E0, Equal, E3]),
+        (false, false) => sql(&[E0, Equal, E2]),
     }
-    if b {
-        return sql(&[OPEN, E0, EQUAL, E2, AND, E0, EQUAL, E3, CLOSE]);
-    }
-    sql(&[E0, EQUAL, E2])
 }
 
-fn t_intersects_sql(a: bool, b: bool, e: [End; 4]) -> Template
-    ensures { (held result ≡ template_of (t_intersects a b (columns e))) × (result.len ≤ 24) }
+#[tactic(auto, unfolding(crate::specs::Translators::t_intersects, crate::specs::Condition::print, crate::specs::Template::neither_text, crate::specs::Template::spelt, crate::specs::Template::part_of))]
+fn t_intersects_sql(a: bool, b: bool, e: &[End; 4]) -> Template
+    ensures { held result ≡ template_of (t_intersects a b (columns e.now)) }
 {
-    if a {
-        if b {
-            return sql(&[NOT, E1, LESS, E2, OR, E0, GREATER, E3, CLOSE_BOTH]);
-        }
-        return sql(&[NOT, E1, LESS, E2, OR, E0, GREATER, E2, CLOSE_BOTH]);
+    match (a, b) {
+        (true, true) => neither([E1, Less, E2], [E0, Greater, E3]),
+        (true, false) => neither([E1, Less, E2], [E0, Greater, E2]),
+        (false, true) => neither([E0, Less, E2], [E0, Greater, E3]),
+        (false, false) => sql(&[E0, Equal, E2]),
     }
-    if b {
-        return sql(&[NOT, E0, LESS, E2, OR, E0, GREATER, E3, CLOSE_BOTH]);
-    }
-    sql(&[E0, EQUAL, E2])
 }
 
 // Intervals only.
 
-fn t_contains_sql(a: bool, b: bool, e: [End; 4]) -> Template
-    ensures { (held result ≡ template_of (t_contains a b (columns e))) × (result.len ≤ 24) }
+#[tactic(auto, unfolding(crate::specs::Translators::t_contains, crate::specs::Condition::print, crate::specs::Template::both_text, crate::specs::Template::spelt, crate::specs::Template::part_of))]
+fn t_contains_sql() -> Template
+    ensures { (a b : Bool) (column : ℕ → Bool) → held result ≡ template_of (t_contains a b column) }
 {
-    sql(&[OPEN, E0, LESS, E2, AND, E1, GREATER, E3, CLOSE])
+    both([E0, Less, E2], [E1, Greater, E3])
 }
 
-fn t_during_sql(a: bool, b: bool, e: [End; 4]) -> Template
-    ensures { (held result ≡ template_of (t_during a b (columns e))) × (result.len ≤ 24) }
+#[tactic(auto, unfolding(crate::specs::Translators::t_during, crate::specs::Condition::print, crate::specs::Template::both_text, crate::specs::Template::spelt, crate::specs::Template::part_of))]
+fn t_during_sql() -> Template
+    ensures { (a b : Bool) (column : ℕ → Bool) → held result ≡ template_of (t_during a b column) }
 {
-    sql(&[OPEN, E0, GREATER, E2, AND, E1, LESS, E3, CLOSE])
+    both([E0, Greater, E2], [E1, Less, E3])
 }
 
-fn t_finished_by_sql(a: bool, b: bool, e: [End; 4]) -> Template
-    ensures { (held result ≡ template_of (t_finished_by a b (columns e))) × (result.len ≤ 24) }
+#[tactic(auto, unfolding(crate::specs::Translators::t_finished_by, crate::specs::Condition::print, crate::specs::Template::both_text, crate::specs::Template::spelt, crate::specs::Template::part_of))]
+fn t_finished_by_sql() -> Template
+    ensures { (a b : Bool) (column : ℕ → Bool) → held result ≡ template_of (t_finished_by a b column) }
 {
-    sql(&[OPEN, E0, LESS, E2, AND, E1, EQUAL, E3, CLOSE])
+    both([E0, Less, E2], [E1, Equal, E3])
 }
 
-fn t_finishes_sql(a: bool, b: bool, e: [End; 4]) -> Template
-    ensures { (held result ≡ template_of (t_finishes a b (columns e))) × (result.len ≤ 24) }
+#[tactic(auto, unfolding(crate::specs::Translators::t_finishes, crate::specs::Condition::print, crate::specs::Template::both_text, crate::specs::Template::spelt, crate::specs::Template::part_of))]
+fn t_finishes_sql() -> Template
+    ensures { (a b : Bool) (column : ℕ → Bool) → held result ≡ template_of (t_finishes a b column) }
 {
-    sql(&[OPEN, E0, GREATER, E2, AND, E1, EQUAL, E3, CLOSE])
+    both([E0, Greater, E2], [E1, Equal, E3])
 }
 
-fn t_meets_sql(a: bool, b: bool, e: [End; 4]) -> Template
-    ensures { (held result ≡ template_of (t_meets a b (columns e))) × (result.len ≤ 24) }
+fn t_meets_sql(e: &[End; 4]) -> Template
+    ensures { (a b : Bool) → held result ≡ template_of (t_meets a b (columns e.now)) }
 {
-    check_ids(E0, E3, e, &[E1, EQUAL, E2])
+    check_ids(E0, E3, e, [E1, Equal, E2])
 }
 
-fn t_met_by_sql(a: bool, b: bool, e: [End; 4]) -> Template
-    ensures { (held result ≡ template_of (t_met_by a b (columns e))) × (result.len ≤ 24) }
+fn t_met_by_sql(e: &[End; 4]) -> Template
+    ensures { (a b : Bool) → held result ≡ template_of (t_met_by a b (columns e.now)) }
 {
-    check_ids(E1, E2, e, &[E0, EQUAL, E3])
+    check_ids(E1, E2, e, [E0, Equal, E3])
 }
 
-fn t_overlapped_by_sql(a: bool, b: bool, e: [End; 4]) -> Template
-    ensures { (held result ≡ template_of (t_overlapped_by a b (columns e))) × (result.len ≤ 24) }
+#[tactic(auto, unfolding(crate::specs::Translators::t_overlapped_by, crate::specs::Condition::print, crate::specs::Template::spelt, crate::specs::Template::part_of))]
+fn t_overlapped_by_sql() -> Template
+    ensures { (a b : Bool) (column : ℕ → Bool) → held result ≡ template_of (t_overlapped_by a b column) }
 {
     sql(&[
-        OPEN, E0, GREATER, E2, AND, E0, LESS, E3, AND, E1, GREATER, E3, CLOSE,
+        Open, E0, Greater, E2, And, E0, Less, E3, And, E1, Greater, E3, Close,
     ])
 }
 
-fn t_overlaps_sql(a: bool, b: bool, e: [End; 4]) -> Template
-    ensures { (held result ≡ template_of (t_overlaps a b (columns e))) × (result.len ≤ 24) }
+#[tactic(auto, unfolding(crate::specs::Translators::t_overlaps, crate::specs::Condition::print, crate::specs::Template::spelt, crate::specs::Template::part_of))]
+fn t_overlaps_sql() -> Template
+    ensures { (a b : Bool) (column : ℕ → Bool) → held result ≡ template_of (t_overlaps a b column) }
 {
     sql(&[
-        OPEN, E0, LESS, E2, AND, E1, GREATER, E2, AND, E1, LESS, E3, CLOSE,
+        Open, E0, Less, E2, And, E1, Greater, E2, And, E1, Less, E3, Close,
     ])
 }
 
-fn t_started_by_sql(a: bool, b: bool, e: [End; 4]) -> Template
-    ensures { (held result ≡ template_of (t_started_by a b (columns e))) × (result.len ≤ 24) }
+#[tactic(auto, unfolding(crate::specs::Translators::t_started_by, crate::specs::Condition::print, crate::specs::Template::both_text, crate::specs::Template::spelt, crate::specs::Template::part_of))]
+fn t_started_by_sql() -> Template
+    ensures { (a b : Bool) (column : ℕ → Bool) → held result ≡ template_of (t_started_by a b column) }
 {
-    sql(&[OPEN, E0, EQUAL, E2, AND, E1, GREATER, E3, CLOSE])
+    both([E0, Equal, E2], [E1, Greater, E3])
 }
 
-fn t_starts_sql(a: bool, b: bool, e: [End; 4]) -> Template
-    ensures { (held result ≡ template_of (t_starts a b (columns e))) × (result.len ≤ 24) }
+#[tactic(auto, unfolding(crate::specs::Translators::t_starts, crate::specs::Condition::print, crate::specs::Template::both_text, crate::specs::Template::spelt, crate::specs::Template::part_of))]
+fn t_starts_sql() -> Template
+    ensures { (a b : Bool) (column : ℕ → Bool) → held result ≡ template_of (t_starts a b column) }
 {
-    sql(&[OPEN, E0, EQUAL, E2, AND, E1, LESS, E3, CLOSE])
+    both([E0, Equal, E2], [E1, Less, E3])
 }
 
-// The template of a temporal operator, by the operator's number.
+// The template of a temporal operator.
 #[tactic(auto, unfolding(crate::specs::Translators::translate))]
-pub fn temporal_sql(op: usize, a: bool, b: bool, e: [End; 4]) -> Template
-    ensures { (held result ≡ template_of (translate op a b (columns e))) × (result.len ≤ 24) }
+pub fn temporal_sql(op: Op, a: bool, b: bool, e: &[End; 4]) -> Template
+    ensures { held result ≡ template_of (translate (op_number op) a b (columns e.now)) }
 {
     match op {
-        T_AFTER => t_after_sql(a, b, e),
-        T_BEFORE => t_before_sql(a, b, e),
-        T_CONTAINS => t_contains_sql(a, b, e),
-        T_DISJOINT => t_disjoint_sql(a, b, e),
-        T_DURING => t_during_sql(a, b, e),
-        T_EQUALS => t_equals_sql(a, b, e),
-        T_FINISHED_BY => t_finished_by_sql(a, b, e),
-        T_FINISHES => t_finishes_sql(a, b, e),
-        T_INTERSECTS => t_intersects_sql(a, b, e),
-        T_MEETS => t_meets_sql(a, b, e),
-        T_MET_BY => t_met_by_sql(a, b, e),
-        T_OVERLAPPED_BY => t_overlapped_by_sql(a, b, e),
-        T_OVERLAPS => t_overlaps_sql(a, b, e),
-        T_STARTED_BY => t_started_by_sql(a, b, e),
-        _ => t_starts_sql(a, b, e),
+        Op::TAfter => t_after_sql(a, b, e),
+        Op::TBefore => t_before_sql(a, b, e),
+        Op::TContains => t_contains_sql(),
+        Op::TDisjoint => t_disjoint_sql(a, b, e),
+        Op::TDuring => t_during_sql(),
+        Op::TEquals => t_equals_sql(a, b, e),
+        Op::TFinishedBy => t_finished_by_sql(),
+        Op::TFinishes => t_finishes_sql(),
+        Op::TIntersects => t_intersects_sql(a, b, e),
+        Op::TMeets => t_meets_sql(e),
+        Op::TMetBy => t_met_by_sql(e),
+        Op::TOverlappedBy => t_overlapped_by_sql(),
+        Op::TOverlaps => t_overlaps_sql(),
+        Op::TStartedBy => t_started_by_sql(),
+        _ => t_starts_sql(),
     }
 }

@@ -1,7 +1,9 @@
 -- Laws of specs/SequenceWords.antt: a string is told from place to place, and with it every string that begins with the same bytes.
 -- The steps over single bytes join to those over a sequence.
 use Prim.Native.Nat.{ℕ, zero, suc, ◌+◌, ◌≤◌, ◌<◌}
-use Rattle.std.specs.Prelude.{◌≡◌, Bool, eqb, ltb, get_or, take, drop}
+use Rattle.std.specs.List.{AllWithin, HoldsAt}
+use Rattle.std.specs.Option.{unwrap_or}
+use Rattle.std.specs.Prelude.{◌≡◌, Option, None, Some, MatchOption, Bool, eqb, ltb, get_or, take, drop}
 use Rattle.std.proofs.Math.Path.{refl, ap}
 use Rattle.std.proofs.Common.{sym, ◌∙◌, subst, length-take, length-drop, take_all}
 use mathlib.Core.List.{List, [], ◌∷◌}
@@ -73,14 +75,14 @@ module _ (s : List ℕ) (i : ℕ) (h : i < length s) where
   due_open r e k = let b = between_true r.0 (get_or s i 0) r.1 e in closing_go s i h (λ z. omega (arith, b.0, z))
 
   module _ (l : get_or s i 0 < 256) (e : plain (get_or s i 0) ≡ false) where
-    pub none_heads : more (get_or s i 0) ≡ 0 → Heads s i 0
+    pub none_heads : more (get_or s i 0) ≡ 0 → Heads s i None
     none_heads q m = rw (at_place s i h) (lead_none (get_or s i 0) (take m (drop (i + 1) s)) l e q)
 
     module _ (k : ℕ) (q : more (get_or s i 0) ≡ suc k) where
       pub lead_passes : Passes s i 1 [] (due (get_or s i 0) (suc k))
       lead_passes = passes_one [] (due (get_or s i 0) (suc k)) (λ t. lead_go (get_or s i 0) k t l e q)
 
-      pub fails_heads : Fails s (i + 1) (due (get_or s i 0) (suc k)) → Heads s i 0
+      pub fails_heads : Fails s (i + 1) (due (get_or s i 0) (suc k)) → Heads s i None
       fails_heads f m = rw (at_place s i h) (lead_go (get_or s i 0) k (take m (drop (i + 1) s)) l e q ∙ f m)
 
 -- a sequence byte by byte: what is due after its first bytes, and that none of these is an apostrophe
@@ -118,13 +120,13 @@ abbrev later : List ℕ → ℕ → Bool
 later s i = between 0x80 (get_or s i 0) 0xBF
 
 module _ (s : List ℕ) (i : ℕ) (h : i < length s) (l : get_or s i 0 < 256) (e : plain (get_or s i 0) ≡ false) (k : ℕ) (q : more (get_or s i 0) ≡ suc k) where
-  pub cut_heads : length s ≤ i + suc k → Heads s i 0
+  pub cut_heads : length s ≤ i + suc k → Heads s i None
   unfolding due
   cut_heads c =
       let n = tails-length k in
       fails_heads s i h l e k q (fails_short s (i + 1) (due (get_or s i 0) (suc k)) (omega arith) (omega (arith, n)))
 
-  pub second_fails : i + 1 < length s → second s i ≡ false → Heads s i 0
+  pub second_fails : i + 1 < length s → second s i ≡ false → Heads s i None
   unfolding due
   second_fails c f = fails_heads s i h l e k q (due_fails s (i + 1) c (lowest (get_or s i 0), highest (get_or s i 0)) (tails k) f)
 
@@ -142,27 +144,23 @@ later_passes s i r k p c f =
     (passes_then p.0 (due_passes s (i + r) c (0x80, 0xBF) (tails k) f), open_then s i r 1 p.1 (due_open s (i + r) c (0x80, 0xBF) f (omega arith)))
 
 module _ (s : List ℕ) (i : ℕ) (h : i < length s) (l : get_or s i 0 < 256) (e : plain (get_or s i 0) ≡ false) (c : i + 2 < length s) (f : second s i ≡ true) where
-  after_two : (k : ℕ) → more (get_or s i 0) ≡ suc k → Fails s (i + 2) (tails k) → Heads s i 0
+  after_two : (k : ℕ) → more (get_or s i 0) ≡ suc k → Fails s (i + 2) (tails k) → Heads s i None
   unfolding due
   after_two k q x =
       fails_heads s i h l e k q (later_fails s (i + 1) (omega arith) (lowest (get_or s i 0), highest (get_or s i 0)) (tails k) f (i + 2) (omega arith) x)
 
-  pub third_fails : (k : ℕ) → more (get_or s i 0) ≡ suc (suc k) → later s (i + 2) ≡ false → Heads s i 0
+  pub third_fails : (k : ℕ) → more (get_or s i 0) ≡ suc (suc k) → later s (i + 2) ≡ false → Heads s i None
   unfolding tails
   third_fails k q g = after_two (suc k) q (due_fails s (i + 2) c (0x80, 0xBF) (tails k) g)
 
-  pub fourth_fails : more (get_or s i 0) ≡ 3 → later s (i + 2) ≡ true → i + 3 < length s → later s (i + 3) ≡ false → Heads s i 0
+  pub fourth_fails : more (get_or s i 0) ≡ 3 → later s (i + 2) ≡ true → i + 3 < length s → later s (i + 3) ≡ false → Heads s i None
   unfolding tails
   fourth_fails q g d j =
       after_two 2 q (later_fails s (i + 2) c (0x80, 0xBF) (tails 1) g (i + 3) (omega arith) (due_fails s (i + 3) d (0x80, 0xBF) [] j))
 
--- what was found at a place, by its number of bytes
-pub heads_some : (s : List ℕ) (i n : ℕ) → Heads s i n → (n ≡ 0 → ⊥) → Passes s i n [] [] × Open s i n
-heads_some s i zero h f = absurd (f refl)
-heads_some s i (suc n) h f = h
-
-pub heads_none : (s : List ℕ) (i : ℕ) {n : ℕ} → Heads s i n → n ≡ 0 → Heads s i 0
-heads_none s i h e = subst (λ (k : ℕ). Heads s i k) e h
+-- a sequence that was read to its end
+pub heads_of : (s : List ℕ) (i r : ℕ) → 0 < r → Passes s i r [] [] × Open s i r → Heads s i (Some r)
+heads_of s i r h p = (h, p.0, p.1)
 
 -- ---- how far a string is read
 
@@ -187,7 +185,7 @@ module _ {quoted : Bool} {s : List ℕ} where
     end-valid h =
         ap (goes_on []) (sym (take_all (i + 0) s (omega arith))) ∙ x.same 0
 
-    module _ (b : Heads s i 0) (h : i < length s) where
+    module _ (b : Heads s i None) (h : i < length s) where
       ahead : (m : ℕ) → goes_on [] (take (i + (1 + m)) s) ≡ false
       ahead m = x.same (1 + m) ∙ ap (λ (k : ℕ). goes_on [] (take k (drop i s))) (let z : 1 + m ≡ suc m = omega arith in z) ∙ b m
 
@@ -231,7 +229,7 @@ told s q = pick q (quoted_size s) (pick (valid s) 1 0)
 
 module _ {quoted : Bool} {s : List ℕ} where
   module _ {i : ℕ} (x : Reaches quoted s i) where
-    pub bad_told : Heads s i 0 → i < length s → plain (get_or s i 0) ≡ false → 0 ≡ told s quoted
+    pub bad_told : Heads s i None → i < length s → plain (get_or s i 0) ≡ false → 0 ≡ told s quoted
     bad_told b h e = go quoted refl
       where
         go : (q : Bool) → quoted ≡ q → 0 ≡ told s q
@@ -282,3 +280,20 @@ simple_passes s i h quoted e =
   where
     mark : quoted ≡ true → get_or s i 0 ≡ apostrophe → negated (both quoted (eqb (get_or s i 0) apostrophe)) ≡ true → ⊥
     mark q z n = false≢true (sym (rw (q, z) refl) ∙ n)
+
+-- a string up to the first byte that is not such a one, or to its end
+module _ (quoted : Bool) (s : List ℕ) where
+  abbrev pub Simple : ℕ → Type 0
+  Simple b = both (plain b) (negated (both quoted (eqb b apostrophe))) ≡ true
+
+  reaches_simple : (n : ℕ) → n ≤ length s → AllWithin Simple s 0 n → Reaches quoted s n
+  reaches_simple zero h a = reaches_start
+  reaches_simple (suc n) h a =
+      let p = simple_passes s n (omega arith) quoted (a n 0 (omega arith) (omega arith)) in
+      subst (λ (k : ℕ). Reaches quoted s k) (let e : n + 1 ≡ suc n = omega arith in e)
+      (reaches_then (reaches_simple n (omega arith) (λ k d l g. a k d l (omega arith))) p.0 p.1)
+
+  pub reaches_first : (r : Option ℕ) → MatchOption r (AllWithin Simple s 0 (length s)) (λ i. (i < length s) × HoldsAt (λ _. Unit {0}) s i × AllWithin Simple s 0 i)
+      → Reaches quoted s (unwrap_or r (length s))
+  reaches_first None h = reaches_simple (length s) (omega arith) h
+  reaches_first (Some i) h = reaches_simple i (omega (arith, h.0)) h.2

@@ -1,5 +1,5 @@
 -- What the private functions promise about the sequence at a place of a string. No definition of the papers rests on it.
-use Rattle.std.specs.Prelude.{ℕ, zero, suc, ◌+◌, ◌≤◌, ◌≡◌, List, [], ◌∷◌, Bool, true, false, eqb, ltb, length, take, drop}
+use Rattle.std.specs.Prelude.{ℕ, zero, suc, ◌+◌, ◌≤◌, ◌<◌, ◌≡◌, Option, None, Some, List, [], ◌∷◌, Bool, true, false, eqb, ltb, length, take, drop}
 use Rattle.prelude.specs.Choice.{pick, between}
 use Rattle.string.specs.Utf8.{Range, goes_on}
 use Rattle.string.specs.Quote.{closing}
@@ -38,10 +38,10 @@ pub record Passes (s : List ℕ) (i r : ℕ) (before after : List Range) : Type 
 abbrev pub Open : List ℕ → ℕ → ℕ → Type 0
 Open s i r = closing (drop i s) ≡ r + closing (drop (i + r) s)
 
--- r bytes from the place i on are one sequence of two or more; with 0 none begins there, and no valid string begins with the byte there
-abbrev pub Heads : List ℕ → ℕ → ℕ → Type 0
-Heads s i zero = (m : ℕ) → goes_on [] (take (suc m) (drop i s)) ≡ false
-Heads s i (suc r) = Passes s i (suc r) [] [] × Open s i (suc r)
+-- what stands at the place i: a sequence of two or more, of r bytes; or none begins there, and no valid string begins with the byte there
+abbrev pub Heads : List ℕ → ℕ → Option ℕ → Type 0
+Heads s i None = (m : ℕ) → goes_on [] (take (suc m) (drop i s)) ≡ false
+Heads s i (Some r) = (0 < r) × Passes s i r [] [] × Open s i r
 
 -- A string up to the place r is made of sequences, and how it goes on from there tells of the whole; if it is a quoted text, no apostrophe closes it
 -- before r.

@@ -1,3 +1,4 @@
+pub mod Tests
 pub mod RecordLaws
 pub mod ClipLaws
 pub mod LiteralLaws

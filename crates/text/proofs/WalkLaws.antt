@@ -24,7 +24,9 @@ use Rattle.literal.specs.declared.Writing.{Writing}
 use Rattle.tree.specs.Kinds.{UNBOUNDED}
 use Rattle.tree.specs.Tree.{Tree, Trees, Settings, encode, encodes, counted, null, unbounded, bool, num, str, date, timestamp, spatial, id, monadic, dyadic, function, array, interval, none, ◌then◌, kind_of}
 use Rattle.literal.specs.Literal.{Slot, stop_slot, null_text, date_text}
-use Rattle.sql.specs.Template.{fill, spelt, parts, part_of, words_of}
+use Rattle.sql.specs.declared.Part.{Part}
+use Rattle.sql.specs.declared.Part.TheVariants as parts
+use Rattle.sql.specs.Template.{fill, place, spelt, part_of, words_of}
 use Rattle.operand.specs.declared.End as end
 use Rattle.operand.specs.declared.End.TheVariants.{Column, Instant, Other, Open, Null}
 use Rattle.part.specs.declared.Flat as flat
@@ -205,60 +207,57 @@ clear_fill f (b ∷ l) e = go (between 48 b 57) e (clear_fill f l)
     go true z h = never (cc)
     go false z h = ap (λ (x : List ℕ). b ∷ x) (h z)
 
-each_clear : List (List ℕ) → Bool
-each_clear [] = true
-each_clear (l ∷ ls) = both (clear l) (each_clear ls)
+-- the words of a part have none
+clear_part : (p : Part) → 4 ≤ place p → clear (part_of p) ≡ true
+unfolding part_of clear
+clear_part parts.E0 h = absurd (let v : ⊥ = omega arith in v)
+clear_part parts.E1 h = absurd (let v : ⊥ = omega arith in v)
+clear_part parts.E2 h = absurd (let v : ⊥ = omega arith in v)
+clear_part parts.E3 h = absurd (let v : ⊥ = omega arith in v)
+clear_part parts.Open h = refl
+clear_part parts.Close h = refl
+clear_part parts.CloseBoth h = refl
+clear_part parts.Greater h = refl
+clear_part parts.Less h = refl
+clear_part parts.Equal h = refl
+clear_part parts.Unequal h = refl
+clear_part parts.Quote h = refl
+clear_part parts.IsNotNull h = refl
+clear_part parts.IsNotNullQuote h = refl
+clear_part parts.NotNull h = refl
+clear_part parts.Or h = refl
+clear_part parts.And h = refl
+clear_part parts.Not h = refl
 
-all_clear : (ls : List (List ℕ)) → T (each_clear ls) → (k : ℕ) → clear (get_or ls k []) ≡ true
-unfolding each_clear clear
-all_clear [] t k = refl
-all_clear (l ∷ ls) t zero = go (clear l) (both_left (clear l) (each_clear ls) t)
-  where
-    go : (b : Bool) → T b → b ≡ true
-    go true x = refl
-    go false x = absurd x
-all_clear (l ∷ ls) t (suc k) = all_clear ls (both_right (clear l) (each_clear ls) t) k
-
-clear_part : (c : ℕ) → 4 ≤ c → clear (part_of c) ≡ true
-unfolding part_of parts each_clear clear
-clear_part zero h = absurd (let v : ⊥ = omega arith in v)
-clear_part (suc zero) h = absurd (let v : ⊥ = omega arith in v)
-clear_part (suc (suc zero)) h = absurd (let v : ⊥ = omega arith in v)
-clear_part (suc (suc (suc zero))) h = absurd (let v : ⊥ = omega arith in v)
-clear_part (suc (suc (suc (suc k)))) h = all_clear (drop 4 parts) tt k
-
-small_mod : (c : ℕ) → c < 4 → c % 4 ≡ c
-small_mod c h = omega arith
-
--- the text of an end's code
-end-part : (writing : Writing) (g : Settings) (xs : List Tree) (c : ℕ) → c < 4 → fill (slot writing g xs) (part_of c) ≡ slot writing g xs c
+-- the text of an end's part
+end-part : (writing : Writing) (g : Settings) (xs : List Tree) (p : Part) → place p < 4 → fill (slot writing g xs) (part_of p) ≡ slot writing g xs (place p)
 unfolding fill
-end-part writing g xs c h =
-    ap (fill (slot writing g xs)) (digit-part c h)
-    ∙ end_fills (slot writing g xs) c [] (lt→ltb c 4 h)
-    ∙ append-nil (slot writing g xs c)
+end-part writing g xs p h =
+    ap (fill (slot writing g xs)) (digit-part p h)
+    ∙ end_fills (slot writing g xs) (place p) [] (lt→ltb (place p) 4 h)
+    ∙ append-nil (slot writing g xs (place p))
 
 -- an end that is not open is written by its own text
 closed_text : (writing : Writing) (p : Slot) (x : Tree) (y : List ℕ) → eqb (kind_of x) UNBOUNDED ≡ false → end_text writing p x y ≡ y
 closed_text writing p x y e = rw e refl
 
--- a code of a template that is written as it is
-plain_piece : (writing : Writing) (g : Settings) {s : List ℕ} {es : List end.End} {xs : List Tree} → Are s es xs → (c : ℕ) (f : flat.Flat) → piece_of c (get_or es (c % 4) (Column 0 0)) ≡ pieces.Plain f → fill (slot writing g xs) (part_of c) ≡ flat_text writing f
+-- a part of a template that is written as it is
+plain_piece : (writing : Writing) (g : Settings) {s : List ℕ} {es : List end.End} {xs : List Tree} → Are s es xs → (c : Part) (f : flat.Flat) → piece_of c es ≡ pieces.Plain f → fill (slot writing g xs) (part_of c) ≡ flat_text writing f
 unfolding piece_of flat_text words_of
-plain_piece writing g {s} {es} {xs} a c f e = go (ltb c 4) refl e
+plain_piece writing g {s} {es} {xs} a c f e = go (ltb (place c) 4) refl e
   where
-    go : (b : Bool) → ltb c 4 ≡ b → pick b (end_piece c (get_or es (c % 4) (Column 0 0))) (pieces.Plain (Words c)) ≡ pieces.Plain f → fill (slot writing g xs) (part_of c) ≡ flat_text writing f
+    go : (b : Bool) → ltb (place c) 4 ≡ b → pick b (end_piece (place c) (get_or es (place c) (Column 0 0))) (pieces.Plain (Words c)) ≡ pieces.Plain f → fill (slot writing g xs) (part_of c) ≡ flat_text writing f
     go true q z =
-        let h = ltb-true c 4 q in
+        let h = ltb-true (place c) 4 q in
         end-part writing g xs c h
-        ∙ plain_end writing g c (get_or es c (Column 0 0)) (get_or xs c null) f (end_is a c h) (ap (λ (j : ℕ). end_piece c (get_or es j (Column 0 0))) (sym (small_mod c h)) ∙ z)
+        ∙ plain_end writing g (place c) (get_or es (place c) (Column 0 0)) (get_or xs (place c) null) f (end_is a (place c) h) z
     go false q z =
         let y : f ≡ Words c = cc in
-        clear_fill (slot writing g xs) (part_of c) (clear_part c (ltb-false c 4 q))
+        clear_fill (slot writing g xs) (part_of c) (clear_part c (ltb-false (place c) 4 q))
         ∙ ap (λ (b : Bool). pick b [] (part_of c)) (sym q)
         ∙ ap (flat_text writing) (sym y)
 
--- a code of a template that stands for a record
+-- a part of a template that stands for a record
 pub record Child (writing : Writing) (g : Settings) (s : List ℕ) (p z : ℕ) (l : List ℕ) : Type 0 where
   pub x : Tree
   pub inside : Inside s p z
@@ -266,44 +265,41 @@ pub record Child (writing : Writing) (g : Settings) (s : List ℕ) (p z : ℕ) (
   pub fit : sound x ≡ true
   pub filled : l ≡ text writing g x
 
-pub node_piece : (writing : Writing) (g : Settings) {s : List ℕ} {es : List end.End} {xs : List Tree} → Are s es xs → (c p z : ℕ) → piece_of c (get_or es (c % 4) (Column 0 0)) ≡ pieces.Node p z → Child writing g s p z (fill (slot writing g xs) (part_of c))
+pub node_piece : (writing : Writing) (g : Settings) {s : List ℕ} {es : List end.End} {xs : List Tree} → Are s es xs → (c : Part) (p z : ℕ) → piece_of c es ≡ pieces.Node p z → Child writing g s p z (fill (slot writing g xs) (part_of c))
 unfolding piece_of
-node_piece writing g {s} {es} {xs} a c p z e = go (ltb c 4) refl e
+node_piece writing g {s} {es} {xs} a c p z e = go (ltb (place c) 4) refl e
   where
-    go : (b : Bool) → ltb c 4 ≡ b → pick b (end_piece c (get_or es (c % 4) (Column 0 0))) (pieces.Plain (Words c)) ≡ pieces.Node p z → Child writing g s p z (fill (slot writing g xs) (part_of c))
+    go : (b : Bool) → ltb (place c) 4 ≡ b → pick b (end_piece (place c) (get_or es (place c) (Column 0 0))) (pieces.Plain (Words c)) ≡ pieces.Node p z → Child writing g s p z (fill (slot writing g xs) (part_of c))
     go true q y =
-        let h = ltb-true c 4 q in
-        let i = end_is a c h in
-        let n = node_end c (get_or es c (Column 0 0)) (get_or xs c null) p z i (ap (λ (j : ℕ). end_piece c (get_or es j (Column 0 0))) (sym (small_mod c h)) ∙ y) in
-        record { x = get_or xs c null; inside = n.0.0; stands = n.0.1; fit = i.fit; filled = end-part writing g xs c h ∙ closed_text writing (stop_slot (is_second c)) (get_or xs c null) (text writing g (get_or xs c null)) n.1 }
+        let h = ltb-true (place c) 4 q in
+        let i = end_is a (place c) h in
+        let n = node_end (place c) (get_or es (place c) (Column 0 0)) (get_or xs (place c) null) p z i y in
+        record { x = get_or xs (place c) null; inside = n.0.0; stands = n.0.1; fit = i.fit; filled = end-part writing g xs c h ∙ closed_text writing (stop_slot (is_second (place c))) (get_or xs (place c) null) (text writing g (get_or xs (place c) null)) n.1 }
     go false q y = never (cc)
 
--- a code of a template that stands for a name
+-- a part of a template that stands for a name
 pub record Word (s : List ℕ) (p z : ℕ) (l : List ℕ) : Type 0 where
   pub inside : Inside s p z
   pub filled : l ≡ drop 6 (part s p z)
 
-pub name_piece : (writing : Writing) (g : Settings) {s : List ℕ} {es : List end.End} {xs : List Tree} → Are s es xs → (c p z : ℕ) → piece_of c (get_or es (c % 4) (Column 0 0)) ≡ pieces.Name p z → Word s p z (fill (slot writing g xs) (part_of c))
+pub name_piece : (writing : Writing) (g : Settings) {s : List ℕ} {es : List end.End} {xs : List Tree} → Are s es xs → (c : Part) (p z : ℕ) → piece_of c es ≡ pieces.Name p z → Word s p z (fill (slot writing g xs) (part_of c))
 unfolding piece_of
-name_piece writing g {s} {es} {xs} a c p z e = go (ltb c 4) refl e
+name_piece writing g {s} {es} {xs} a c p z e = go (ltb (place c) 4) refl e
   where
-    go : (b : Bool) → ltb c 4 ≡ b → pick b (end_piece c (get_or es (c % 4) (Column 0 0))) (pieces.Plain (Words c)) ≡ pieces.Name p z → Word s p z (fill (slot writing g xs) (part_of c))
+    go : (b : Bool) → ltb (place c) 4 ≡ b → pick b (end_piece (place c) (get_or es (place c) (Column 0 0))) (pieces.Plain (Words c)) ≡ pieces.Name p z → Word s p z (fill (slot writing g xs) (part_of c))
     go true q y =
-        let h = ltb-true c 4 q in
-        let n = name-end c (get_or es c (Column 0 0)) (get_or xs c null) p z (end_is a c h) (ap (λ (j : ℕ). end_piece c (get_or es j (Column 0 0))) (sym (small_mod c h)) ∙ y) in
-        record { inside = n.0.0; filled = end-part writing g xs c h ∙ closed_text writing (stop_slot (is_second c)) (get_or xs c null) (text writing g (get_or xs c null)) n.2 ∙ name_text writing g (get_or xs c null) n.1 ∙ ap (drop 6) (sym n.0.1) }
+        let h = ltb-true (place c) 4 q in
+        let n = name-end (place c) (get_or es (place c) (Column 0 0)) (get_or xs (place c) null) p z (end_is a (place c) h) y in
+        record { inside = n.0.0; filled = end-part writing g xs c h ∙ closed_text writing (stop_slot (is_second (place c))) (get_or xs (place c) null) (text writing g (get_or xs (place c) null)) n.2 ∙ name_text writing g (get_or xs (place c) null) n.1 ∙ ap (drop 6) (sym n.0.1) }
     go false q y = never (cc)
 
--- one code more of a template
-fill_next : (f : ℕ → List ℕ) (codes : List ℕ) (n k : ℕ) → k < n → k < length codes → fill f (spelt (take (k + 1) (take n codes))) ≡ fill f (spelt (take k (take n codes))) ++ fill f (part_of (get_or codes k 0))
+-- one part more of a template
+fill_next : (f : ℕ → List ℕ) (ps : List Part) (k : ℕ) (d : Part) → k < length ps → fill f (spelt (take (k + 1) ps)) ≡ fill f (spelt (take k ps)) ++ fill f (part_of (get_or ps k d))
 unfolding spelt
-fill_next f codes n k h l =
-    let a : take (k + 1) (take n codes) ≡ take (k + 1) codes = take-take (k + 1) n codes (omega arith) in
-    let b : take k (take n codes) ≡ take k codes = take-take k n codes (omega arith) in
-    ap (λ (x : List ℕ). fill f (spelt x)) (a ∙ ap (λ (j : ℕ). take j codes) (add-one k) ∙ take-suc codes k 0 l)
-    ∙ ap (fill f) (spelt-append (take k codes) (get_or codes k 0 ∷ []) ∙ ap (λ (x : List ℕ). spelt (take k codes) ++ x) (append-nil (part_of (get_or codes k 0))))
-    ∙ fill-append f (spelt (take k codes)) (part_of (get_or codes k 0))
-    ∙ ap (λ (x : List ℕ). fill f (spelt x) ++ fill f (part_of (get_or codes k 0))) (sym b)
+fill_next f ps k d l =
+    ap (λ (x : List Part). fill f (spelt x)) (ap (λ (j : ℕ). take j ps) (add-one k) ∙ take-suc ps k d l)
+    ∙ ap (fill f) (spelt-append (take k ps) (get_or ps k d ∷ []) ∙ ap (λ (x : List ℕ). spelt (take k ps) ++ x) (append-nil (part_of (get_or ps k d))))
+    ∙ fill-append f (spelt (take k ps)) (part_of (get_or ps k d))
 
 -- Nodes with operands.
 
@@ -484,18 +480,18 @@ fourteen s (function y ts) k e q a b = absurd (let w = kind-whole s (function y 
 fourteen s (array ts) k e q a b = absurd (let w = kind-whole s (array ts) e in let v : ⊥ = omega arith in v)
 fourteen s (interval x y) k e q a b = absurd (let w = kind-whole s (interval x y) e in let v : ⊥ = omega arith in v)
 
-module _ (writing : Writing) (g : Settings) {s : List ℕ} {es : List end.End} {xs : List Tree} (a : Are s es xs) (codes : List ℕ) (n k : ℕ) (h : k < n) (l : k < length codes) {at here r : ℕ} {l₀ out m : List ℕ} (laid : Lays count_limit at (fill (slot writing g xs) (spelt (take k (take n codes)))) l₀ out here) where
-  pub plain_step : (f : flat.Flat) → piece_of (get_or codes k 0) (get_or es (get_or codes k 0 % 4) (Column 0 0)) ≡ pieces.Plain f → Lays count_limit here (flat_text writing f) out m r → Lays count_limit at (fill (slot writing g xs) (spelt (take (k + 1) (take n codes)))) l₀ m r
-  plain_step f e x = lays_of (sym (fill_next (slot writing g xs) codes n k h l ∙ ap (λ (y : List ℕ). fill (slot writing g xs) (spelt (take k (take n codes))) ++ y) (plain_piece writing g a (get_or codes k 0) f e))) (lays_then laid x)
+next : (f : ℕ → List ℕ) (ps : List Part) (k : ℕ) (d : Part) → k < length ps → (b : List ℕ) → fill f (part_of (get_or ps k d)) ≡ b → fill f (spelt (take k ps)) ++ b ≡ fill f (spelt (take (k + 1) ps))
+next f ps k d l b e = sym (fill_next f ps k d l ∙ ap (λ (y : List ℕ). fill f (spelt (take k ps)) ++ y) e)
 
-  pub node-step : (p z : ℕ) (e : piece_of (get_or codes k 0) (get_or es (get_or codes k 0 % 4) (Column 0 0)) ≡ pieces.Node p z) → Lays count_limit here (text writing g (node_piece writing g a (get_or codes k 0) p z e).x) out m r → Lays count_limit at (fill (slot writing g xs) (spelt (take (k + 1) (take n codes)))) l₀ m r
-  node-step p z e x = lays_of (sym (fill_next (slot writing g xs) codes n k h l ∙ ap (λ (y : List ℕ). fill (slot writing g xs) (spelt (take k (take n codes))) ++ y) (node_piece writing g a (get_or codes k 0) p z e).filled)) (lays_then laid x)
+module _ (writing : Writing) (g : Settings) {s : List ℕ} {es : List end.End} {xs : List Tree} (a : Are s es xs) (ps : List Part) (k : ℕ) (d : Part) (l : k < length ps) {at here r : ℕ} {l₀ out m : List ℕ} (laid : Lays count_limit at (fill (slot writing g xs) (spelt (take k ps))) l₀ out here) where
+  pub plain_step : (f : flat.Flat) → piece_of (get_or ps k d) es ≡ pieces.Plain f → Lays count_limit here (flat_text writing f) out m r → Lays count_limit at (fill (slot writing g xs) (spelt (take (k + 1) ps))) l₀ m r
+  plain_step f e x = lays_of (next (slot writing g xs) ps k d l (flat_text writing f) (plain_piece writing g a (get_or ps k d) f e)) (lays_then laid x)
 
-  pub name-step : (p z : ℕ) (e : piece_of (get_or codes k 0) (get_or es (get_or codes k 0 % 4) (Column 0 0)) ≡ pieces.Name p z) → Lays count_limit here (drop 6 (part s p z)) out m r → Lays count_limit at (fill (slot writing g xs) (spelt (take (k + 1) (take n codes)))) l₀ m r
-  name-step p z e x = lays_of (sym (fill_next (slot writing g xs) codes n k h l ∙ ap (λ (y : List ℕ). fill (slot writing g xs) (spelt (take k (take n codes))) ++ y) (name_piece writing g a (get_or codes k 0) p z e).filled)) (lays_then laid x)
+  pub node-step : (p z : ℕ) (e : piece_of (get_or ps k d) es ≡ pieces.Node p z) → Lays count_limit here (text writing g (node_piece writing g a (get_or ps k d) p z e).x) out m r → Lays count_limit at (fill (slot writing g xs) (spelt (take (k + 1) ps))) l₀ m r
+  node-step p z e x = lays_of (next (slot writing g xs) ps k d l (text writing g (node_piece writing g a (get_or ps k d) p z e).x) (node_piece writing g a (get_or ps k d) p z e).filled) (lays_then laid x)
 
-pub all_filled : (f : ℕ → List ℕ) (codes : List ℕ) (n k : ℕ) → n ≤ k → fill f (spelt (take k (take n codes))) ≡ fill f (spelt (take n codes))
-all_filled f codes n k h = ap (λ (x : List ℕ). fill f (spelt x)) (take_all k (take n codes) (rw length-take (omega arith)))
+  pub name-step : (p z : ℕ) (e : piece_of (get_or ps k d) es ≡ pieces.Name p z) → Lays count_limit here (drop 6 (part s p z)) out m r → Lays count_limit at (fill (slot writing g xs) (spelt (take (k + 1) ps))) l₀ m r
+  name-step p z e x = lays_of (next (slot writing g xs) ps k d l (drop 6 (part s p z)) (name_piece writing g a (get_or ps k d) p z e).filled) (lays_then laid x)
 
 -- the items are shorter than their node
 rest-length : (s : List ℕ) (to : ℕ) → to ≤ length s → length (take (length s - to) (drop to s)) ≡ length s - to

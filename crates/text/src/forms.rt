@@ -15,12 +15,10 @@ ghost use Rattle.tree.specs.Limits.{tree_limit};
 ghost use Rattle.tree.specs.Kinds.{ARRAY};
 ghost use Rattle.class.specs.ClassWords.{between_number, sign_number, spatial_number};
 
+use crate::classes::{is_array, is_between, is_like, is_nullable, is_sign, is_spatial};
 use crate::leaves::name_of;
-use crate::records::{NAME, OPERAND, TWIN_OPERAND, is_literal_or_id, least, within};
-use op::{
-    A_EQUALS, A_OVERLAPS, ACCENT_I, CASE_I, IS_BETWEEN, IS_NOT_BETWEEN, IS_NOT_LIKE, IS_NOT_NULL,
-    IS_NULL, MINUS, NEG, S_CONTAINS, S_INTERSECTS, op_of,
-};
+use crate::records::{NAME, OPERAND, TWIN_OPERAND, is_literal_or_id};
+use op::{ACCENT_I, CASE_I, S_INTERSECTS, op_of};
 use record::{BODY, KIND};
 use settings::PRECISION_AT;
 use tree::{ARRAY, MONADIC};
@@ -58,97 +56,53 @@ pub(crate) fn put_infix(a: bool, op: usize, b: bool, out: &mut [u8], at: usize) 
     emit::put_all(&[b") ", word, b" ("], out, at)
 }
 
-// An operator of two sides stands between them unless it is spatial or BETWEEN. Most stand before the spatial ones in the enum.
+// An operator of two sides stands between them unless it is spatial or BETWEEN.
+#[tactic(auto, using(crate::proofs::Tests::tests))]
 pub(crate) fn is_infix(op: usize) -> bool
     ensures { result ≡ negated (either (spatial_number op) (between_number op)) }
 {
-    if op < S_INTERSECTS {
-        return true;
-    }
-    if op <= S_CONTAINS {
-        return false;
-    }
-    if op < IS_BETWEEN {
-        return true;
-    }
-    if op <= IS_NOT_BETWEEN {
-        return false;
-    }
-    true
+    // Most operators stand before these in the enum: without the first test the walk took 1 % more instructions.
+    op < S_INTERSECTS || !is_spatial(op) && !is_between(op)
 }
 
 // The left side is written without brackets.
+#[tactic(auto, using(crate::proofs::Tests::tests), unfolding(crate::specs::FormWords::left_bare))]
 pub(crate) fn is_left_bare(op: usize, x: &[u8]) -> bool
     requires { length x.now ≤ tree_limit }
     ensures { (t : Tree) → x.now ≡ encode t → result ≡ left_bare op t }
 {
-    // Most operators stand before these in the enum.
-    if op < A_EQUALS {
-        return is_literal_or_id(x);
-    }
-    if op <= A_OVERLAPS {
-        return true;
-    }
-    is_literal_or_id(x)
+    is_array(op) || is_literal_or_id(x)
 }
 
 // The right side is written without brackets.
+#[tactic(auto, using(crate::proofs::Tests::tests), unfolding(crate::specs::FormWords::right_bare))]
 pub(crate) fn is_right_bare(op: usize, y: &[u8]) -> bool
     requires { length y.now ≤ tree_limit }
     ensures { (u : Tree) → y.now ≡ encode u → result ≡ right_bare op u }
 {
-    // Most operators stand before these in the enum.
-    if op < A_EQUALS {
-        return is_literal_or_id(y);
-    }
-    if op <= A_OVERLAPS {
-        return true;
-    }
-    if op <= IS_NOT_LIKE {
-        return false;
-    }
-    is_literal_or_id(y)
+    is_array(op) || !is_like(op) && is_literal_or_id(y)
 }
 
 // CaseI over AccentI, or AccentI over CaseI.
+#[tactic(auto, using(crate::proofs::Tests::tests))]
 pub(crate) fn is_twin(op: usize, kind: usize, inner: usize) -> bool
     ensures { result ≡ twin_of op kind inner }
 {
-    if within(IS_NULL, op, IS_NOT_NULL) {
+    if is_nullable(op) || is_sign(op) {
         return false;
     }
-    if op == NEG {
-        return false;
-    }
-    if op == MINUS {
-        return false;
-    }
-    if kind == MONADIC {
-        if op == CASE_I {
-            return inner == ACCENT_I;
-        }
-        return inner == CASE_I;
-    }
-    false
-}
-
-fn is_neg_or_minus(op: usize) -> bool
-    ensures { result ≡ sign_number op }
-{
-    if op == NEG {
-        return true;
-    }
-    op == MINUS
+    let other = if op == CASE_I { ACCENT_I } else { CASE_I };
+    kind == MONADIC && inner == other
 }
 
 // What stands before the operand of a node that has one, which is bare or in brackets.
 pub(crate) fn put_before(op: usize, bare: bool, out: &mut [u8], at: usize) -> usize
     ensures { (o : Op) → op ≡ op_number o → Lays count_limit at (before_text op (word o) bare) out.old out.new result }
 {
-    if within(IS_NULL, op, IS_NOT_NULL) {
+    if is_nullable(op) {
         return emit::put_either(bare, b"", b"(", out, at);
     }
-    if is_neg_or_minus(op) {
+    if is_sign(op) {
         let word = put_word(op, out, at);
         return emit::put_either(bare, b" ", b" (", out, word);
     }
@@ -166,11 +120,11 @@ pub(crate) fn put_behind(
 ) -> usize
     ensures { (o : Op) → op ≡ op_number o → Lays count_limit at (behind_text (settings_in set.now) op (word o) bare twin) out.old out.new result }
 {
-    if within(IS_NULL, op, IS_NOT_NULL) {
+    if is_nullable(op) {
         let word = emit::put_either(bare, b" ", b") ", out, at);
         return put_word(op, out, word);
     }
-    if is_neg_or_minus(op) {
+    if is_sign(op) {
         return emit::put_either(bare, b"", b")", out, at);
     }
     let name = emit::put(b" COLLATE ", out, at);
@@ -181,21 +135,27 @@ pub(crate) fn put_behind(
 pub(crate) fn operand_from(twin: bool, n: usize) -> usize
     ensures { result ≡ pick twin (min 16 n) 8 }
 {
-    if twin {
-        return least(TWIN_OPERAND, n);
+    // With `min` the walk took up to 0.8 % more instructions.
+    if !twin {
+        OPERAND
+    } else if TWIN_OPERAND <= n {
+        TWIN_OPERAND
+    } else {
+        n
     }
-    OPERAND
 }
 
 // Where BETWEEN's bounds start: at the first item of the array at m, or at the end if none stands there.
+#[tactic(auto, using(crate::proofs::Tests::tests))]
 pub(crate) fn bounds_at(s: &[u8], m: usize) -> usize
     requires { (length s.now ≤ tree_limit) × (m ≤ length s.now) }
     ensures { result ≡ pick (eqb (le16 s.now (m + 4)) ARRAY) (min (m + 6) (length s.now)) (length s.now) }
 {
     if record::word_at(s, m + KIND) == ARRAY {
-        return least(m + BODY, s.len());
+        (m + BODY).min(s.len())
+    } else {
+        s.len()
     }
-    s.len()
 }
 
 // 1E-p
@@ -218,22 +178,22 @@ pub(crate) fn put_reduced(reduced: bool, set: &[u8], out: &mut [u8], at: usize) 
     emit::ended(at, 0)
 }
 
+#[tactic(auto, using(crate::proofs::Tests::tests))]
 pub(crate) fn put_comma(p: usize, out: &mut [u8], at: usize) -> usize
     ensures { Lays count_limit at (pick (eqb p 0) [] (bytes ", ")) out.old out.new result }
 {
-    if p == 0 {
-        return emit::ended(at, 0);
-    }
-    emit::put(b", ", out, at)
+    emit::put_either(p == 0, b"", b", ", out, at)
 }
 
 // Where a list's items start: after a Function's name, or at an Array's body.
+#[tactic(auto, using(crate::proofs::Tests::tests))]
 pub(crate) fn items_at(s: &[u8], kind: usize) -> usize
     requires { 6 ≤ length s.now }
     ensures { (6 ≤ result) × (result ≤ length s.now) × (result ≡ min (pick (eqb kind ARRAY) 6 (7 + get_or s.now 6 0)) (length s.now)) }
 {
     if kind == ARRAY {
-        return BODY;
+        BODY
+    } else {
+        (NAME + record::byte_at(s, BODY)).min(s.len())
     }
-    least(NAME + record::byte_at(s, BODY), s.len())
 }

@@ -9,7 +9,7 @@ ghost use Rattle.tree.specs.Accepted.{settings_in};
 ghost use Rattle.string.specs.Quote.{doubled};
 ghost use Rattle.literal.specs.Literal.{date_text, timestamp_text, quoted};
 
-use crate::records::{least, rest};
+use crate::records::rest;
 use instant::{Clock, Date};
 use literal::Writing;
 use record::{BODY, KIND};
@@ -39,22 +39,22 @@ fn name_at(set: &[u8], p: usize) -> &[u8]
     ensures { result.now ≡ name_at set.now p }
 {
     let a = p + 1;
-    let from = least(a, set.len());
-    let to = least(a + record::byte_at(set, p), set.len());
+    let from = a.min(set.len());
+    let to = (a + record::byte_at(set, p)).min(set.len());
     &set[from..to]
 }
 
 // The name of the collation that a Str's flags ask for (`qstr_to_sql`).
+#[tactic(auto, using(crate::proofs::Tests::tests))]
 pub(crate) fn name_of(flags: usize, set: &[u8]) -> &[u8]
     ensures { result.now ≡ name_of (settings_in set.now) flags }
 {
-    if flags == CI {
-        return name_at(set, CI_AT);
-    }
-    if flags == AI {
-        return name_at(set, settings::ai_at(set));
-    }
-    name_at(set, settings::cai_at(set))
+    let place = match flags {
+        CI => CI_AT,
+        AI => settings::ai_at(set),
+        _ => settings::cai_at(set),
+    };
+    name_at(set, place)
 }
 
 // A text in quotes, its apostrophes doubled, with the collation that its flags ask for.

@@ -13,6 +13,7 @@ ghost use Rattle.tree.specs.Limits.{tree_limit};
 ghost use Rattle.tree.specs.Kinds.{DYADIC, MONADIC};
 ghost use Rattle.class.specs.ClassWords.{temporal_number, spatial_number, between_number};
 
+use crate::classes::is_spatial;
 use crate::ends::{is_temporal, template_of, temporal_ends};
 use crate::forms::{
     bounds_at, is_infix, is_left_bare, is_right_bare, is_twin, items_at, operand_from, put_before,
@@ -20,14 +21,12 @@ use crate::forms::{
 };
 use crate::leaves::{put_date, put_leaf};
 use crate::records::{
-    NAME, OPERAND, OPERAND_BODY, OPERAND_KIND, end_of, inside, is_kind, is_literal_or_id, least,
-    rest, within,
+    NAME, OPERAND, OPERAND_BODY, OPERAND_KIND, end_of, inside, is_kind, is_literal_or_id, rest,
 };
 use class::reduce_precision;
 use emit::COUNT_LIMIT;
 use literal::Writing;
-use op::{S_CONTAINS, S_INTERSECTS};
-use part::{ENDS, Piece, piece_of, put_flat};
+use part::{Piece, piece_of, put_flat};
 use record::{BODY, KIND};
 use tree::{ARRAY, DATE, FUNCTION, ID, MONADIC};
 
@@ -189,7 +188,7 @@ fn write_others(
     if is_infix(op) {
         return write_infix(s, op, m, set, writing, out, at);
     }
-    if within(S_INTERSECTS, op, S_CONTAINS) {
+    if is_spatial(op) {
         return write_spatial(s, op, m, set, writing, out, at);
     }
     write_between(s, op, m, set, writing, out, at)
@@ -220,18 +219,11 @@ fn write_operands(s: &[u8], set: &[u8], writing: Writing, out: &mut [u8], at: us
         return write_others(s, kind, op, m, set, writing, out, at);
     }
     let e = temporal_ends(s, m);
-    let t = template_of(s, op, m, e);
-    let codes = t.codes;
-    let n = t.len;
+    let t = template_of(s, op, m, &e);
+    let parts = t.as_slice();
     let mut here = emit::ended(at, 0);
-    let mut k = 0;
-    while k < n {
-        let code = codes[k];
-        k += 1;
-        let j = (code % ENDS) as usize;
-        let end = e[j];
-        let piece = piece_of(code, end);
-        match piece {
+    for &part in parts {
+        match piece_of(part, &e) {
             Piece::Plain(flat) => {
                 here = put_flat(flat, writing, out, here);
             }
@@ -285,8 +277,7 @@ pub(crate) fn to_sql_impl(
         return write_operands(s, set, writing, out, at);
     }
     let to = items_at(s, kind);
-    let from = least(NAME, to);
-    let name = emit::put(&s[from..to], out, at);
+    let name = emit::put(&s[NAME.min(to)..to], out, at);
     let open = emit::put(b"(", out, name);
     let here = write_items(&s[to..], set, writing, out, open);
     emit::put(b")", out, here)

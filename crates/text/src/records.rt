@@ -24,24 +24,11 @@ pub(crate) const TWIN_OPERAND: usize = OPERAND + OPERAND;
 // Where a Function's name starts, past its length byte.
 pub(crate) const NAME: usize = 7;
 
-pub(crate) fn least(a: usize, b: usize) -> usize
-    ensures { result ≡ min a b }
-{
-    if a <= b { a } else { b }
-}
-
 // What stands in s after its first n bytes.
 pub(crate) fn rest(s: &[u8], n: usize) -> &[u8]
     ensures { result.now ≡ drop n s.now }
 {
-    let from = least(n, s.len());
-    &s[from..]
-}
-
-pub(crate) fn within(lo: usize, n: usize, hi: usize) -> bool
-    ensures { result ≡ between lo n hi }
-{
-    if lo <= n { n <= hi } else { false }
+    &s[n.min(s.len())..]
 }
 
 // Where the record at p ends, kept inside s. Its length counts from its kind on.
@@ -71,16 +58,22 @@ pub(crate) fn inside(a: usize, z: usize, n: usize) -> bool
     ensures yes { result ≡ true → (0 < a) × (a ≤ z) × (z ≤ n) }
     ensures no { result ≡ false → 0 < a → a ≤ z → z ≤ n → ⊥ }
 {
-    if a == 0 {
-        return false;
-    }
-    if z < a {
-        return false;
-    }
-    if n < z {
-        return false;
-    }
-    true
+    0 < a && a <= z && z <= n
+}
+
+// A kind that is literal by itself.
+#[tactic(auto, using(crate::proofs::Tests::tests))]
+fn is_value(kind: usize) -> bool
+    ensures { result ≡ between 2 kind 7 }
+{
+    matches!(kind, BOOL..=SPATIAL)
+}
+
+#[tactic(auto, using(crate::proofs::Tests::tests))]
+fn is_value_or_id(kind: usize) -> bool
+    ensures { result ≡ between 2 kind 8 }
+{
+    matches!(kind, BOOL..=ID)
 }
 
 // `is_literal` without recursion: the records of nested arrays lie one after the other.
@@ -97,14 +90,10 @@ fn is_literal(s: &[u8]) -> bool
         let kind = record::word_at(s, p + KIND);
         if kind == ARRAY {
             p += BODY;
-        } else {
-            if kind < BOOL {
-                return false;
-            }
-            if SPATIAL < kind {
-                return false;
-            }
+        } else if is_value(kind) {
             p = end_of(s, p);
+        } else {
+            return false;
         }
     }
     true
@@ -117,7 +106,8 @@ pub(crate) fn is_literal_or_id(s: &[u8]) -> bool
     let kind = record::word_at(s, KIND);
     // An array is literal as its items are; of all others the kind says.
     if kind == ARRAY {
-        return is_literal(s);
+        is_literal(s)
+    } else {
+        is_value_or_id(kind)
     }
-    within(BOOL, kind, ID)
 }

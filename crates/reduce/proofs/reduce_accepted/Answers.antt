@@ -6,11 +6,5 @@ use Rattle.reduce.proofs.reduce_accepted.Goals as goal
 pub reduce_in-requires : goal.reduce_in-requires
 reduce_in-requires c = room-placed 1024 c.requires.0 c.if-tree-le-SMALL.true (omega arith)
 
-pub returns-then-tree-le-SMALL : goal.returns-then-tree-le-SMALL
-returns-then-tree-le-SMALL c = c.reduce_in.ensures
-
 pub reduce_in-requires-2 : goal.reduce_in-requires-2
 reduce_in-requires-2 c = room-placed 32768 c.requires.0 c.requires.1 (omega arith)
-
-pub returns : goal.returns
-returns c = c.reduce_in-2.ensures

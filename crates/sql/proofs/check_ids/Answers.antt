@@ -1,17 +1,16 @@
-use native.Mathlib.Omega.{arith}
-use mathlib.Core.Path.{sym, ◌∙◌}
-use borrow.Author.Tests.{lt-ltb}
+-- Which of the ends are columns says which guard it is.
+use Rattle.std.proofs.Common.{sym}
 use Rattle.sql.specs.Template.{check_ids_text}
 use Rattle.sql.proofs.check_ids.Goals as goal
 
-pub returns-then-is_column-2 : goal.returns-then-is_column-2
+pub returns-in-true-true : goal.returns-in-true-true
 unfolding check_ids_text
-returns-then-is_column-2 c = rw (lt-ltb c.args.i 4 (omega arith), lt-ltb c.args.j 4 (omega arith), sym c.is_column.ensures ∙ c.if-is_column.true, sym c.is_column-then-is_column.ensures ∙ c.if-is_column-2.true) (c.guarded_both.ensures.0, omega arith)
+returns-in-true-true c = rw (sym c.in-true-true.ensures, sym c.in-true-true.ensures') c.guarded_both.ensures
 
-pub returns-else-is_column-2 : goal.returns-else-is_column-2
+pub returns-in-true-false : goal.returns-in-true-false
 unfolding check_ids_text
-returns-else-is_column-2 c = rw (lt-ltb c.args.i 4 (omega arith), lt-ltb c.args.j 4 (omega arith), sym c.is_column.ensures ∙ c.if-is_column.true, sym c.is_column-then-is_column.ensures ∙ c.if-is_column-2.false) (c.guarded.ensures.0, omega arith)
+returns-in-true-false c = rw (sym c.in-true-false.ensures, sym c.in-true-false.ensures') c.guarded.ensures
 
-pub returns-else-is_column : goal.returns-else-is_column
+pub returns-in-false-default : goal.returns-in-false-default
 unfolding check_ids_text
-returns-else-is_column c = rw (lt-ltb c.args.i 4 (omega arith), sym c.is_column.ensures ∙ c.if-is_column.false) (c.check_id.ensures.0, omega arith)
+returns-in-false-default c = rw (sym c.in-false-default.ensures) c.check_id.ensures

@@ -1,13 +1,9 @@
-use native.Mathlib.Omega.{arith}
-use mathlib.Core.Path.{◌∙◌}
-use Rattle.sql.proofs.Laws.{then, two_fronts}
-use Rattle.sql.specs.Template.{spelt, part_of, parts, guarded_both_text}
+-- The parts spell the guard around the base, which is its three parts.
+use Rattle.std.proofs.Common.{rules, arith, ◌∙◌, ap, List}
+use Rattle.sql.specs.declared.Part.{Part}
+use Rattle.sql.specs.Template.{spelt, part_of, guarded_text, guarded_both_text}
+use Rattle.sql.proofs.Laws.{two_guarded, three}
 use Rattle.sql.proofs.guarded_both.Goals as goal
 
--- no need slice-aggregate-push
--- slice-aggregate-push : tie.Need-slice-aggregate-push
--- slice-aggregate-push c = search rules
-
 pub returns : goal.returns
-unfolding guarded_both_text spelt part_of parts
-returns c = (then _ c.push-2.ensures.0 (then _ c.push.ensures.0 (c.sql.ensures.0 ∙ two_fronts c.args.i c.args.j (omega arith) (omega arith))), omega arith)
+returns c = (ap spelt c.sql.ensures ∙ two_guarded _ _ _ c.args.i c.args.j ∙ ap (λ (l : List Part). guarded_both_text (part_of c.args.i) (part_of c.args.j) (spelt l)) (three c.args.base _ _ _ (search (rules, c.well_formed))), rw c.sql.ensures (omega arith))

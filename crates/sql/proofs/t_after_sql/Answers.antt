@@ -1,40 +1,23 @@
-use native.Mathlib.Omega.{arith}
-use mathlib.Core.Path.{◌∙◌}
-use Rattle.sql.proofs.Laws.{one_guard, two_guards}
-use Rattle.operand.specs.Ends.{columns}
-use Rattle.sql.specs.Condition.{test, gt, print}
-use Rattle.sql.specs.Template.{spelt, part_of, parts}
+-- What the guard spells is the condition's template, in each case.
+use Rattle.std.proofs.Common.{◌∙◌, ap}
+use Rattle.sql.specs.Condition.{test, gt, lt, print}
+use Rattle.sql.specs.Template.{spelt, part_of}
 use Rattle.sql.specs.Translators.{t_after}
+use Rattle.sql.proofs.Laws.{one_guard, two_guards}
 use Rattle.sql.proofs.t_after_sql.Goals as goal
 
--- no need slice-aggregate-check-ids
--- slice-aggregate-check-ids : tie.Need-slice-aggregate-check-ids
--- slice-aggregate-check-ids c = search rules
+pub returns-in-true-true : goal.returns-in-true-true
+unfolding t_after print spelt part_of
+returns-in-true-true c = rw (c.in-true-true.is-0, c.in-true-true.is-1) (c.check_ids.ensures.0 ∙ two_guards _ 1 2 (test 0 gt 3))
 
-pub returns-then-b : goal.returns-then-b
-unfolding t_after print spelt part_of parts
-returns-then-b c = rw (c.if-a.true, c.if-b.true) (c.check_ids.ensures.0 ∙ two_guards (columns c.args.e) 1 2 (test 0 gt 3), omega arith)
+pub returns-in-true-false : goal.returns-in-true-false
+unfolding t_after print spelt part_of
+returns-in-true-false c = rw (c.in-true-false.is-0, c.in-true-false.is-1) (c.check_id.ensures.0 ∙ one_guard _ 1 (test 0 gt 2))
 
--- no need slice-aggregate-check-id
--- slice-aggregate-check-id : tie.Need-slice-aggregate-check-id
--- slice-aggregate-check-id c = search rules
+pub returns-in-false-true : goal.returns-in-false-true
+unfolding t_after print spelt part_of
+returns-in-false-true c = rw (c.in-false-true.is-0, c.in-false-true.is-1) (c.check_id-in-false-true.ensures.0 ∙ one_guard _ 2 (test 0 gt 3))
 
-pub returns-then-a : goal.returns-then-a
-unfolding t_after print spelt part_of parts
-returns-then-a c = rw (c.if-a.true, c.if-b.false) (c.check_id.ensures.0 ∙ one_guard (columns c.args.e) 1 (test 0 gt 2), omega arith)
-
--- no need slice-aggregate-check-id-2
--- slice-aggregate-check-id-2 : tie.Need-slice-aggregate-check-id-2
--- slice-aggregate-check-id-2 c = search rules
-
-pub returns-then-b-2 : goal.returns-then-b-2
-unfolding t_after print spelt part_of parts
-returns-then-b-2 c = rw (c.if-a.false, c.if-b-2.true) (c.check_id-then-b-2.ensures.0 ∙ one_guard (columns c.args.e) 2 (test 0 gt 3), omega arith)
-
--- no need slice-aggregate-sql
--- slice-aggregate-sql : tie.Need-slice-aggregate-sql
--- slice-aggregate-sql c = search rules
-
-pub returns : goal.returns
-unfolding t_after print spelt part_of parts
-returns c = rw (c.if-a.false, c.if-b-2.false) (c.sql.ensures.0, omega arith)
+pub returns-in-false-false : goal.returns-in-false-false
+unfolding t_after print spelt part_of
+returns-in-false-false c = rw (c.in-false-false.is-0, c.in-false-false.is-1) (ap spelt c.sql.ensures)

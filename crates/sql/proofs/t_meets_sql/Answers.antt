@@ -1,16 +1,11 @@
-use native.Mathlib.Omega.{arith}
-use mathlib.Core.Path.{◌∙◌}
-use Rattle.sql.proofs.Laws.{two_guards}
-use Rattle.operand.specs.Ends.{columns}
+-- What the guard spells is the condition's template.
+use Rattle.std.proofs.Common.{◌∙◌}
 use Rattle.sql.specs.Condition.{test, eq, print}
-use Rattle.sql.specs.Template.{spelt, part_of, parts}
+use Rattle.sql.specs.Template.{spelt, part_of}
 use Rattle.sql.specs.Translators.{t_meets}
+use Rattle.sql.proofs.Laws.{two_guards}
 use Rattle.sql.proofs.t_meets_sql.Goals as goal
 
--- no need slice-aggregate-check-ids
--- slice-aggregate-check-ids : tie.Need-slice-aggregate-check-ids
--- slice-aggregate-check-ids c = search rules
-
 pub returns : goal.returns
-unfolding t_meets print spelt part_of parts
-returns c = (c.check_ids.ensures.0 ∙ two_guards (columns c.args.e) 0 3 (test 1 eq 2), omega arith)
+unfolding t_meets print spelt part_of
+returns c = λ a b. c.check_ids.ensures.0 ∙ two_guards _ 0 3 (test 1 eq 2)

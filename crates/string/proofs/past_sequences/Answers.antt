@@ -8,7 +8,7 @@ use lib.ListN.{get_or}
 use borrow.Author.Tests.{eqb-true, eqb-false}
 use Rattle.prelude.specs.Bytes.{apostrophe}
 use Rattle.string.specs.QuoteLaws.{mark_inside}
-use Rattle.string.proofs.SequenceLaws.{reaches_then, heads_some, heads_none, simple_passes, marks_quoted, other_bytes, pair_passes, bad_told, closed_told, end-told, valid-told}
+use Rattle.string.proofs.SequenceLaws.{reaches_then, simple_passes, marks_quoted, other_bytes, pair_passes, bad_told, closed_told, end-told, valid-told}
 use Rattle.string.proofs.past_sequences.Goals as goal
 
 pub loop-i-init : goal.loop-i-init
@@ -32,20 +32,20 @@ loop-i-smaller-then-b-eq39 c = let e : eqb (get_or c.args.s.now (c.loop-i.i + 1)
 pub loop-i-preserved-then-b-eq39 : goal.loop-i-preserved-then-b-eq39
 loop-i-preserved-then-b-eq39 c = let e : eqb (get_or c.args.s.now (c.loop-i.i + 1) 0) apostrophe ≡ true = sym c.is_doubled.ensures ∙ c.if-not-is_doubled.false in let p = mark_inside c.args.s.now (c.loop-i.i + 1) e in let q = pair_passes c.args.s.now c.loop-i.i p c.if-b-eq39.true (eqb-true _ _ e) in reaches_then c.loop-i.invariant q.0 (λ z. q.1)
 
-pub sequence_at-n-requires : goal.sequence_at-n-requires
-sequence_at-n-requires c = (c.loop-i-test.true, other_bytes _ c.args.quoted (sym c.is_simple.ensures ∙ c.if-is_simple.false) c.if-b-eq39.false)
+pub sequence_at-requires : goal.sequence_at-requires
+sequence_at-requires c = (c.loop-i-test.true, other_bytes _ c.args.quoted (sym c.is_simple.ensures ∙ c.if-is_simple.false) c.if-b-eq39.false)
 
-pub returns-then-n-eq0 : goal.returns-then-n-eq0
-returns-then-n-eq0 c = bad_told c.loop-i.invariant (heads_none c.args.s.now c.loop-i.i c.sequence_at-n.ensures c.if-n-eq0.true) c.loop-i-test.true (other_bytes _ c.args.quoted (sym c.is_simple.ensures ∙ c.if-is_simple.false) c.if-b-eq39.false)
+pub returns-in_default : goal.returns-in_default
+returns-in_default c = bad_told c.loop-i.invariant c.in_default.ensures c.loop-i-test.true (other_bytes _ c.args.quoted (sym c.is_simple.ensures ∙ c.if-is_simple.false) c.if-b-eq39.false)
 
-pub overflow_add-i-else-b-eq39 : goal.overflow_add-i-else-b-eq39
-overflow_add-i-else-b-eq39 c = let h = heads_some c.args.s.now c.loop-i.i _ c.sequence_at-n.ensures c.if-n-eq0.false in omega (arith, h.0.inside)
+pub overflow_add-i-in-Some : goal.overflow_add-i-in-Some
+overflow_add-i-in-Some c = omega (arith, c.in-Some.ensures.1.inside)
 
 pub loop-i-smaller : goal.loop-i-smaller
-loop-i-smaller c = let h = heads_some c.args.s.now c.loop-i.i _ c.sequence_at-n.ensures c.if-n-eq0.false in omega (arith, h.0.inside)
+loop-i-smaller c = omega (arith, c.in-Some.ensures.0, c.in-Some.ensures.1.inside)
 
 pub loop-i-preserved : goal.loop-i-preserved
-loop-i-preserved c = let h = heads_some c.args.s.now c.loop-i.i _ c.sequence_at-n.ensures c.if-n-eq0.false in reaches_then c.loop-i.invariant h.0 (λ q. h.1)
+loop-i-preserved c = reaches_then c.loop-i.invariant c.in-Some.ensures.1 (λ q. c.in-Some.ensures.2)
 
 pub returns-then-quoted : goal.returns-then-quoted
 returns-then-quoted c = end-told c.loop-i.invariant c.if-quoted.true c.loop-i-test.false

@@ -1,16 +1,10 @@
--- `string::past_simple` meets its contract: the loop keeps that the string is read up to i.
-use mathlib.Core.Path.{sym, ◌∙◌}
-use Rattle.string.proofs.SequenceLaws.{reaches_start, reaches_then, simple_passes}
+-- `string::past_simple` meets its contract: all bytes before the first that the search stops at are simple.
+use Rattle.std.proofs.Common.{rules, tests}
+use Rattle.std.proofs.lemmas.Iterator.{YieldsList-from_slice, IsFirst-from_position}
+use Rattle.string.proofs.SequenceLaws.{Simple, reaches_first}
 use Rattle.string.proofs.past_simple.Goals as goal
 
-pub loop-i-init : goal.loop-i-init
-loop-i-init c = reaches_start
-
-pub returns-then-not-is_simple : goal.returns-then-not-is_simple
-returns-then-not-is_simple c = c.loop-i.invariant
-
-pub loop-i-preserved : goal.loop-i-preserved
-loop-i-preserved c = let p = simple_passes _ _ c.loop-i-test.true _ (sym c.is_simple.ensures ∙ c.if-not-is_simple.false) in reaches_then c.loop-i.invariant p.0 p.1
-
 pub returns : goal.returns
-returns c = c.loop-i.invariant
+returns c =
+    let first = IsFirst-from_position c.position.new.self _ _ (λ _. Unit {0}) (Simple c.args.quoted c.args.s.now) c.position.ensures.ran (YieldsList-from_slice c.args.s.now cc) (λ x q k. tt) (λ x q k. search (rules, tests)) in
+    rw c.unwrap_or.ensures (reaches_first c.args.quoted c.args.s.now _ first)

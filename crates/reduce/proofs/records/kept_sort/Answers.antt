@@ -1,16 +1,12 @@
--- The tests on the way are those of the definition.
-use borrow.Author.Tests.{eq-eqb, ne_eqb}
-use Rattle.reduce.specs.WalkWords.{kept_sort}
+-- A Monadic's sort is by its operator alone.
+use Rattle.reduce.proofs.TurnLaws.{kept_case, kept_accent, kept_other}
 use Rattle.reduce.proofs.records.kept_sort.Goals as goal
 
-pub returns-then-op-eq-CASE_I : goal.returns-then-op-eq-CASE_I
-unfolding kept_sort
-returns-then-op-eq-CASE_I c = simp (eq-eqb _ _ c.if-op-eq-CASE_I.true)
+pub returns-in-CaseI : goal.returns-in-CaseI
+returns-in-CaseI c = λ v. kept_case v c.in-CaseI.is
 
-pub returns-then-op-eq-ACCENT_I : goal.returns-then-op-eq-ACCENT_I
-unfolding kept_sort
-returns-then-op-eq-ACCENT_I c = simp (ne_eqb _ _ c.if-op-eq-CASE_I.false, eq-eqb _ _ c.if-op-eq-ACCENT_I.true)
+pub returns-in-AccentI : goal.returns-in-AccentI
+returns-in-AccentI c = λ v. kept_accent v c.in-AccentI.is
 
-pub returns : goal.returns
-unfolding kept_sort
-returns c = simp (ne_eqb _ _ c.if-op-eq-CASE_I.false, ne_eqb _ _ c.if-op-eq-ACCENT_I.false)
+pub returns-in_default : goal.returns-in_default
+returns-in_default c = λ v. kept_other v c.in_default.not-CaseI c.in_default.not-AccentI

@@ -6,7 +6,7 @@ use Rattle.reduce.proofs.records.put_str.Goals as goal
 
 pub returns : goal.returns
 returns c =
-    λ f x e h. str_written f _ _ x _ _ e h c.low.ensures
+    λ f x e. str_written f _ x _ _ e
     c.requires.1
     c.requires.2
     (puts_of (simp append-nil) c.put_all-end.ensures)

@@ -1,37 +1,21 @@
 -- The cycle of the walk. The measure is four times the length of the record, and a rank: an operand and a second operand, the nodes, any record, records
 use native.Mathlib.Omega.{arith}
-use mathlib.Core.Path.{refl, sym, ◌∙◌}
+use mathlib.Core.Path.{refl, sym, ap, ◌∙◌}
 use lib.ListN.{length}
 use Prim.Native.Nat.{◌+◌}
 use Rattle.reduce.proofs.NodeLaws.{part_length}
-use Rattle.reduce.proofs.ChainLaws.{below_length}
+use Rattle.std.specs.Prelude.{Err}
+use Rattle.std.proofs.lemmas.Result.{err_from_is_err_and}
+use Rattle.reduce.proofs.ChainLaws.{below_length, one_operated}
 use Rattle.reduce.proofs.StepLaws as step
 use Rattle.reduce.proofs.ItemLaws as item
 use Rattle.reduce.proofs.walk.+folds.Goals as goal
 
-pub fold-fold_leaf-requires : goal.fold-fold_leaf-requires
-fold-fold_leaf-requires t c = c.requires
-
 pub fold-returns-then-kind-lt-MONADIC : goal.fold-returns-then-kind-lt-MONADIC
 fold-returns-then-kind-lt-MONADIC t c = λ u n e g. c.fold_leaf.ensures u n e g c.word_at-kind.ensures.0 c.if-kind-lt-MONADIC.true
 
-pub fold-fold_monadic-requires : goal.fold-fold_monadic-requires
-fold-fold_monadic-requires t c = (let m = c.decreases in omega arith, (c.requires, sym c.word_at-kind.ensures.0 ∙ c.if-kind-eq-MONADIC.true))
-
-pub fold-returns-then-kind-eq-MONADIC : goal.fold-returns-then-kind-eq-MONADIC
-fold-returns-then-kind-eq-MONADIC t c = c.fold_monadic.ensures
-
-pub fold-fold_dyadic-requires : goal.fold-fold_dyadic-requires
-fold-fold_dyadic-requires t c = (let m = c.decreases in omega arith, (c.requires, sym c.word_at-kind.ensures.0 ∙ c.if-kind-eq-DYADIC.true))
-
-pub fold-returns-then-kind-eq-DYADIC : goal.fold-returns-then-kind-eq-DYADIC
-fold-returns-then-kind-eq-DYADIC t c = c.fold_dyadic.ensures
-
-pub fold-fold_items-requires : goal.fold-fold_items-requires
-fold-fold_items-requires t c = (let m = c.decreases in omega arith, (c.requires, c.word_at-kind.ensures.0, omega (arith, c.if-kind-lt-MONADIC.false, c.if-kind-eq-MONADIC.false, c.if-kind-eq-DYADIC.false)))
-
-pub fold-returns : goal.fold-returns
-fold-returns t c = c.fold_items.ensures
+pub fold_dyadic-op_at-op-requires : goal.fold_dyadic-op_at-op-requires
+fold_dyadic-op_at-op-requires t c = step.two_operated c.args.s.now c.requires.0.of c.requires.1
 
 pub fold_dyadic-overflow_add-m-2 : goal.fold_dyadic-overflow_add-m-2
 fold_dyadic-overflow_add-m-2 t c = let q = step.middle_of c.args.s.now c.args.at _ c.args.room.now c.requires.0 c.requires.1 c.dword_at.ensures.0 in omega (arith, q.0)
@@ -39,20 +23,29 @@ fold_dyadic-overflow_add-m-2 t c = let q = step.middle_of c.args.s.now c.args.at
 pub fold_dyadic-slice_bounds-fold-end : goal.fold_dyadic-slice_bounds-fold-end
 fold_dyadic-slice_bounds-fold-end t c = let q = step.middle_of c.args.s.now c.args.at _ c.args.room.now c.requires.0 c.requires.1 c.dword_at.ensures.0 in omega (arith, q.1)
 
-pub fold_dyadic-overflow_add-at : goal.fold_dyadic-overflow_add-at
-fold_dyadic-overflow_add-at t c = omega (arith, c.requires.0.fits, c.requires.0.small)
-
 pub fold_dyadic-fold-requires : goal.fold_dyadic-fold-requires
 fold_dyadic-fold-requires t c = (let q = step.middle_of c.args.s.now c.args.at _ c.args.room.now c.requires.0 c.requires.1 c.dword_at.ensures.0 in let m = c.decreases in let h = part_length c.args.s.now 8 (12 + c.dword_at.result) (omega arith) (omega (arith, q.1)) in omega (arith, q.1), step.first-placed c.args.s.now c.args.at _ c.args.room.now c.requires.0 c.requires.1 c.dword_at.ensures.0)
 
-pub fold_dyadic-fold_second-requires : goal.fold_dyadic-fold_second-requires
-fold_dyadic-fold_second-requires t c = (let m = c.decreases in omega arith, step.second_of c.args.s.now c.args.at _ c.requires.0 c.requires.1 c.dword_at.ensures.0 c.fold.ensures c.in-Done.is)
+pub fold_dyadic-returns-in_err-a : goal.fold_dyadic-returns-in_err-a
+fold_dyadic-returns-in_err-a t c = let p = err_from_is_err_and c.from_residual.result c.from_residual.ensures.1 in step.dyadic_fails c.args.s.now c.args.at _ c.requires.0 c.requires.1 c.dword_at.ensures.0 c.in_err-a.ensures (p.1 ∙ ap Err p.2)
 
-pub fold_dyadic-returns-in-Fails : goal.fold_dyadic-returns-in-Fails
-fold_dyadic-returns-in-Fails t c = step.dyadic_fails c.args.s.now c.args.at _ c.requires.0 c.requires.1 c.dword_at.ensures.0 c.fold.ensures c.in-Fails.is
+pub fold_dyadic-slice_bounds-fold-count-2 : goal.fold_dyadic-slice_bounds-fold-count-2
+fold_dyadic-slice_bounds-fold-count-2 t c = let q = step.second_of c.args.s.now c.args.at _ c.requires.0 c.requires.1 c.dword_at.ensures.0 c.in_ok-a.ensures in omega (arith, q.middle)
 
-pub fold_dyadic-returns-in-Done : goal.fold_dyadic-returns-in-Done
-fold_dyadic-returns-in-Done t c = step.dyadic_second c.args.s.now c.args.at _ c.requires.0 c.requires.1 c.dword_at.ensures.0 c.fold.ensures c.in-Done.is c.fold_second.ensures
+pub fold_dyadic-slice_bounds-fold-start-2 : goal.fold_dyadic-slice_bounds-fold-start-2
+fold_dyadic-slice_bounds-fold-start-2 t c = let q = step.second_of c.args.s.now c.args.at _ c.requires.0 c.requires.1 c.dword_at.ensures.0 c.in_ok-a.ensures in omega (arith, q.middle)
+
+pub fold_dyadic-fold-requires-2 : goal.fold_dyadic-fold-requires-2
+fold_dyadic-fold-requires-2 t c = (let q = step.second_of c.args.s.now c.args.at _ c.requires.0 c.requires.1 c.dword_at.ensures.0 c.in_ok-a.ensures in let m = c.decreases in let h = part_length c.args.s.now (12 + c.dword_at.result) (length c.args.s.now) (omega (arith, q.middle)) (omega arith) in omega (arith, q.middle), step.second-placed c.args.s.now c.args.at _ c.requires.0 c.requires.1 c.dword_at.ensures.0 c.in_ok-a.ensures)
+
+pub fold_dyadic-returns-in_err-b : goal.fold_dyadic-returns-in_err-b
+fold_dyadic-returns-in_err-b t c = let p = err_from_is_err_and c.from_residual-in_err-b.result c.from_residual-in_err-b.ensures.1 in step.second_refused c.args.s.now c.args.at _ c.requires.0 c.requires.1 c.dword_at.ensures.0 c.in_ok-a.ensures c.in_err-b.ensures (p.1 ∙ ap Err p.2)
+
+pub fold_dyadic-put_meet-requires : goal.fold_dyadic-put_meet-requires
+fold_dyadic-put_meet-requires t c = step.second-room c.args.s.now c.args.at _ c.requires.0 c.requires.1 c.dword_at.ensures.0 c.in_ok-a.ensures c.in_ok-b.ensures
+
+pub fold_dyadic-returns : goal.fold_dyadic-returns
+fold_dyadic-returns t c = step.dyadic_meets c.args.s.now c.args.at _ c.requires.0 c.requires.1 c.dword_at.ensures.0 c.in_ok-a.ensures c.in_ok-b.ensures _ c.op_at-op.ensures c.meet.ensures c.put_meet.ensures
 
 pub fold_items-slice_bounds-put-count : goal.fold_items-slice_bounds-put-count
 fold_items-slice_bounds-put-count t c = let q = item.items_start c.args.s.now c.args.at c.args.kind _ c.args.room.now c.items_at-p.ensures c.requires.1 c.requires.2 c.requires.0 in omega (arith, q.0)
@@ -62,9 +55,6 @@ fold_items-slice_bounds-put-start t c = let q = item.items_start c.args.s.now c.
 
 pub fold_items-slice_bounds-put-end : goal.fold_items-slice_bounds-put-end
 fold_items-slice_bounds-put-end t c = let q = item.items_start c.args.s.now c.args.at c.args.kind _ c.args.room.now c.items_at-p.ensures c.requires.1 c.requires.2 c.requires.0 in omega (arith, q.1)
-
-pub fold_items-overflow_add-at : goal.fold_items-overflow_add-at
-fold_items-overflow_add-at t c = omega (arith, c.requires.0.fits, c.requires.0.small)
 
 pub fold_items-put-from-requires : goal.fold_items-put-from-requires
 fold_items-put-from-requires t c = (item.name-room c.args.s.now c.args.at c.args.kind _ c.args.room.now c.items_at-p.ensures c.requires.1 c.requires.2 c.requires.0, c.requires.0.small)
@@ -79,19 +69,19 @@ pub fold_items-fold_list-requires : goal.fold_items-fold_list-requires
 fold_items-fold_list-requires t c = (let q = item.items_start c.args.s.now c.args.at c.args.kind _ c.args.room.now c.items_at-p.ensures c.requires.1 c.requires.2 c.requires.0 in let m = c.decreases in let h = part_length c.args.s.now c.items_at-p.result (length c.args.s.now) (omega (arith, q.1)) (omega arith) in omega (arith, q.0, q.1), item.items-row c.args.s.now c.args.at c.args.kind _ c.args.room.now c.items_at-p.ensures c.requires.1 c.requires.2 c.requires.0 c.put-from.ensures.0 c.put-from.ensures.1)
 
 pub fold_items-overflow_sub-end : goal.fold_items-overflow_sub-end
-fold_items-overflow_sub-end t c = let q = item.items-frame c.args.s.now c.args.at c.args.kind _ c.args.room.now c.items_at-p.ensures c.requires.1 c.requires.2 c.requires.0 c.put-from.ensures.0 c.put-from.ensures.1 c.fold_list.ensures c.in-Done.is in omega (arith, q.0)
+fold_items-overflow_sub-end t c = let q = item.items-frame c.args.s.now c.args.at c.args.kind _ c.args.room.now c.items_at-p.ensures c.requires.1 c.requires.2 c.requires.0 c.put-from.ensures.0 c.put-from.ensures.1 c.in_ok-end.ensures in omega (arith, q.0)
 
-pub fold_items-overflow_sub-end-in-Done : goal.fold_items-overflow_sub-end-in-Done
-fold_items-overflow_sub-end-in-Done t c = let q = item.items-frame c.args.s.now c.args.at c.args.kind _ c.args.room.now c.items_at-p.ensures c.requires.1 c.requires.2 c.requires.0 c.put-from.ensures.0 c.put-from.ensures.1 c.fold_list.ensures c.in-Done.is in omega (arith, q.0)
+pub fold_items-overflow_sub-end-2 : goal.fold_items-overflow_sub-end-2
+fold_items-overflow_sub-end-2 t c = let q = item.items-frame c.args.s.now c.args.at c.args.kind _ c.args.room.now c.items_at-p.ensures c.requires.1 c.requires.2 c.requires.0 c.put-from.ensures.0 c.put-from.ensures.1 c.in_ok-end.ensures in omega (arith, q.0)
 
 pub fold_items-put_frame-requires : goal.fold_items-put_frame-requires
-fold_items-put_frame-requires t c = let q = item.items-frame c.args.s.now c.args.at c.args.kind _ c.args.room.now c.items_at-p.ensures c.requires.1 c.requires.2 c.requires.0 c.put-from.ensures.0 c.put-from.ensures.1 c.fold_list.ensures c.in-Done.is in (omega (arith, q.0, q.1), omega (arith, q.2, q.3), omega (arith, q.1, q.2, q.3))
+fold_items-put_frame-requires t c = let q = item.items-frame c.args.s.now c.args.at c.args.kind _ c.args.room.now c.items_at-p.ensures c.requires.1 c.requires.2 c.requires.0 c.put-from.ensures.0 c.put-from.ensures.1 c.in_ok-end.ensures in (omega (arith, q.0, q.1), omega (arith, q.2, q.3), omega (arith, q.1, q.2, q.3), c.requires.3)
 
-pub fold_items-returns-in-Fails : goal.fold_items-returns-in-Fails
-fold_items-returns-in-Fails t c = item.items_fail c.args.s.now c.args.at c.args.kind _ c.args.room.now c.items_at-p.ensures c.requires.1 c.requires.2 c.requires.0 c.put-from.ensures.0 c.put-from.ensures.1 c.fold_list.ensures c.in-Fails.is
+pub fold_items-returns-in_err-end : goal.fold_items-returns-in_err-end
+fold_items-returns-in_err-end t c = let p = err_from_is_err_and c.from_residual.result c.from_residual.ensures.1 in item.items_fail c.args.s.now c.args.at c.args.kind _ c.args.room.now c.items_at-p.ensures c.requires.1 c.requires.2 c.requires.0 c.put-from.ensures.0 c.put-from.ensures.1 c.in_err-end.ensures (p.1 ∙ ap Err p.2)
 
-pub fold_items-returns-in-Done : goal.fold_items-returns-in-Done
-fold_items-returns-in-Done t c = item.items_done c.args.s.now c.args.at c.args.kind _ c.args.room.now c.items_at-p.ensures c.requires.1 c.requires.2 c.requires.0 c.put-from.ensures.0 c.put-from.ensures.1 c.fold_list.ensures c.in-Done.is c.put_frame.ensures
+pub fold_items-returns : goal.fold_items-returns
+fold_items-returns t c = item.items_done c.args.s.now c.args.at c.args.kind _ c.args.room.now c.items_at-p.ensures c.requires.1 c.requires.2 c.requires.0 c.put-from.ensures.0 c.put-from.ensures.1 c.in_ok-end.ensures c.put_frame.ensures
 
 pub fold_list-loop-p-init : goal.fold_list-loop-p-init
 fold_list-loop-p-init t c = (refl, item.so_start c.args.s.now c.args.at c.args.room.now c.requires)
@@ -114,26 +104,23 @@ fold_list-slice_bounds-fold-end t c = let q = item.item_ends c.args.s.now c.args
 pub fold_list-fold-requires : goal.fold_list-fold-requires
 fold_list-fold-requires t c = (let m = c.decreases in let h = item.item_length c.args.s.now c.args.at _ _ c.args.room.now _ c.requires c.loop-p.invariant.1 _ c.loop-p-test.true c.dword_at.ensures.0 in omega arith, item.item_placed c.args.s.now c.args.at _ _ c.args.room.now _ c.requires c.loop-p.invariant.1 _ c.loop-p-test.true c.dword_at.ensures.0)
 
-pub fold_list-returns-in-Fails : goal.fold_list-returns-in-Fails
-fold_list-returns-in-Fails t c = item.item_fails c.args.s.now c.args.at _ _ c.args.room.now _ c.requires c.loop-p.invariant.1 c.loop-p-test.true c.dword_at.ensures.0 c.fold.ensures c.in-Fails.is
+pub fold_list-returns-in_err-here : goal.fold_list-returns-in_err-here
+fold_list-returns-in_err-here t c = let p = err_from_is_err_and c.from_residual.result c.from_residual.ensures.1 in item.item_fails c.args.s.now c.args.at _ _ c.args.room.now _ c.requires c.loop-p.invariant.1 c.loop-p-test.true c.dword_at.ensures.0 c.in_err-here.ensures (p.1 ∙ ap Err p.2)
 
 pub fold_list-loop-p-smaller : goal.fold_list-loop-p-smaller
 fold_list-loop-p-smaller t c = let q = item.item_ends c.args.s.now c.args.at _ _ c.args.room.now _ c.requires c.loop-p.invariant.1 _ c.loop-p-test.true c.dword_at.ensures.0 in omega (arith, q.1, q.2)
 
 pub fold_list-loop-p-preserved : goal.fold_list-loop-p-preserved
-fold_list-loop-p-preserved t c = (c.fold.auto.room ∙ c.loop-p.invariant.0, item.item_next c.args.s.now c.args.at _ _ c.args.room.now _ c.requires c.loop-p.invariant.1 c.loop-p-test.true c.dword_at.ensures.0 c.fold.ensures c.in-Done.is)
+fold_list-loop-p-preserved t c = (c.fold.auto.room ∙ c.loop-p.invariant.0, item.item_next c.args.s.now c.args.at _ _ c.args.room.now _ c.requires c.loop-p.invariant.1 c.loop-p-test.true c.dword_at.ensures.0 c.in_ok-here.ensures)
 
 pub fold_list-returns : goal.fold_list-returns
 fold_list-returns t c = item.list_ends c.args.s.now c.args.at _ _ c.args.room.now _ c.requires c.loop-p.invariant.1 (omega arith)
-
-pub fold_monadic-chain-requires : goal.fold_monadic-chain-requires
-fold_monadic-chain-requires t c = c.requires.0.of
 
 pub fold_monadic-overflow_sub-s : goal.fold_monadic-overflow_sub-s
 fold_monadic-overflow_sub-s t c = let q = step.text_room c.args.s.now c.args.at _ _ c.args.room.now c.requires.0 c.requires.1 c.chain.ensures c.in-Text.is in omega (arith, q.0)
 
 pub fold_monadic-put_str-requires : goal.fold_monadic-put_str-requires
-fold_monadic-put_str-requires t c = let q = step.text_room c.args.s.now c.args.at _ _ c.args.room.now c.requires.0 c.requires.1 c.chain.ensures c.in-Text.is in (q.1, q.2, c.requires.0.small)
+fold_monadic-put_str-requires t c = let q = step.text_room c.args.s.now c.args.at _ _ c.args.room.now c.requires.0 c.requires.1 c.chain.ensures c.in-Text.is in (q.1, q.2, c.requires.0.small, q.3)
 
 pub fold_monadic-slice_bounds-fold-count : goal.fold_monadic-slice_bounds-fold-count
 fold_monadic-slice_bounds-fold-count t c = let h = below_length c.args.s.now c.requires.0.of c.requires.1 in omega arith
@@ -144,9 +131,6 @@ fold_monadic-slice_bounds-fold-start t c = let h = below_length c.args.s.now c.r
 pub fold_monadic-fold-requires : goal.fold_monadic-fold-requires
 fold_monadic-fold-requires t c = (let h = below_length c.args.s.now c.requires.0.of c.requires.1 in let m = c.decreases in let k = part_length c.args.s.now 8 (length c.args.s.now) (omega arith) (omega arith) in omega arith, step.twin-placed c.args.s.now c.args.at c.args.room.now c.requires.0 c.requires.1)
 
-pub fold_monadic-fold_operand-requires : goal.fold_monadic-fold_operand-requires
-fold_monadic-fold_operand-requires t c = (let m = c.decreases in omega arith, c.requires)
-
 pub fold_monadic-returns-in-Text : goal.fold_monadic-returns-in-Text
 fold_monadic-returns-in-Text t c = step.text_way c.args.s.now c.args.at _ _ c.requires.0 c.requires.1 c.chain.ensures c.in-Text.is c.put_str.ensures
 
@@ -156,41 +140,23 @@ fold_monadic-returns-in-Twin t c = step.twin_way c.args.s.now c.args.at c.requir
 pub fold_monadic-returns-in-Other : goal.fold_monadic-returns-in-Other
 fold_monadic-returns-in-Other t c = step.other_way c.args.s.now c.args.at c.requires.1 c.chain.ensures c.in-Other.is c.fold_operand.ensures
 
+pub fold_operand-op_at-op-requires : goal.fold_operand-op_at-op-requires
+fold_operand-op_at-op-requires t c = one_operated c.args.s.now c.requires.0.of c.requires.1
+
 pub fold_operand-slice_bounds-fold-count : goal.fold_operand-slice_bounds-fold-count
 fold_operand-slice_bounds-fold-count t c = let h = below_length c.args.s.now c.requires.0.of c.requires.1 in omega arith
 
 pub fold_operand-slice_bounds-fold-start : goal.fold_operand-slice_bounds-fold-start
 fold_operand-slice_bounds-fold-start t c = let h = below_length c.args.s.now c.requires.0.of c.requires.1 in omega arith
 
-pub fold_operand-overflow_add-at : goal.fold_operand-overflow_add-at
-fold_operand-overflow_add-at t c = omega (arith, c.requires.0.fits, c.requires.0.small)
-
 pub fold_operand-fold-requires : goal.fold_operand-fold-requires
 fold_operand-fold-requires t c = (let h = below_length c.args.s.now c.requires.0.of c.requires.1 in let m = c.decreases in let k = part_length c.args.s.now 8 (length c.args.s.now) (omega arith) (omega arith) in omega arith, step.operand_placed c.args.s.now c.args.at c.args.room.now c.requires.0 c.requires.1)
 
 pub fold_operand-put_turn-requires : goal.fold_operand-put_turn-requires
-fold_operand-put_turn-requires t c = step.operand_room c.args.s.now c.args.at _ _ c.requires.0 c.requires.1 c.fold.ensures c.in-Done.is c.turn_of.ensures
+fold_operand-put_turn-requires t c = step.operand_room c.args.s.now c.args.at _ _ c.requires.0 c.requires.1 c.in_ok-v.ensures c.turn.ensures
 
-pub fold_operand-returns-in-Fails : goal.fold_operand-returns-in-Fails
-fold_operand-returns-in-Fails t c = step.operand_fails_any c.args.s.now c.args.at c.fold.ensures c.in-Fails.is
+pub fold_operand-returns-in_err-v : goal.fold_operand-returns-in_err-v
+fold_operand-returns-in_err-v t c = let p = err_from_is_err_and c.from_residual.result c.from_residual.ensures.1 in step.operand_fails c.args.s.now c.args.at c.in_err-v.ensures (p.1 ∙ ap Err p.2)
 
-pub fold_operand-returns-in-Done : goal.fold_operand-returns-in-Done
-fold_operand-returns-in-Done t c = step.operand_turns c.args.s.now c.args.at _ c.fold.ensures c.in-Done.is c.word_at-op.ensures.0 c.turn_of.ensures c.put_turn.ensures
-
-pub fold_second-slice_bounds-fold-count : goal.fold_second-slice_bounds-fold-count
-fold_second-slice_bounds-fold-count t c = let q = step.second_start c.args.s.now c.args.m c.args.at c.args.from c.args.room.now c.requires in omega (arith, q.1)
-
-pub fold_second-slice_bounds-fold-start : goal.fold_second-slice_bounds-fold-start
-fold_second-slice_bounds-fold-start t c = let q = step.second_start c.args.s.now c.args.m c.args.at c.args.from c.args.room.now c.requires in omega (arith, q.1)
-
-pub fold_second-fold-requires : goal.fold_second-fold-requires
-fold_second-fold-requires t c = (let q = step.second_start c.args.s.now c.args.m c.args.at c.args.from c.args.room.now c.requires in let m = c.decreases in let h = part_length c.args.s.now c.args.m (length c.args.s.now) (omega (arith, q.1)) (omega arith) in omega (arith, q.0, q.1), step.second-placed c.args.s.now c.args.m c.args.at c.args.from c.args.room.now c.requires)
-
-pub fold_second-put_meet-requires : goal.fold_second-put_meet-requires
-fold_second-put_meet-requires t c = step.second-room c.args.s.now c.args.m c.args.at c.args.from c.requires c.fold.ensures c.in-Done.is
-
-pub fold_second-returns-in-Fails : goal.fold_second-returns-in-Fails
-fold_second-returns-in-Fails t c = step.second_refused c.args.s.now c.args.m c.args.sort c.args.key c.args.at c.args.from c.fold.ensures c.in-Fails.is
-
-pub fold_second-returns-in-Done : goal.fold_second-returns-in-Done
-fold_second-returns-in-Done t c = step.second_meets c.args.s.now c.args.m c.args.sort c.args.key c.args.at c.args.from _ c.fold.ensures c.in-Done.is c.word_at-op.ensures.0 c.meet_of.ensures c.put_meet.ensures
+pub fold_operand-returns : goal.fold_operand-returns
+fold_operand-returns t c = step.operand_turns c.args.s.now c.args.at _ c.in_ok-v.ensures c.op_at-op.ensures c.turn.ensures c.put_turn.ensures

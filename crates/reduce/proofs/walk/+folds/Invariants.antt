@@ -1,4 +1,4 @@
--- The cycle of the walk. The measure is four times the length of the record, and a rank: an operand and a second operand, the nodes, any record, records
+-- The cycle of the walk. The measure is four times the length of the record, and a rank: an operand, the nodes, any record, records
 -- one after the other. Each return is one step of StepLaws or ItemLaws.
 use mathlib.Core.Path.{◌≡◌}
 use lib.ListN.{length}
@@ -23,9 +23,6 @@ decreases-fold_monadic l = 4 * length l.s.now + 2
 
 abbrev pub decreases-fold_operand : goal.decreases-fold_operand
 decreases-fold_operand l = 4 * length l.s.now + 1
-
-abbrev pub decreases-fold_second : goal.decreases-fold_second
-decreases-fold_second l = 4 * length l.s.now + 1
 
 abbrev pub invariant-fold_list-loop-p : goal.invariant-fold_list-loop-p
 invariant-fold_list-loop-p l = (length l.room ≡ length l.initial.room) × item.Loop l.s l.at l.p l.here l.initial.room l.room

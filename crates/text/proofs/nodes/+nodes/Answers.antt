@@ -1,7 +1,12 @@
 -- The cycle of the node writer, its forms with operands and the item-list writer. The measure is five times the length of the record, and a rank: a bound, the forms, all but the temporal ones, operands, node, items and ends.
 use borrow.Author.Rules.{rules}
 use native.Mathlib.Omega.{arith}
-use mathlib.Core.Path.{◌≡◌, refl, sym, ◌∙◌}
+use mathlib.Core.Path.{◌≡◌, refl, sym, ap, ◌∙◌}
+use mathlib.Core.List.{List}
+use lib.Seq.{take_all}
+use Rattle.sql.specs.declared.Part.{Part}
+use Rattle.text.specs.EndWords.{slot, node_ends}
+use Rattle.text.proofs.nodes.+nodes.Goals.{write_operands-in-Plain, write_operands-in-Node+else-not-inside, write_operands-in-Name+else-not-inside-2}
 use mathlib.Core.Bool.{true}
 use Prim.Native.Nat.{◌+◌, ◌-◌}
 use lib.ListN.{length, length-take, length-drop}
@@ -9,7 +14,7 @@ use Rattle.emit.specs.EmitLaws.{lays, lays_none, lays_of, lays_past, lays_then}
 use Rattle.record.specs.Record.{le16}
 use Rattle.sql.specs.Template.{fill, spelt}
 use Rattle.tree.specs.Accepted.{settings_in}
-use Rattle.text.proofs.WalkLaws.{come_start, come_next, come_end, leaf-step, date-step, high_text, six, fourteen, listed, node_of, node_piece, name_piece, plain_step, node-step, name-step, monadic_node, monadic_step, from_bounds, all_filled, items_fall, items_short, infix_step, two_node, not_either, or_else, temporal_node, node_ends_lem, not_temporal, bounds_range, bound_null, bound_item, between_step, spatial_step}
+use Rattle.text.proofs.WalkLaws.{come_start, come_next, come_end, leaf-step, date-step, high_text, six, fourteen, listed, node_of, node_piece, name_piece, plain_step, node-step, name-step, monadic_node, monadic_step, from_bounds, items_fall, items_short, infix_step, two_node, not_either, or_else, temporal_node, node_ends_lem, not_temporal, bounds_range, bound_null, bound_item, between_step, spatial_step}
 use lib.Dec.{eqb}
 use Rattle.class.specs.ClassWords.{between_number, spatial_number}
 use borrow.Fn.PlainCycle.{is}
@@ -34,7 +39,7 @@ pub to_sql_impl-returns-then-kind-lt-FUNCTION : goal.to_sql_impl-returns-then-ki
 to_sql_impl-returns-then-kind-lt-FUNCTION t c = λ t e f. c.write_operands.ensures t e f (let q = c.word_at-kind.ensures.0 in omega arith) (let q = c.word_at-kind.ensures.0 in omega arith)
 
 pub to_sql_impl-returns : goal.to_sql_impl-returns
-to_sql_impl-returns t c = λ t e f. let w = listed c.args.writing (settings_in c.args.set.now) c.args.s.now c.word_at-kind.result c.least-from.result c.items_at-to.result t e f c.word_at-kind.ensures.0 (omega arith) (omega arith) c.items_at-to.ensures.2 c.least-from.ensures in lays_of (sym w.whole) (lays_then (lays c.put-name.ensures) (lays_then (lays c.put-open.ensures) (lays_then (c.write_items-here.ensures w.ts w.there w.fit) (lays c.put.ensures))))
+to_sql_impl-returns t c = λ t e f. let w = listed c.args.writing (settings_in c.args.set.now) c.args.s.now c.word_at-kind.result c.min.result c.items_at-to.result t e f c.word_at-kind.ensures.0 (omega arith) (omega arith) c.items_at-to.ensures.2 c.min.ensures in lays_of (sym w.whole) (lays_then (lays c.put-name.ensures) (lays_then (lays c.put-open.ensures) (lays_then (c.write_items-here.ensures w.ts w.there w.fit) (lays c.put.ensures))))
 
 pub write_between-returns : goal.write_between-returns
 write_between-returns t c = λ t nd h. between_step c.args.writing (settings_in c.args.set.now) nd h c.bounds_at-p.ensures c.end_of-q.ensures c.end_of-z.ensures c.to_sql_impl-left.ensures c.put_infix-word.ensures c.write_bound-low.ensures (lays c.put-upto.ensures) c.write_bound.ensures
@@ -72,27 +77,29 @@ write_monadic-returns t c = λ m t nd. monadic_step c.args.writing (settings_in 
 pub write_operands-returns-then-not-is_temporal : goal.write_operands-returns-then-not-is_temporal
 write_operands-returns-then-not-is_temporal t c = λ t e f a b. c.write_others.ensures t (node_of c.args.s.now c.word_at-kind.result c.word_at-op.result c.end_of-m.result t e f c.word_at-kind.ensures.0 c.word_at-op.ensures.0 c.end_of-m.ensures (let q = c.word_at-kind.ensures.0 in omega arith) (let q = c.word_at-kind.ensures.0 in omega arith)) (sym c.is_temporal.ensures ∙ c.if-not-is_temporal.true)
 
-pub write_operands-loop-k-init : goal.write_operands-loop-k-init
+pub write_operands-loop-part-init : goal.write_operands-loop-part-init
 unfolding fill spelt
-write_operands-loop-k-init t c = (refl, omega arith, λ t e f a b. lays_none c.ended-here.ensures)
-
-pub write_operands-loop-k-preserved-in-Plain : goal.write_operands-loop-k-preserved-in-Plain
-write_operands-loop-k-preserved-in-Plain t c = (c.put_flat-here.auto.out ∙ c.loop-k.invariant.0, omega arith, λ t e f a b. let tn = temporal_node (sym c.is_temporal.ensures ∙ c.if-not-is_temporal.false) (node_of c.args.s.now c.word_at-kind.result c.word_at-op.result c.end_of-m.result t e f c.word_at-kind.ensures.0 c.word_at-op.ensures.0 c.end_of-m.ensures (let q = c.word_at-kind.ensures.0 in omega arith) (let q = c.word_at-kind.ensures.0 in omega arith)) in let ar = node_ends_lem tn.0 _ c.temporal_ends-e.ensures in let hb = c.template_of-t.ensures.1 in let lb : length c.template_of-t.result.codes ≡ 24 = search (rules, c.template_of-t.type_inv) in plain_step c.args.writing (settings_in c.args.set.now) ar c.template_of-t.result.codes c.template_of-t.result.len c.loop-k.k (omega arith) (omega arith) (c.loop-k.invariant.2 t e f a b) _ (sym c.piece_of-piece.ensures ∙ c.in-Plain.is) (lays c.put_flat-here.ensures))
+write_operands-loop-part-init t c = (refl, λ t e f a b. lays_none c.ended-here.ensures)
 
 pub write_operands-returns-then-not-inside : goal.write_operands-returns-then-not-inside
-write_operands-returns-then-not-inside t c = λ t e f a b. let tn = temporal_node (sym c.is_temporal.ensures ∙ c.if-not-is_temporal.false) (node_of c.args.s.now c.word_at-kind.result c.word_at-op.result c.end_of-m.result t e f c.word_at-kind.ensures.0 c.word_at-op.ensures.0 c.end_of-m.ensures (let q = c.word_at-kind.ensures.0 in omega arith) (let q = c.word_at-kind.ensures.0 in omega arith)) in let ar = node_ends_lem tn.0 _ c.temporal_ends-e.ensures in let pc = sym c.piece_of-piece.ensures ∙ c.in-Node.is in let ch = node_piece c.args.writing (settings_in c.args.set.now) ar _ _ _ pc in absurd (c.inside.ensures.no (c.if-not-inside.true) ch.inside.starts ch.inside.order ch.inside.ends)
-
-pub write_operands-loop-k-preserved-in-Node : goal.write_operands-loop-k-preserved-in-Node
-write_operands-loop-k-preserved-in-Node t c = (c.write_end-here.auto.out ∙ c.loop-k.invariant.0, omega arith, λ t e f a b. let tn = temporal_node (sym c.is_temporal.ensures ∙ c.if-not-is_temporal.false) (node_of c.args.s.now c.word_at-kind.result c.word_at-op.result c.end_of-m.result t e f c.word_at-kind.ensures.0 c.word_at-op.ensures.0 c.end_of-m.ensures (let q = c.word_at-kind.ensures.0 in omega arith) (let q = c.word_at-kind.ensures.0 in omega arith)) in let ar = node_ends_lem tn.0 _ c.temporal_ends-e.ensures in let hb = c.template_of-t.ensures.1 in let lb : length c.template_of-t.result.codes ≡ 24 = search (rules, c.template_of-t.type_inv) in let pc = sym c.piece_of-piece.ensures ∙ c.in-Node.is in let ch = node_piece c.args.writing (settings_in c.args.set.now) ar _ _ _ pc in node-step c.args.writing (settings_in c.args.set.now) ar c.template_of-t.result.codes c.template_of-t.result.len c.loop-k.k (omega arith) (omega arith) (c.loop-k.invariant.2 t e f a b) _ _ pc (c.write_end-here.ensures ch.x ch.stands ch.fit))
+write_operands-returns-then-not-inside t c = λ t e f a b. let tn = temporal_node (sym c.is_temporal.ensures ∙ c.if-not-is_temporal.false) (node_of c.args.s.now c.word_at-kind.result c.word_at-op.result c.end_of-m.result t e f c.word_at-kind.ensures.0 c.word_at-op.ensures.0 c.end_of-m.ensures (let q = c.word_at-kind.ensures.0 in omega arith) (let q = c.word_at-kind.ensures.0 in omega arith)) in let ar = node_ends_lem tn.0 _ c.temporal_ends-e.ensures in let pc = sym c.piece_of.ensures ∙ c.in-Node.is in let ch = node_piece c.args.writing (settings_in c.args.set.now) ar _ _ _ pc in absurd (c.inside.ensures.no (c.if-not-inside.true) ch.inside.starts ch.inside.order ch.inside.ends)
 
 pub write_operands-returns-then-not-inside-2 : goal.write_operands-returns-then-not-inside-2
-write_operands-returns-then-not-inside-2 t c = λ t e f a b. let tn = temporal_node (sym c.is_temporal.ensures ∙ c.if-not-is_temporal.false) (node_of c.args.s.now c.word_at-kind.result c.word_at-op.result c.end_of-m.result t e f c.word_at-kind.ensures.0 c.word_at-op.ensures.0 c.end_of-m.ensures (let q = c.word_at-kind.ensures.0 in omega arith) (let q = c.word_at-kind.ensures.0 in omega arith)) in let ar = node_ends_lem tn.0 _ c.temporal_ends-e.ensures in let pc = sym c.piece_of-piece.ensures ∙ c.in-Name.is in let ch = name_piece c.args.writing (settings_in c.args.set.now) ar _ _ _ pc in absurd (c.inside-in-Name.ensures.no (c.if-not-inside-2.true) ch.inside.starts ch.inside.order ch.inside.ends)
+write_operands-returns-then-not-inside-2 t c = λ t e f a b. let tn = temporal_node (sym c.is_temporal.ensures ∙ c.if-not-is_temporal.false) (node_of c.args.s.now c.word_at-kind.result c.word_at-op.result c.end_of-m.result t e f c.word_at-kind.ensures.0 c.word_at-op.ensures.0 c.end_of-m.ensures (let q = c.word_at-kind.ensures.0 in omega arith) (let q = c.word_at-kind.ensures.0 in omega arith)) in let ar = node_ends_lem tn.0 _ c.temporal_ends-e.ensures in let pc = sym c.piece_of.ensures ∙ c.in-Name.is in let ch = name_piece c.args.writing (settings_in c.args.set.now) ar _ _ _ pc in absurd (c.inside-in-Name.ensures.no (c.if-not-inside-2.true) ch.inside.starts ch.inside.order ch.inside.ends)
 
-pub write_operands-loop-k-preserved : goal.write_operands-loop-k-preserved
-write_operands-loop-k-preserved t c = (c.put-here.auto.out ∙ c.loop-k.invariant.0, omega arith, λ t e f a b. let tn = temporal_node (sym c.is_temporal.ensures ∙ c.if-not-is_temporal.false) (node_of c.args.s.now c.word_at-kind.result c.word_at-op.result c.end_of-m.result t e f c.word_at-kind.ensures.0 c.word_at-op.ensures.0 c.end_of-m.ensures (let q = c.word_at-kind.ensures.0 in omega arith) (let q = c.word_at-kind.ensures.0 in omega arith)) in let ar = node_ends_lem tn.0 _ c.temporal_ends-e.ensures in let hb = c.template_of-t.ensures.1 in let lb : length c.template_of-t.result.codes ≡ 24 = search (rules, c.template_of-t.type_inv) in let pc = sym c.piece_of-piece.ensures ∙ c.in-Name.is in name-step c.args.writing (settings_in c.args.set.now) ar c.template_of-t.result.codes c.template_of-t.result.len c.loop-k.k (omega arith) (omega arith) (c.loop-k.invariant.2 t e f a b) _ _ pc (lays_of c.rest.ensures (lays c.put-here.ensures)))
+pub write_operands-loop-part-preserved : goal.write_operands-loop-part-preserved
+write_operands-loop-part-preserved t c = (
+  c.match-piece_of.auto.out ∙ c.loop-part.invariant.0,
+  λ t e f a b. let tn = temporal_node (sym c.is_temporal.ensures ∙ c.if-not-is_temporal.false) (node_of c.args.s.now c.word_at-kind.result c.word_at-op.result c.end_of-m.result t e f c.word_at-kind.ensures.0 c.word_at-op.ensures.0 c.end_of-m.ensures (let q = c.word_at-kind.ensures.0 in omega arith) (let q = c.word_at-kind.ensures.0 in omega arith)) in let ar = node_ends_lem tn.0 _ c.temporal_ends-e.ensures in
+      elim c.match-piece_of.branch [
+        | write_operands-in-Plain w ↦ rw (w.out-is, w.here-is) (plain_step c.args.writing (settings_in c.args.set.now) ar c.as_slice-parts.result.now c.loop-part.part-index _ c.loop-part-test.true (c.loop-part.invariant.1 t e f a b) _ (sym c.piece_of.ensures ∙ w.in-Plain.is) (lays w.put_flat-here.ensures))
+        | write_operands-in-Node+else-not-inside w ↦ let pc = sym c.piece_of.ensures ∙ w.in-Node.is in let ch = node_piece c.args.writing (settings_in c.args.set.now) ar _ _ _ pc in rw (w.out-is, w.here-is) (node-step c.args.writing (settings_in c.args.set.now) ar c.as_slice-parts.result.now c.loop-part.part-index _ c.loop-part-test.true (c.loop-part.invariant.1 t e f a b) _ _ pc (w.write_end-here.ensures ch.x ch.stands ch.fit))
+        | write_operands-in-Name+else-not-inside-2 w ↦ let pc = sym c.piece_of.ensures ∙ w.in-Name.is in rw (w.out-is, w.here-is) (name-step c.args.writing (settings_in c.args.set.now) ar c.as_slice-parts.result.now c.loop-part.part-index _ c.loop-part-test.true (c.loop-part.invariant.1 t e f a b) _ _ pc (lays_of w.rest.ensures (lays w.put-here.ensures)))
+      ],
+)
 
 pub write_operands-returns : goal.write_operands-returns
-write_operands-returns t c = λ t e f a b. let tn = temporal_node (sym c.is_temporal.ensures ∙ c.if-not-is_temporal.false) (node_of c.args.s.now c.word_at-kind.result c.word_at-op.result c.end_of-m.result t e f c.word_at-kind.ensures.0 c.word_at-op.ensures.0 c.end_of-m.ensures (let q = c.word_at-kind.ensures.0 in omega arith) (let q = c.word_at-kind.ensures.0 in omega arith)) in let ar = node_ends_lem tn.0 _ c.temporal_ends-e.ensures in lays_of (all_filled _ c.template_of-t.result.codes c.template_of-t.result.len c.loop-k.k (omega arith) ∙ sym (c.template_of-t.ensures.0 c.args.writing (settings_in c.args.set.now) t tn.0 tn.1 ar)) (c.loop-k.invariant.2 t e f a b)
+write_operands-returns t c = λ t e f a b. let tn = temporal_node (sym c.is_temporal.ensures ∙ c.if-not-is_temporal.false) (node_of c.args.s.now c.word_at-kind.result c.word_at-op.result c.end_of-m.result t e f c.word_at-kind.ensures.0 c.word_at-op.ensures.0 c.end_of-m.ensures (let q = c.word_at-kind.ensures.0 in omega arith) (let q = c.word_at-kind.ensures.0 in omega arith)) in let ar = node_ends_lem tn.0 _ c.temporal_ends-e.ensures in lays_of (ap (λ (ps : List Part). fill (slot c.args.writing (settings_in c.args.set.now) (node_ends t)) (spelt ps)) (take_all c.loop-part.part-index c.as_slice-parts.result.now (omega arith) ∙ c.as_slice-parts.ensures.value) ∙ sym (c.template_of-t.ensures c.args.writing (settings_in c.args.set.now) t tn.0 tn.1 ar)) (c.loop-part.invariant.1 t e f a b)
 
 pub write_others-returns-then-kind-eq-MONADIC : goal.write_others-returns-then-kind-eq-MONADIC
 write_others-returns-then-kind-eq-MONADIC t c = λ t nd nt. c.write_monadic.ensures c.args.m t (monadic_node c.if-kind-eq-MONADIC.true nd)
@@ -100,11 +107,11 @@ write_others-returns-then-kind-eq-MONADIC t c = λ t nd nt. c.write_monadic.ensu
 pub write_others-returns-then-is_infix : goal.write_others-returns-then-is_infix
 write_others-returns-then-is_infix t c = λ t nd nt. let w = two_node c.if-kind-eq-MONADIC.false nd in let n = not_either (spatial_number c.args.op) (between_number c.args.op) (sym c.is_infix.ensures ∙ c.if-is_infix.true) in c.write_infix.ensures t w.1 (not_temporal c.args.kind c.args.op w.0 nt) n.0 n.1
 
-pub write_others-returns-then-within : goal.write_others-returns-then-within
-write_others-returns-then-within t c = λ t nd nt. c.write_spatial.ensures t (two_node c.if-kind-eq-MONADIC.false nd).1 (sym c.within.ensures ∙ c.if-within.true)
+pub write_others-returns-then-is_spatial : goal.write_others-returns-then-is_spatial
+write_others-returns-then-is_spatial t c = λ t nd nt. c.write_spatial.ensures t (two_node c.if-kind-eq-MONADIC.false nd).1 (sym c.is_spatial.ensures ∙ c.if-is_spatial.true)
 
 pub write_others-returns : goal.write_others-returns
-write_others-returns t c = λ t nd nt. c.write_between.ensures t (two_node c.if-kind-eq-MONADIC.false nd).1 (or_else (spatial_number c.args.op) (between_number c.args.op) (sym c.is_infix.ensures ∙ c.if-is_infix.false) (sym c.within.ensures ∙ c.if-within.false))
+write_others-returns t c = λ t nd nt. c.write_between.ensures t (two_node c.if-kind-eq-MONADIC.false nd).1 (or_else (spatial_number c.args.op) (between_number c.args.op) (sym c.is_infix.ensures ∙ c.if-is_infix.false) (sym c.is_spatial.ensures ∙ c.if-is_spatial.false))
 
 pub write_spatial-returns : goal.write_spatial-returns
 write_spatial-returns t c = λ t nd h. spatial_step c.args.writing (settings_in c.args.set.now) nd h c.is_kind-x.ensures c.is_kind-y.ensures c.reduce_precision-a.ensures c.reduce_precision-b.ensures c.put_word-word.ensures (lays c.put_either-open.ensures) c.to_sql_impl-left.ensures c.put_reduced-comma.ensures (lays c.put_either-next.ensures) c.to_sql_impl-right.ensures c.put_reduced-close.ensures (lays c.put.ensures)

@@ -51,8 +51,5 @@ invariant-write_items-loop-p l = (length l.out ≡ length l.initial.out) × ((ts
 abbrev pub decreases-write_items-loop-p : goal.decreases-write_items-loop-p
 decreases-write_items-loop-p l = length l.s - l.p
 
-abbrev pub invariant-write_operands-loop-k : goal.invariant-write_operands-loop-k
-invariant-write_operands-loop-k l = (length l.out ≡ length l.initial.out) × (l.k ≤ l.n) × ((t : Tree) → l.s ≡ encode t → sound t ≡ true → 9 ≤ le16 l.s 4 → le16 l.s 4 < 11 → Lays count_limit l.at (fill (slot l.writing (settings_in l.set) (node_ends t)) (spelt (take l.k (take l.n l.codes)))) l.initial.out l.out l.here)
-
-abbrev pub decreases-write_operands-loop-k : goal.decreases-write_operands-loop-k
-decreases-write_operands-loop-k l = l.n - l.k
+abbrev pub invariant-write_operands-loop-part : goal.invariant-write_operands-loop-part
+invariant-write_operands-loop-part l = (length l.out ≡ length l.initial.out) × ((t : Tree) → l.s ≡ encode t → sound t ≡ true → 9 ≤ le16 l.s 4 → le16 l.s 4 < 11 → Lays count_limit l.at (fill (slot l.writing (settings_in l.set) (node_ends t)) (spelt (take l.part-index l.parts))) l.initial.out l.out l.here)

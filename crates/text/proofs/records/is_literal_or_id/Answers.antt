@@ -7,5 +7,5 @@ use Rattle.text.proofs.records.is_literal_or_id.Goals as goal
 pub returns-then-kind-eq-ARRAY : goal.returns-then-kind-eq-ARRAY
 returns-then-kind-eq-ARRAY c = λ t e. no_id _ c.word_at-kind.result t _ e c.word_at-kind.ensures.0 (λ z. let v : ⊥ = omega (arith, c.if-kind-eq-ARRAY.true) in v) (c.is_literal.ensures t e)
 
-pub returns : goal.returns
-returns c = λ t e. c.within.ensures ∙ kind_tells _ c.word_at-kind.result t e c.word_at-kind.ensures.0 c.if-kind-eq-ARRAY.false
+pub returns-else-kind-eq-ARRAY : goal.returns-else-kind-eq-ARRAY
+returns-else-kind-eq-ARRAY c = λ t e. c.is_value_or_id.ensures ∙ kind_tells _ c.word_at-kind.result t e c.word_at-kind.ensures.0 c.if-kind-eq-ARRAY.false

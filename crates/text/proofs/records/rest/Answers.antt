@@ -4,4 +4,4 @@ use Rattle.text.proofs.ClipLaws.{clip_from}
 use Rattle.text.proofs.records.rest.Goals as goal
 
 pub returns : goal.returns
-returns c = clip_from c.args.s.now c.args.n c.least-from.result c.least-from.ensures
+returns c = clip_from c.args.s.now c.args.n c.min.result c.min.ensures

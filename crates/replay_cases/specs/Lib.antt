@@ -1,0 +1,2 @@
+pub mod TallyWords
+pub mod Found
