@@ -1,13 +1,12 @@
 -- Two different answers never give the same number: from the number the answer is found again.
-use Rattle.std.specs.Prelude.{ℕ, zero, suc, ◌≡◌, refl, [], ◌∷◌, get_or, ℤ, pos, negsuc, Result, Ok, Err}
+use Rattle.std.specs.Prelude.{ℕ, zero, suc, ◌≡◌, refl, [], ◌∷◌, get_or, ℤ, pos, negsuc, true, false, Some, None, Result, Ok, Err}
 use Rattle.std.proofs.Common.{sym, ap, ◌∙◌}
 use Rattle.refusal.specs.declared.Refusal.{Refusal}
 use Rattle.refusal.specs.declared.Refusal.TheVariants.{BadSettings, TreeTooLong, BadFrame, TooDeep, BadKindOrOperator, BadField, BadOperand, TextTooLong, BufferTooShort, InputTooLong, BadRow, BadText, MissingColumn, ConstantOperands}
 use Rattle.refusal.specs.Number.{number_of}
 use Rattle.text.specs.Lowered as lowered
 use Rattle.reduce.specs.Reducing as reduced
-use Rattle.truth.specs.declared.Reading.{Reading}
-use Rattle.truth.specs.declared.Reading.TheVariants.{True, False, Unknown, Refused as NoTruth}
+use Rattle.truth.specs.Reading.{Reading, says_true, says_false, says_unknown}
 use Rattle.truth.specs.Reading as reading
 use Rattle.capi.specs.Numbers.{minus, lowering_number, reading_number}
 
@@ -42,9 +41,9 @@ refused_back f g ConstantOperands = refl
 
 -- of the three numbers from 0 on that reading answers
 abbrev truth_by : ℕ → Reading
-truth_by zero = False
-truth_by (suc zero) = True
-truth_by (suc (suc n)) = Unknown
+truth_by zero = says_false
+truth_by (suc zero) = says_true
+truth_by (suc (suc n)) = says_unknown
 
 abbrev pub lowered_by : ℤ → Result ℕ Refusal
 lowered_by (pos n) = Ok n
@@ -54,10 +53,10 @@ abbrev pub reduced_by : ℤ → Result ℕ Refusal
 reduced_by = answer-by Ok Err
 
 abbrev pub read_by : ℤ → Reading
-read_by (pos zero) = False
-read_by (pos (suc zero)) = True
-read_by (pos (suc (suc n))) = Unknown
-read_by (negsuc n) = NoTruth (refusal_at n)
+read_by (pos zero) = says_false
+read_by (pos (suc zero)) = says_true
+read_by (pos (suc (suc n))) = says_unknown
+read_by (negsuc n) = Err (refusal_at n)
 
 pub lowered_back : (r : Result ℕ Refusal) → lowered_by (lowering_number (lowered.heard r)) ≡ r
 lowered_back (Ok n) = refl
@@ -68,10 +67,10 @@ reduced_back (Ok n) = refl
 reduced_back (Err r) = refused_back Ok Err r
 
 pub read_back : (r : Reading) → read_by (reading_number (reading.heard r)) ≡ r
-read_back True = refl
-read_back False = refl
-read_back Unknown = refl
-read_back (NoTruth r) = refused_back truth_by NoTruth r
+read_back (Ok (Some true)) = refl
+read_back (Ok (Some false)) = refl
+read_back (Ok None) = refl
+read_back (Err r) = refused_back truth_by Err r
 
 pub lowered_apart : (r s : Result ℕ Refusal) → lowering_number (lowered.heard r) ≡ lowering_number (lowered.heard s) → r ≡ s
 lowered_apart r s e = sym (lowered_back r) ∙ ap lowered_by e ∙ lowered_back s

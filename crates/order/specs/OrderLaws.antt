@@ -8,7 +8,7 @@ use Rattle.std.proofs.lemmas.Bool.{false≢true}
 use borrow.Author.Tests.{lt-ltb, le-ltb, ltb-true, ltb-false, eq-eqb, ne_eqb}
 use Rattle.std.specs.declared.cmp.Ordering.{Ordering}
 use Rattle.std.specs.declared.cmp.Ordering.TheVariants.{Less, Equal, Greater}
-use Rattle.std.specs.Ordering.{is_lt, nat_cmp, ordering_then}
+use Rattle.std.specs.Ordering.{is_lt, is_eq, nat_cmp, ordering_then}
 use Rattle.std.specs.Cmp.Lexicographic.{slice_cmp}
 use Rattle.order.specs.Order.{order, below}
 
@@ -72,6 +72,24 @@ order_same (a ∷ x) (b ∷ y) e =
     let p : a ≡ b = h.0 in
     let q : x ≡ y = order_same x y h.1 in
     cc
+
+-- strings of two lengths are not the same
+pub other_length : (x y : List ℕ) → (length x ≡ length y → ⊥) → is_eq (order x y) ≡ false
+other_length x y f = go (order x y) refl
+  where
+    go : (o : Ordering) → order x y ≡ o → is_eq o ≡ false
+    go Less e = refl
+    go Equal e = absurd (f (ap length (order_same x y e)))
+    go Greater e = refl
+
+-- two numbers by `cmp`
+pub cmp-level : (x y : ℕ) → x ≡ y → nat_cmp x y ≡ Equal
+cmp-level x y e = let h : y ≤ x = omega arith in rw (le-ltb x y h, eq-eqb x y e) refl
+
+pub cmp-apart : (x y : ℕ) → (x ≡ y → ⊥) → (o : Ordering) → is_eq (ordering_then (nat_cmp x y) o) ≡ false
+cmp-apart x y f o =
+    by_ranked _ _ _ (nat_cmp x y) (ranked x y _ refl)
+    (λ q (l : x < y). ap (λ p. is_eq (ordering_then p o)) q) (λ q (e : x ≡ y). absurd (f e)) (λ q (l : y < x). ap (λ p. is_eq (ordering_then p o)) q)
 
 -- it is the order that Rust's `cmp` answers
 pub order_cmp : (x y : List ℕ) → slice_cmp nat_cmp x y ≡ order x y
@@ -175,6 +193,13 @@ module _ (a b : List ℕ) (i : ℕ) where
       let s = drop (i + 1) a in
       let t = drop (i + 1) b in
       rw (drop_more a i 0 h, drop_more b i 0 k) (sym (order_cmp (x ∷ s) (y ∷ t)) ∙ ap (ordering_then (nat_cmp x y)) (order_cmp s t))
+
+  pub order_level : i < length a → i < length b → get_or a i 0 ≡ get_or b i 0 → order (drop i a) (drop i b) ≡ order (drop (i + 1) a) (drop (i + 1) b)
+  order_level h k e =
+      order_turn h k ∙ ap (λ o. ordering_then o (order (drop (i + 1) a) (drop (i + 1) b))) (cmp-level (get_or a i 0) (get_or b i 0) e)
+
+  pub order-apart : i < length a → i < length b → (get_or a i 0 ≡ get_or b i 0 → ⊥) → is_eq (order (drop i a) (drop i b)) ≡ false
+  order-apart h k f = ap is_eq (order_turn h k) ∙ cmp-apart (get_or a i 0) (get_or b i 0) f (order (drop (i + 1) a) (drop (i + 1) b))
 
   pub order_stop : i ≡ min (length a) (length b) → order (drop i a) (drop i b) ≡ nat_cmp (length a) (length b)
   unfolding order

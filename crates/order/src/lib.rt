@@ -9,11 +9,19 @@ ghost use Rattle.order.specs.ValueWords.{Alike, next_at};
 
 use std::cmp::Ordering;
 
-// Whether a is b.
+// Whether a is b. Std's `==` on slices is a call for four bytes and more: with it small texts cost 2 to 3 % more instructions.
 pub fn is_same(a: &[u8], b: &[u8]) -> bool
     ensures { result ≡ is_eq (order a.now b.now) }
 {
-    a == b
+    if a.len() != b.len() {
+        return false;
+    }
+    for (x, y) in a.iter().zip(b) {
+        if *x != *y {
+            return false;
+        }
+    }
+    true
 }
 
 // The place after the byte of value at i: if s is written with its apostrophes doubled, two of them are one byte.

@@ -15,17 +15,11 @@ pub struct Frame {
     pub end: usize,
 }
 
-fn wide(x: u8) -> usize
-    ensures { (result ≡ x) × (result < 256) }
-{
-    x as usize
-}
-
 fn word_in(s: &[u8], at: usize) -> usize
     requires { at + 2 ≤ length s.now }
     ensures { (result ≡ le16 s.now at) × (result < 65536) }
 {
-    wide(s[at]) + wide(s[at + 1]) * 256
+    usize::from(s[at]) + usize::from(s[at + 1]) * 256
 }
 
 fn dword_in(s: &[u8], at: usize) -> usize
@@ -65,10 +59,11 @@ fn qword_in(s: &[u8], at: usize) -> usize
 pub fn byte_at(s: &[u8], at: usize) -> usize
     ensures { (result ≡ get_or s.now at 0) × (result < 256) }
 {
-    if at < s.len() { wide(s[at]) } else { 0 }
+    usize::from(s.get(at).copied().unwrap_or(0))
 }
 
-// n bytes from `at` lie in `len` bytes. No sum is made, so `at` may be any number.
+// n bytes from `at` lie in `len` bytes. No sum is made, so `at` may be any number. By two tests with early returns, here and in `dword_past`: one
+// expression with && costs reducing 2 % and lowering up to 2 % more instructions, and so does `from_le_bytes` for the words.
 fn lies(len: usize, at: usize, n: usize) -> bool
     ensures { result ≡ true → at + n ≤ len }
 {

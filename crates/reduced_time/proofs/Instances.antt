@@ -8,7 +8,7 @@ use Rattle.tree.specs.Tree.{Tree, null, bool, date, dyadic}
 use Rattle.tree.specs.Parse.{got}
 use Rattle.literal.specs.declared.Writing.{Writing}
 use Rattle.literal.specs.declared.Writing.TheVariants.{Rust, GeoPackage}
-use Rattle.truth.specs.declared.Reading.TheVariants.{True as SaysTrue, False as SaysFalse, Unknown as SaysUnknown}
+use Rattle.truth.specs.Reading.{says_true, says_false, says_unknown}
 use Rattle.truth.specs.Reading.{answered, reading_of}
 use Rattle.time.specs.Accepted.{Lowers}
 use Rattle.time.specs.Filter.{time_filter}
@@ -76,14 +76,14 @@ record Computed (w : Writing) : Type 0 where
   filter : time_filter whole ≡ true
   no_null : without_null whole ≡ true
   dates : of_one_width whole ≡ true
-  holds_there : answered (truth_on w columns_d whole) ≡ SaysTrue
+  holds_there : answered (truth_on w columns_d whole) ≡ says_true
   stamped_lowers : Lowers GeoPackage stamped (sql GeoPackage stamped)
   stamped_part_lowers : Lowers GeoPackage stamped_part (sql GeoPackage stamped_part)
   stamped-reduces : reducing stamped_lowers.tree room ≡ got stamped_part_lowers.tree
   stamped-filter : time_filter stamped ≡ true
   stamped_no_null : without_null stamped ≡ true
   timestamps : of_one_width stamped ≡ true
-  stamped_there : answered (truth_on GeoPackage columns_timestamp stamped) ≡ SaysTrue
+  stamped_there : answered (truth_on GeoPackage columns_timestamp stamped) ≡ says_true
 
 computed : (w : Writing) → Computed w
 unfolding prelude-choice.some record-record.frame record-record.record_of charset-charset.letter charset-charset.digit charset-charset.name_start charset-charset.name_byte word-case.upper keyword-reserved.reserved_words keyword-keywords.keywords keyword-keywords.keyword_texts keyword-reserved.reserved charset-charset.name string-utf8.sequences string-utf8.goes_on string-utf8.valid string-quote.doubled string-quote.undoubled string-quote.closing string-quote.quoted_size charset-charset.spatial_byte civil-civil.leap civil-civil.days_in civil-civil.valid_date civil-civil.valid_time op-op.op_at op-op.is_arithmetic op-op.is_array op-op.is_comparison op-op.is_xtd_comparison op-op.is_spatial op-op.is_temporal op-op.is_instant_or_interval op-op.is_nullable spelling-spelling.spelled_as tree-tree.twos tree-tree.date_bytes tree-tree.counted tree-tree.encode_settings tree-tree.encode tree-parse.also tree-parse.cons tree-parse.end tree-parse.exactly tree-parse.many tree-tests.first tree-tests.second record-record.signed charset-named.named_at tree-parse.empty_body tree-parse.bool_body tree-parse.num_body tree-parse.str_body tree-parse.date_body tree-parse.timestamp_body tree-parse.spatial_body tree-parse.takes_one tree-parse.takes_two tree-parse.allowed tree-parse.operated tree-parse.read_function tree-parse.choose tree-parse.kinds tree-parse.node tree-parse.parse tree-tests.is_interval tree-tests.count tree-tests.is_pair tree_placed.is_between tree_placed.operands tree_placed.placed tree_placed.no_interval tree_placed.in_place tree_placed.inner tree-tests.everywhere tree-tests.everywhere_in tree-tests.by_operator settings-settings.is_frame settings-settings.settings_body settings-settings.is_settings tree-accepted.settings tree-accepted.accepted_tree tree-accepted.accepted literal-literal.low literal-literal.digits literal-literal.decimal literal-literal.pointed literal-literal.plain literal-literal.sign literal-literal.num_text literal-literal.quoted literal-literal.collate literal-literal.str_text literal-literal.spatial_text literal-literal.date literal-literal.clock literal-literal.timestamp literal-literal.after_seconds literal-literal.open_end sql-condition.print sql-condition.check_id sql-condition.check_ids sql-translators.t_after sql-translators.t_before sql-translators.t_disjoint sql-translators.t_equals sql-translators.t_intersects sql-translators.t_contains sql-translators.t_during sql-translators.t_finished_by sql-translators.t_finishes sql-translators.t_meets sql-translators.t_met_by sql-translators.t_overlapped_by sql-translators.t_overlaps sql-translators.t_started_by sql-translators.t_starts sql-translators.translate tree-tests.is_id tree-tests.is_literal_or_id tree-tests.is_monadic tree-tests.is_items tree-tests.start_of tree-tests.stop_of tree-tests.ends_of gpkg-text.joined gpkg-text.reduce_precision gpkg-text.monadic_text gpkg-text.reduces gpkg-text.dyadic_text tree-tests.is_literal gpkg-text.text room-room.sized gpkg-lowered.fitted gpkg-lowered.lowering_within gpkg-lowered.answer order-order.order order-order.below row-row.cell_of row-row.column_in row-row.framed row-row.front row-row.clash row-row.joined row-row.row_from row-row.row_of row-row.look truth-lex.run truth-lex.word_kind truth-lex.sign_kind truth-lex.sign_more truth-lex.quote_kind truth-lex.lexeme truth-lex.cut truth-lex.tokens_in truth-lex.tokens truth-lex.kind truth-lex.body truth-lex.rest truth-grammar.value truth-grammar.holds truth-grammar.eval truth-grammar.atom_of truth-grammar.not_null truth-grammar.null_test truth-grammar.from_atom truth-grammar.simple truth-grammar.or_e truth-reading.parse truth-reading.reading_of truth-reading.decided time-filter.comparable time-filter.is_end time-filter.is_operand time-filter.time_filter time-filtertruth.tree_atom time-filtertruth.holds time-filtertruth.value_on time-filtertruth.end_atom time-filtertruth.end_on time-filtertruth.cond_truth time-filtertruth.temporal_truth time-filtertruth.comparison time-filtertruth.truth_on time-filtertruth.is_value time-filtertruth.lies_below time-filtertruth.columns_non_null lacks of_one_width reduced one_reduced two_reduced turn turned meet meet_and meet_other met sort_of happens fitted reducing lowers_within lowers_by
@@ -106,14 +106,14 @@ computed w =
     }
 
 -- the reduced filter's text is true on the row, since the filter's is
-pub reducing_instance : (w : Writing) → reading_of (sql w part) row_d ≡ SaysTrue
+pub reducing_instance : (w : Writing) → reading_of (sql w part) row_d ≡ says_true
 reducing_instance w =
     let k = computed w in
     sym (reducing-reads room k.lowers k.part_lowers k.reduces k.filter k.no_null k.dates is-row_d)
     ∙ reads_as k.lowers k.filter is-row_d ∙ k.holds_there
 
 -- and in the second call with timestamps
-pub geopackage_reducing_instance : reading_of (sql GeoPackage stamped_part) row_timestamp ≡ SaysTrue
+pub geopackage_reducing_instance : reading_of (sql GeoPackage stamped_part) row_timestamp ≡ says_true
 geopackage_reducing_instance =
     let k = computed GeoPackage in
     sym (reducing-reads room k.stamped_lowers k.stamped_part_lowers k.stamped-reduces k.stamped-filter k.stamped_no_null k.timestamps is-row_timestamp)
@@ -125,12 +125,12 @@ record Apart (w : Writing) : Type 0 where
   nothing_lowers : Lowers w null (sql w null)
   null_reduces : reducing null_lowers.tree room ≡ got nothing_lowers.tree
   null_filters : (time_filter lone_null ≡ true) × (time_filter null ≡ true)
-  null_truths : (answered (truth_on w columns_null lone_null) ≡ SaysFalse) × (answered (truth_on w columns_null null) ≡ SaysUnknown)
+  null_truths : (answered (truth_on w columns_null lone_null) ≡ says_false) × (answered (truth_on w columns_null null) ≡ says_unknown)
   mixed_lowers : Lowers w mixed (sql w mixed)
   true_lowers : Lowers w (bool true) (sql w (bool true))
   mixed-reduces : reducing mixed_lowers.tree room ≡ got true_lowers.tree
   mixed_filters : (time_filter mixed ≡ true) × (time_filter (bool true) ≡ true)
-  mixed_truths : (answered (truth_on w columns_null mixed) ≡ SaysFalse) × (answered (truth_on w columns_null (bool true)) ≡ SaysTrue)
+  mixed_truths : (answered (truth_on w columns_null mixed) ≡ says_false) × (answered (truth_on w columns_null (bool true)) ≡ says_true)
 
 apart : (w : Writing) → Apart w
 unfolding prelude-choice.some record-record.frame record-record.record_of charset-charset.letter charset-charset.digit charset-charset.name_start charset-charset.name_byte word-case.upper keyword-reserved.reserved_words keyword-keywords.keywords keyword-keywords.keyword_texts keyword-reserved.reserved charset-charset.name string-utf8.sequences string-utf8.goes_on string-utf8.valid string-quote.doubled string-quote.undoubled string-quote.closing string-quote.quoted_size charset-charset.spatial_byte civil-civil.leap civil-civil.days_in civil-civil.valid_date civil-civil.valid_time op-op.op_at op-op.is_arithmetic op-op.is_array op-op.is_comparison op-op.is_xtd_comparison op-op.is_spatial op-op.is_temporal op-op.is_instant_or_interval op-op.is_nullable spelling-spelling.spelled_as tree-tree.twos tree-tree.date_bytes tree-tree.counted tree-tree.encode_settings tree-tree.encode tree-parse.also tree-parse.cons tree-parse.end tree-parse.exactly tree-parse.many tree-tests.first tree-tests.second record-record.signed charset-named.named_at tree-parse.empty_body tree-parse.bool_body tree-parse.num_body tree-parse.str_body tree-parse.date_body tree-parse.timestamp_body tree-parse.spatial_body tree-parse.takes_one tree-parse.takes_two tree-parse.allowed tree-parse.operated tree-parse.read_function tree-parse.choose tree-parse.kinds tree-parse.node tree-parse.parse tree-tests.is_interval tree-tests.count tree-tests.is_pair tree_placed.is_between tree_placed.operands tree_placed.placed tree_placed.no_interval tree_placed.in_place tree_placed.inner tree-tests.everywhere tree-tests.everywhere_in tree-tests.by_operator settings-settings.is_frame settings-settings.settings_body settings-settings.is_settings tree-accepted.settings tree-accepted.accepted_tree tree-accepted.accepted literal-literal.low literal-literal.digits literal-literal.decimal literal-literal.pointed literal-literal.plain literal-literal.sign literal-literal.num_text literal-literal.quoted literal-literal.collate literal-literal.str_text literal-literal.spatial_text literal-literal.date literal-literal.clock literal-literal.timestamp literal-literal.after_seconds literal-literal.open_end sql-condition.print sql-condition.check_id sql-condition.check_ids sql-translators.t_after sql-translators.t_before sql-translators.t_disjoint sql-translators.t_equals sql-translators.t_intersects sql-translators.t_contains sql-translators.t_during sql-translators.t_finished_by sql-translators.t_finishes sql-translators.t_meets sql-translators.t_met_by sql-translators.t_overlapped_by sql-translators.t_overlaps sql-translators.t_started_by sql-translators.t_starts sql-translators.translate tree-tests.is_id tree-tests.is_literal_or_id tree-tests.is_monadic tree-tests.is_items tree-tests.start_of tree-tests.stop_of tree-tests.ends_of gpkg-text.joined gpkg-text.reduce_precision gpkg-text.monadic_text gpkg-text.reduces gpkg-text.dyadic_text tree-tests.is_literal gpkg-text.text room-room.sized gpkg-lowered.fitted gpkg-lowered.lowering_within gpkg-lowered.answer order-order.order order-order.below row-row.cell_of row-row.column_in row-row.framed row-row.front row-row.clash row-row.joined row-row.row_from row-row.row_of row-row.look truth-lex.run truth-lex.word_kind truth-lex.sign_kind truth-lex.sign_more truth-lex.quote_kind truth-lex.lexeme truth-lex.cut truth-lex.tokens_in truth-lex.tokens truth-lex.kind truth-lex.body truth-lex.rest truth-grammar.value truth-grammar.holds truth-grammar.eval truth-grammar.atom_of truth-grammar.not_null truth-grammar.null_test truth-grammar.from_atom truth-grammar.simple truth-grammar.or_e truth-reading.parse truth-reading.reading_of truth-reading.decided time-filter.comparable time-filter.is_end time-filter.is_operand time-filter.time_filter time-filtertruth.tree_atom time-filtertruth.holds time-filtertruth.value_on time-filtertruth.end_atom time-filtertruth.end_on time-filtertruth.cond_truth time-filtertruth.temporal_truth time-filtertruth.comparison time-filtertruth.truth_on time-filtertruth.is_value time-filtertruth.lies_below time-filtertruth.columns_non_null lacks of_one_width reduced one_reduced two_reduced turn turned meet meet_and meet_other met sort_of happens fitted reducing lowers_within lowers_by
@@ -162,7 +162,7 @@ apart GeoPackage =
     }
 
 -- lone-null: reducing gives Null, and the texts read false and unknown
-pub lone_null_reads : (w : Writing) → (reading_of (sql w lone_null) row_null ≡ SaysFalse) × (reading_of (sql w null) row_null ≡ SaysUnknown)
+pub lone_null_reads : (w : Writing) → (reading_of (sql w lone_null) row_null ≡ says_false) × (reading_of (sql w null) row_null ≡ says_unknown)
 lone_null_reads w =
     let k = apart w in (
       reads_as k.null_lowers k.null_filters.0 is-row_null ∙ k.null_truths.0,
@@ -170,7 +170,7 @@ lone_null_reads w =
     )
 
 -- mixed-widths: reducing gives true, and the texts read false and true
-pub mixed_widths_read : (w : Writing) → (reading_of (sql w mixed) row_null ≡ SaysFalse) × (reading_of (sql w (bool true)) row_null ≡ SaysTrue)
+pub mixed_widths_read : (w : Writing) → (reading_of (sql w mixed) row_null ≡ says_false) × (reading_of (sql w (bool true)) row_null ≡ says_true)
 mixed_widths_read w =
     let k = apart w in (
       reads_as k.mixed_lowers k.mixed_filters.0 is-row_null ∙ k.mixed_truths.0,

@@ -2,7 +2,6 @@
 use input::Part;
 use replay_cases::{Case, Kind, Tally};
 use std::io;
-use truth::Reading;
 
 pub(crate) struct Readings;
 
@@ -10,10 +9,10 @@ impl Kind<3> for Readings {
     fn judged(&self, _place: u64, parts: &[Part; 3]) -> Option<Case> {
         let [text, row, answer] = parts;
         let found = match truth::read(text.bytes(), row.bytes()) {
-            Reading::False => 0,
-            Reading::True => 1,
-            Reading::Unknown => 2,
-            Reading::Refused(r) => u8::from(r),
+            Ok(Some(false)) => 0,
+            Ok(Some(true)) => 1,
+            Ok(None) => 2,
+            Err(r) => u8::from(r),
         };
         crate::of_byte(answer.bytes(), found)
     }

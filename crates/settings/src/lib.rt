@@ -16,7 +16,8 @@ pub const PRECISION_AT: usize = 6;
 
 pub const CI_AT: usize = 7;
 
-// The flags of a Str, by the collation that they ask for.
+// The flags of a Str, by the collation that they ask for: two bits of one byte, letter case and accents, which reduce joins by arithmetic. An enum
+// would be turned back into the bits in each place.
 pub const PLAIN: usize = 0;
 
 pub const CI: usize = 1;
@@ -40,21 +41,17 @@ pub fn cai_at(s: &[u8]) -> usize
 }
 
 // Past the frame: a precision, three names, and nothing more.
+#[tactic(auto, using(crate::proofs::Tests::tests), unfolding(crate::specs::Settings::settings_body))]
 fn settings_body(s: &[u8]) -> bool
     ensures { result ≡ settings_body s.now }
 {
-    if PRECISION_LIMIT < record::byte_at(s, PRECISION_AT) {
-        return false;
-    }
-    if charset::named_at(s, CI_AT) {
-        if charset::named_at(s, ai_at(s)) {
-            let cai = cai_at(s);
-            if charset::named_at(s, cai) {
-                return cai + 1 + record::byte_at(s, cai) == s.len();
-            }
-        }
-    }
-    false
+    let ai = ai_at(s);
+    let cai = cai_at(s);
+    record::byte_at(s, PRECISION_AT) <= PRECISION_LIMIT
+        && charset::named_at(s, CI_AT)
+        && charset::named_at(s, ai)
+        && charset::named_at(s, cai)
+        && cai + 1 + record::byte_at(s, cai) == s.len()
 }
 
 // One record of the settings' kind, and nothing after it.
@@ -69,14 +66,15 @@ pub fn is_settings(s: &[u8]) -> bool
 }
 
 // The flags of the collation that CaseI, AccentI or both ask for.
+#[tactic(auto, using(crate::proofs::Tests::tests))]
 pub fn collation_flags(op: usize, twin: bool) -> usize
     ensures { result ≡ collation_flags op twin }
 {
     if twin {
-        return CAI;
+        CAI
+    } else if op == CASE_I {
+        CI
+    } else {
+        AI
     }
-    if op == CASE_I {
-        return CI;
-    }
-    AI
 }

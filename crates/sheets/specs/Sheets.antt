@@ -2,7 +2,7 @@
 -- slip 4), and a third for open ends in either call (slip 5): precision 7, collations NC, NA, NCA. Each line is checked by `right`, and `Hold.antt`
 -- has the one proof. The settings, the trees of A, B and O and the second table's first Timestamp stand as bytes, so that a mistake that `encode`
 -- and `parse` share cannot pass.
-use Rattle.std.specs.Prelude.{ℕ, List, [], ◌∷◌, ◌++◌, Bool, true, false, eqb, pos}
+use Rattle.std.specs.Prelude.{ℕ, List, [], ◌∷◌, ◌++◌, Bool, true, false, eqb, pos, Some, None, Ok, Err}
 use Rattle.prelude.specs.Bytes.{bytes}
 use Rattle.prelude.specs.Choice.{both, same}
 use Rattle.refusal.specs.Number.{number_of}
@@ -11,9 +11,7 @@ use Rattle.tree.specs.Tree.{Tree, null, unbounded, num, str, date, timestamp, sp
 use Rattle.tree.specs.Parse.{Read, refused, got}
 use Rattle.literal.specs.declared.Writing.{Writing}
 use Rattle.text.specs.Lowered.{lowering}
-use Rattle.truth.specs.declared.Reading.{Reading}
-use Rattle.truth.specs.declared.Reading.TheVariants.{True, False, Unknown, Refused}
-use Rattle.truth.specs.Reading.{reading_of}
+use Rattle.truth.specs.Reading.{Reading, says_true, says_false, says_unknown, reading_of}
 
 -- a sheet: a tree's bytes and the text, a tree's bytes and the refusal's number, or a text and a row and what is read
 pub data Sheet : Type 0 where
@@ -39,10 +37,10 @@ is_refusal (got y) r = false
 
 -- an answer of reading as a number, to be compared
 abbrev pub code : Reading → ℕ
-code True = 101
-code False = 102
-code Unknown = 103
-code (Refused n) = number_of n
+code (Ok (Some true)) = 101
+code (Ok (Some false)) = 102
+code (Ok None) = 103
+code (Err n) = number_of n
 
 -- a sheet is right in the call of this writing
 abbrev pub right : Writing → Sheet → Bool
@@ -109,7 +107,7 @@ sheets =
     (bytes "ST_Within(ST_ReducePrecision(g, 1E-7), ST_GeomFromText('POINT (1 2)', 4326))")
     ∷ lowers (encode (dyadic SWithin g h)) (bytes "ST_Within(g, h)")
     -- N: unknown
-    ∷ reads text_j row_n Unknown
+    ∷ reads text_j row_n says_unknown
     -- O: an Interval as root, of a and b: 7
     ∷ refuses (16 ∷ 0 ∷ 0 ∷ 0 ∷ 13 ∷ 0 ∷ 3 ∷ 0 ∷ 0 ∷ 0 ∷ 8 ∷ 0 ∷ (bytes "a" ++ (3 ∷ 0 ∷ 0 ∷ 0 ∷ 8 ∷ 0 ∷ bytes "b"))) 7
     -- P: the empty tree: 3
@@ -145,8 +143,8 @@ geopackage_sheets =
     ∷ lowers (encode (dyadic TMeets (interval a instant) (interval instant d)))
     (bytes "\"a\" IS NOT NULL AND \"d\" NOT NULL AND (" ++ (instant_text ++ (bytes " = " ++ (instant_text ++ bytes ")"))))
     -- the reader takes such texts
-    ∷ reads (bytes "a > " ++ instant_text) row_later True
-    ∷ reads (bytes "a = " ++ instant_text) row_later False
+    ∷ reads (bytes "a > " ++ instant_text) row_later says_true
+    ∷ reads (bytes "a = " ++ instant_text) row_later says_false
     -- 115 bytes, where the buffer has 100: 9
     ∷ refuses (encode (dyadic TDisjoint instant (interval c instant))) 9
     -- other refusals are the first call's, here 7 and 3

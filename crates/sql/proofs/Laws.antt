@@ -2,11 +2,15 @@
 use Rattle.std.proofs.Common.{◌≡◌, refl, ap, sym, ◌∙◌, arith, List, [], ◌∷◌, ◌++◌, append_assoc, length, slice_index_or, ℕ, Bool, true, false}
 use Rattle.prelude.specs.Choice.{pick}
 use Rattle.prelude.specs.Bytes.{bytes}
-use Rattle.sql.specs.Condition.{Cond, and, or, not, is_not_null, not_null, brackets, print, check_id, check_ids}
+use Rattle.sql.specs.Condition.{Cond, and, or, is_not_null, not_null, brackets, print, check_id, check_ids}
+use Rattle.op.specs.declared.Op.{Op}
+use Rattle.op.specs.declared.Op.TheVariants as op
+use Rattle.op.specs.Op.{op_number}
+use Rattle.sql.specs.Translators.{translate, t_starts}
 use Rattle.sql.specs.declared.Part.{Part}
 use Rattle.sql.specs.declared.Part.TheVariants.{Open, Close, CloseBoth, Quote, IsNotNull, IsNotNullQuote, NotNull, Or, And, Not}
 use Rattle.sql.specs.TemplateLaws.{spelt-append}
-use Rattle.sql.specs.Template.{held, spelt, part_of, digit_of, template_of, guarded_text, guarded_both_text, check_id_text, check_ids_text, both_text, neither_text, either_text}
+use Rattle.sql.specs.Template.{spelt, part_of, digit_of, template_of, guarded_text, guarded_both_text, check_id_text, check_ids_text, both_text, neither_text, either_text}
 
 module _ (x s y : Part) where
   pub one_guarded : (i : Part) → spelt (Quote ∷ i ∷ IsNotNull ∷ x ∷ s ∷ y ∷ Close ∷ []) ≡ guarded_text (part_of i) (spelt (x ∷ s ∷ y ∷ []))
@@ -72,3 +76,60 @@ both_of {x} {y} {v} {w} p q = ap (λ (l : List Part). both_text (spelt l) (spelt
 
 pub neither_of : {x y v w : List Part} → x ≡ v → y ≡ w → neither_text (spelt x) (spelt y) ≡ neither_text (spelt v) (spelt w)
 neither_of {x} {y} {v} {w} p q = ap (λ (l : List Part). neither_text (spelt l) (spelt y)) p ∙ ap (λ (l : List Part). neither_text (spelt v) (spelt l)) q
+
+-- each operator that is not named has the translator of TStarts
+pub others : (o : Op) → (o ≡ op.TAfter → ⊥) → (o ≡ op.TBefore → ⊥) → (o ≡ op.TContains → ⊥) → (o ≡ op.TDisjoint → ⊥) → (o ≡ op.TDuring → ⊥) → (o ≡ op.TEquals → ⊥) → (o ≡ op.TFinishedBy → ⊥) → (o ≡ op.TFinishes → ⊥) → (o ≡ op.TIntersects → ⊥) → (o ≡ op.TMeets → ⊥) → (o ≡ op.TMetBy → ⊥) → (o ≡ op.TOverlappedBy → ⊥) → (o ≡ op.TOverlaps → ⊥) → (o ≡ op.TStartedBy → ⊥) → translate (op_number o) ≡ t_starts
+unfolding translate
+others op.Plus _ _ _ _ _ _ _ _ _ _ _ _ _ _ = refl
+others op.Minus _ _ _ _ _ _ _ _ _ _ _ _ _ _ = refl
+others op.Mult _ _ _ _ _ _ _ _ _ _ _ _ _ _ = refl
+others op.Div _ _ _ _ _ _ _ _ _ _ _ _ _ _ = refl
+others op.IntDiv _ _ _ _ _ _ _ _ _ _ _ _ _ _ = refl
+others op.Mod _ _ _ _ _ _ _ _ _ _ _ _ _ _ = refl
+others op.Exp _ _ _ _ _ _ _ _ _ _ _ _ _ _ = refl
+others op.Neg _ _ _ _ _ _ _ _ _ _ _ _ _ _ = refl
+others op.Eq _ _ _ _ _ _ _ _ _ _ _ _ _ _ = refl
+others op.Neq _ _ _ _ _ _ _ _ _ _ _ _ _ _ = refl
+others op.Lt _ _ _ _ _ _ _ _ _ _ _ _ _ _ = refl
+others op.Gt _ _ _ _ _ _ _ _ _ _ _ _ _ _ = refl
+others op.Lte _ _ _ _ _ _ _ _ _ _ _ _ _ _ = refl
+others op.Gte _ _ _ _ _ _ _ _ _ _ _ _ _ _ = refl
+others op.And _ _ _ _ _ _ _ _ _ _ _ _ _ _ = refl
+others op.Or _ _ _ _ _ _ _ _ _ _ _ _ _ _ = refl
+others op.CaseI _ _ _ _ _ _ _ _ _ _ _ _ _ _ = refl
+others op.AccentI _ _ _ _ _ _ _ _ _ _ _ _ _ _ = refl
+others op.SIntersects _ _ _ _ _ _ _ _ _ _ _ _ _ _ = refl
+others op.SEquals _ _ _ _ _ _ _ _ _ _ _ _ _ _ = refl
+others op.SDisjoint _ _ _ _ _ _ _ _ _ _ _ _ _ _ = refl
+others op.STouches _ _ _ _ _ _ _ _ _ _ _ _ _ _ = refl
+others op.SWithin _ _ _ _ _ _ _ _ _ _ _ _ _ _ = refl
+others op.SOverlaps _ _ _ _ _ _ _ _ _ _ _ _ _ _ = refl
+others op.SCrosses _ _ _ _ _ _ _ _ _ _ _ _ _ _ = refl
+others op.SContains _ _ _ _ _ _ _ _ _ _ _ _ _ _ = refl
+others op.TAfter h _ _ _ _ _ _ _ _ _ _ _ _ _ = absurd (h refl)
+others op.TBefore _ h _ _ _ _ _ _ _ _ _ _ _ _ = absurd (h refl)
+others op.TContains _ _ h _ _ _ _ _ _ _ _ _ _ _ = absurd (h refl)
+others op.TDisjoint _ _ _ h _ _ _ _ _ _ _ _ _ _ = absurd (h refl)
+others op.TDuring _ _ _ _ h _ _ _ _ _ _ _ _ _ = absurd (h refl)
+others op.TEquals _ _ _ _ _ h _ _ _ _ _ _ _ _ = absurd (h refl)
+others op.TFinishedBy _ _ _ _ _ _ h _ _ _ _ _ _ _ = absurd (h refl)
+others op.TFinishes _ _ _ _ _ _ _ h _ _ _ _ _ _ = absurd (h refl)
+others op.TIntersects _ _ _ _ _ _ _ _ h _ _ _ _ _ = absurd (h refl)
+others op.TMeets _ _ _ _ _ _ _ _ _ h _ _ _ _ = absurd (h refl)
+others op.TMetBy _ _ _ _ _ _ _ _ _ _ h _ _ _ = absurd (h refl)
+others op.TOverlappedBy _ _ _ _ _ _ _ _ _ _ _ h _ _ = absurd (h refl)
+others op.TOverlaps _ _ _ _ _ _ _ _ _ _ _ _ h _ = absurd (h refl)
+others op.TStartedBy _ _ _ _ _ _ _ _ _ _ _ _ _ h = absurd (h refl)
+others op.TStarts _ _ _ _ _ _ _ _ _ _ _ _ _ _ = refl
+others op.AEquals _ _ _ _ _ _ _ _ _ _ _ _ _ _ = refl
+others op.AContains _ _ _ _ _ _ _ _ _ _ _ _ _ _ = refl
+others op.AContainedBy _ _ _ _ _ _ _ _ _ _ _ _ _ _ = refl
+others op.AOverlaps _ _ _ _ _ _ _ _ _ _ _ _ _ _ = refl
+others op.IsLike _ _ _ _ _ _ _ _ _ _ _ _ _ _ = refl
+others op.IsNotLike _ _ _ _ _ _ _ _ _ _ _ _ _ _ = refl
+others op.IsBetween _ _ _ _ _ _ _ _ _ _ _ _ _ _ = refl
+others op.IsNotBetween _ _ _ _ _ _ _ _ _ _ _ _ _ _ = refl
+others op.IsInList _ _ _ _ _ _ _ _ _ _ _ _ _ _ = refl
+others op.IsNotInList _ _ _ _ _ _ _ _ _ _ _ _ _ _ = refl
+others op.IsNull _ _ _ _ _ _ _ _ _ _ _ _ _ _ = refl
+others op.IsNotNull _ _ _ _ _ _ _ _ _ _ _ _ _ _ = refl

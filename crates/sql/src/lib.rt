@@ -2,6 +2,7 @@
 #![tactic(auto)]
 
 ghost use Rattle.std.specs.Prelude.{◌≡◌, ◌++◌, ◌+◌, ◌≤◌, ℕ, Bool, length};
+ghost use Rattle.op.specs.Op.{op_number};
 ghost use Rattle.operand.specs.Ends.{columns};
 ghost use Rattle.sql.specs.Template.{held, spelt, part_of, place, template_of, guarded_text, guarded_both_text, check_id_text, check_ids_text, both_text, neither_text, either_text};
 ghost use Rattle.sql.specs.Translators.{t_after, t_before, t_contains, t_disjoint, t_during, t_equals, t_finished_by, t_finishes, t_intersects, t_meets, t_met_by, t_overlapped_by, t_overlaps, t_started_by, t_starts, translate};
@@ -11,10 +12,7 @@ use Part::{
     NotNull, Open, Or, Quote, Unequal,
 };
 use arrayvec::ArrayVec;
-use op::{
-    T_AFTER, T_BEFORE, T_CONTAINS, T_DISJOINT, T_DURING, T_EQUALS, T_FINISHED_BY, T_FINISHES,
-    T_INTERSECTS, T_MEETS, T_MET_BY, T_OVERLAPPED_BY, T_OVERLAPS, T_STARTED_BY,
-};
+use op::Op;
 use operand::End;
 
 // A part of a condition's text: an end, or words (specs/Template.antt has them). The ends stand first, at their places.
@@ -58,7 +56,8 @@ pub enum Part {
 // A condition's text in parts, of which none has more than 21.
 pub type Template = ArrayVec<Part, 24>;
 
-// A template with some parts after it.
+// A template with some parts after it. One by one: a slice as a whole would be copied by memmove, and include/wenduulig.h promises that memcpy and memset
+// alone are called.
 fn append(t: &mut Template, parts: &[Part])
     requires { length t.old.items + length parts.now ≤ 24 }
     ensures { t.new.items ≡ t.old.items ++ parts.now }
@@ -297,26 +296,26 @@ fn t_starts_sql() -> Template
     both([E0, Equal, E2], [E1, Less, E3])
 }
 
-// The template of a temporal operator, by the operator's number.
+// The template of a temporal operator.
 #[tactic(auto, unfolding(crate::specs::Translators::translate))]
-pub fn temporal_sql(op: usize, a: bool, b: bool, e: &[End; 4]) -> Template
-    ensures { held result ≡ template_of (translate op a b (columns e.now)) }
+pub fn temporal_sql(op: Op, a: bool, b: bool, e: &[End; 4]) -> Template
+    ensures { held result ≡ template_of (translate (op_number op) a b (columns e.now)) }
 {
     match op {
-        T_AFTER => t_after_sql(a, b, e),
-        T_BEFORE => t_before_sql(a, b, e),
-        T_CONTAINS => t_contains_sql(),
-        T_DISJOINT => t_disjoint_sql(a, b, e),
-        T_DURING => t_during_sql(),
-        T_EQUALS => t_equals_sql(a, b, e),
-        T_FINISHED_BY => t_finished_by_sql(),
-        T_FINISHES => t_finishes_sql(),
-        T_INTERSECTS => t_intersects_sql(a, b, e),
-        T_MEETS => t_meets_sql(e),
-        T_MET_BY => t_met_by_sql(e),
-        T_OVERLAPPED_BY => t_overlapped_by_sql(),
-        T_OVERLAPS => t_overlaps_sql(),
-        T_STARTED_BY => t_started_by_sql(),
+        Op::TAfter => t_after_sql(a, b, e),
+        Op::TBefore => t_before_sql(a, b, e),
+        Op::TContains => t_contains_sql(),
+        Op::TDisjoint => t_disjoint_sql(a, b, e),
+        Op::TDuring => t_during_sql(),
+        Op::TEquals => t_equals_sql(a, b, e),
+        Op::TFinishedBy => t_finished_by_sql(),
+        Op::TFinishes => t_finishes_sql(),
+        Op::TIntersects => t_intersects_sql(a, b, e),
+        Op::TMeets => t_meets_sql(e),
+        Op::TMetBy => t_met_by_sql(e),
+        Op::TOverlappedBy => t_overlapped_by_sql(),
+        Op::TOverlaps => t_overlaps_sql(),
+        Op::TStartedBy => t_started_by_sql(),
         _ => t_starts_sql(),
     }
 }

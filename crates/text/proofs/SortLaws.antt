@@ -10,7 +10,9 @@ use lib.ListN.{length}
 use lib.Dec.{eqb}
 use Rattle.record.specs.Record.{le16}
 use Rattle.op.specs.declared.Op.{Op}
-use Rattle.op.specs.Op.{op_number, is_spatial}
+use Rattle.std.specs.Prelude.{Option, Some, None}
+use Rattle.op.specs.Op.{op_number, op_of, is_spatial}
+use Rattle.op.specs.OpLaws.{number_of, of_number}
 use Rattle.literal.specs.declared.Writing.{Writing}
 use Rattle.tree.specs.Tree.{Tree, Settings, encode, kind_of}
 use Rattle.tree.specs.Placed.{is_between}
@@ -57,6 +59,19 @@ same_column t u a (suc zero) = a.is1.column
 same_column t u a (suc (suc zero)) = a.is2.column
 same_column t u a (suc (suc (suc zero))) = a.is3.column
 same_column t u a (suc (suc (suc (suc j)))) = simp (le-ltb (suc (suc (suc (suc j)))) 4 (omega arith))
+
+-- the number of a node's operator names one
+pub named : {s : List ℕ} {op m : ℕ} {t : Tree} → Node s 10 op m t → op_of op ≡ None → ⊥
+named (one o x k n e f) q = let v : ⊥ = omega (arith, k) in v
+named (two o x y k n p r) q =
+    let z : ◌≡◌ {A = Option Op} None (Some o) = sym q ∙ ap op_of n ∙ number_of o in
+    let u : ◌≡◌ {A = ℕ} 0 1 = cc in
+    let v : ⊥ = omega arith in
+    v
+
+-- a template by the operator that a number names
+pub by_op : (op : ℕ) (o : Op) (a b : Bool) (column : ℕ → Bool) {w : List ℕ} → w ≡ template_of (translate (op_number o) a b column) → op_of op ≡ Some o → w ≡ template_of (translate op a b column)
+by_op op o a b column e q = e ∙ ap (λ (n : ℕ). template_of (translate n a b column)) (sym (of_number op o q))
 
 -- the template of a temporal node
 pub template_fills : {s : List ℕ} {op m : ℕ} (writing : Writing) (g : Settings) {t : Tree} → Node s 10 op m t → between 26 op 40 ≡ true → {e : List end.End} → Are s e (node_ends t) → {a b : Bool} {w : List ℕ}

@@ -14,6 +14,7 @@ ghost use Rattle.class.specs.ClassWords.{temporal_number};
 
 use crate::classes::is_temporal_number;
 use crate::records::{OPERAND, end_of, is_kind};
+use op::op_of;
 use operand::{End, Operand};
 use record::{BODY, KIND};
 use sql::Template;
@@ -79,5 +80,9 @@ pub(crate) fn template_of(s: &[u8], op: usize, m: usize, e: &[End; 4]) -> Templa
     ensures { (w : Writing) (g : Settings) (t : Tree) → Node s.now DYADIC op m t → temporal_number op ≡ true → Are s.now e.now (node_ends t) → text w g t ≡ fill (slot w g (node_ends t)) (held result) }
 {
     let a = is_kind(&s[OPERAND..m], INTERVAL);
-    sql::temporal_sql(op, a, is_kind(&s[m..], INTERVAL), e)
+    let b = is_kind(&s[m..], INTERVAL);
+    match op_of(op) {
+        Some(op) => sql::temporal_sql(op, a, b, e),
+        None => Template::new(),
+    }
 }

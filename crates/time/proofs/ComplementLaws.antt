@@ -19,7 +19,7 @@ use Rattle.row.specs.Row.{val, Column, Found, absent, has, look}
 use Rattle.row.specs.Row as row
 use Rattle.truth.specs.declared.Truth.{Truth}
 use Rattle.truth.specs.declared.Truth.TheVariants.{True, False, Unknown, Missing}
-use Rattle.truth.specs.declared.Reading.TheVariants.{True as SaysTrue, False as SaysFalse, Unknown as SaysUnknown}
+use Rattle.truth.specs.Reading.{says_true, says_false, says_unknown}
 use Rattle.truth.specs.Reading.{answered}
 use Rattle.lexer.specs.declared.Kind.TheVariants.{Eq as EQ, Ne as NE}
 use Rattle.truth.specs.Grammar.{not3, or3, truth_of, compared, holds}
@@ -70,7 +70,7 @@ abbrev Truths : Truth → Truth → Type 0
 Truths x y = Opposite True False Unknown x y
 
 abbrev Readings : Truth → Truth → Type 0
-Readings x y = Opposite SaysTrue SaysFalse SaysUnknown (answered x) (answered y)
+Readings x y = Opposite says_true says_false says_unknown (answered x) (answered y)
 
 opposite : (y : Truth) → Truths (not3 y) y
 opposite True = record { when_true = (λ e. cc, λ e. cc); when_false = (λ e. cc, λ e. cc); when_unknown = (λ e. cc, λ e. cc) }
@@ -123,5 +123,5 @@ module _ (writing : Writing) (cs : List Column) (t u : Tree) (p : columns_non_nu
   complement_truths = rw disjoint_intersects (opposite (temporal_truth writing cs TIntersects t u))
 
   pub complement-readings :
-      Opposite SaysTrue SaysFalse SaysUnknown (answered (temporal_truth writing cs TDisjoint t u)) (answered (temporal_truth writing cs TIntersects t u))
+      Opposite says_true says_false says_unknown (answered (temporal_truth writing cs TDisjoint t u)) (answered (temporal_truth writing cs TIntersects t u))
   complement-readings = rw disjoint_intersects (opposite_read (temporal_truth writing cs TIntersects t u))

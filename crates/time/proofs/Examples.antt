@@ -28,9 +28,9 @@ use Rattle.text.specs.Text as gpkg
 use Rattle.row.specs.Row.{Value, val, Column, look}
 use Rattle.row.specs.Row as row
 use Rattle.truth.specs.declared.Truth.TheVariants.{True, False, Unknown, Missing}
-use Rattle.truth.specs.declared.Reading.{Reading}
 use Rattle.refusal.specs.declared.Refusal.TheVariants.{BadText, MissingColumn}
-use Rattle.truth.specs.declared.Reading.TheVariants.{True as SaysTrue, Refused}
+use Rattle.std.specs.Prelude.{Err}
+use Rattle.truth.specs.Reading.{Reading, says_true}
 use Rattle.lexer.specs.Lex as lex
 use Rattle.truth.specs.Grammar.{not3, truth_of}
 use Rattle.truth.specs.Grammar as grammar
@@ -116,15 +116,15 @@ abbrev negated-end : Tree
 negated-end = dyadic TAfter (monadic Neg a) b
 
 no-filter :
-    (time_filter negated-end ≡ false) × (reads days negated-end ≡ SaysTrue) × (reads days (dyadic TBefore b (monadic Neg a)) ≡ Refused BadText)
+    (time_filter negated-end ≡ false) × (reads days negated-end ≡ says_true) × (reads days (dyadic TBefore b (monadic Neg a)) ≡ Err BadText)
     × (truth_on Rust days negated-end ≡ Unknown)
 unfolding time_filter is_operand op.is_temporal op.is_nullable op.is_spatial op.is_array some truth_on temporal_truth cond_truth translators.translate translators.t_after translators.t_before trees.is_interval trees.is_id trees.is_literal trees.is_literal_or_id trees.start_of trees.stop_of trees.ends_of gpkg.text gpkg.monadic_text gpkg.dyadic_text spelling.spelled_as sql.print placed.is_between value_on end_on look order grammar.holds grammar.value grammar.eval grammar.atom_of grammar.not_null grammar.null_test grammar.from_atom grammar.simple grammar.or_e parse lex.run lex.word_kind lex.sign_kind lex.sign_more lex.quote_kind lex.lexeme lex.cut lex.tokens_in lex.tokens lex.kind lex.body lex.rest charset.letter charset.digit charset.name_start charset.name_byte case.upper keyword.reserved_words keywords.keywords keywords.keyword_texts keyword.reserved charset.name utf8.sequences utf8.goes_on utf8.valid quote.doubled quote.undoubled quote.closing quote.quoted_size literal.date literal.low tree_atom end_atom trees.by_operator trees.everywhere is_end trees.first trees.second
 no-filter = (refl, refl, refl, refl)
 
 -- A row that lacks a column: both texts are refused (13), and say neither true nor false nor unknown.
 lacking-column :
-    (holds [] (dyadic TAfter a b) ≡ false) × (reads [] (dyadic TAfter a b) ≡ Refused MissingColumn)
-    × (reads [] (dyadic TBefore b a) ≡ Refused MissingColumn)
+    (holds [] (dyadic TAfter a b) ≡ false) × (reads [] (dyadic TAfter a b) ≡ Err MissingColumn)
+    × (reads [] (dyadic TBefore b a) ≡ Err MissingColumn)
 unfolding time_filter is_operand op.is_temporal op.is_nullable op.is_spatial op.is_array some truth_on temporal_truth cond_truth translators.translate translators.t_after translators.t_before trees.is_interval trees.is_id trees.is_literal trees.is_literal_or_id trees.start_of trees.stop_of trees.ends_of gpkg.text gpkg.monadic_text gpkg.dyadic_text spelling.spelled_as sql.print placed.is_between value_on end_on look order grammar.holds grammar.value grammar.eval grammar.atom_of grammar.not_null grammar.null_test grammar.from_atom grammar.simple grammar.or_e parse lex.run lex.word_kind lex.sign_kind lex.sign_more lex.quote_kind lex.lexeme lex.cut lex.tokens_in lex.tokens lex.kind lex.body lex.rest charset.letter charset.digit charset.name_start charset.name_byte case.upper keyword.reserved_words keywords.keywords keywords.keyword_texts keyword.reserved charset.name utf8.sequences utf8.goes_on utf8.valid quote.doubled quote.undoubled quote.closing quote.quoted_size literal.date literal.low tree_atom end_atom trees.by_operator trees.everywhere is_end trees.first trees.second holds
 lacking-column = (refl, refl, refl)
 

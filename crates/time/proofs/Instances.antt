@@ -17,7 +17,7 @@ use Rattle.literal.specs.declared.Writing.{Writing}
 use Rattle.literal.specs.declared.Writing.TheVariants.{Rust, GeoPackage}
 use Rattle.text.specs.Lowered.{lowering_within, lowering}
 use Rattle.row.specs.Row.{Column, val, row_of, columns}
-use Rattle.truth.specs.declared.Reading.TheVariants.{True as SaysTrue, False as SaysFalse, Unknown as SaysUnknown}
+use Rattle.truth.specs.Reading.{says_true, says_false, says_unknown}
 use Rattle.truth.specs.Grammar.{truth_of}
 use Rattle.truth.specs.Reading.{answered, reading_of}
 use Rattle.time.specs.Accepted.{Lowers, IsRow}
@@ -180,14 +180,14 @@ record Computed (w : Writing) : Type 0 where
   apart-filter : time_filter apart ≡ true
   temporal : is_temporal TDisjoint ≡ true
   held_null : holds columns_null apart ≡ true
-  unknown : answered (truth_on w columns_null apart) ≡ SaysUnknown
+  unknown : answered (truth_on w columns_null apart) ≡ says_unknown
   instant : is_operand a ≡ true
   operands : (is_operand (interval b c) ≡ true) × (is_operand (interval a c) ≡ true) × (is_operand (interval b d) ≡ true)
   held_d : (holds columns_d a ≡ true) × (holds columns_d (interval b c) ≡ true)
   no_null : (columns_non_null columns_d a ≡ true) × (columns_non_null columns_d (interval b c) ≡ true)
   below : (proper w columns_d a c ≡ true) × (proper w columns_d b d ≡ true)
   dates : (instants ten columns_d ≡ true) × (ogc_operand ten a ≡ true) × (ogc_operand ten (interval b c) ≡ true)
-  holds_there : answered (truth_of (ogc_on ten columns_d TDisjoint a (interval b c))) ≡ SaysTrue
+  holds_there : answered (truth_of (ogc_on ten columns_d TDisjoint a (interval b c))) ≡ says_true
   row_timestamp-is : row_of row_timestamp ≡ columns columns_timestamp
   after_lowers : Lowers GeoPackage (after 1) (sql GeoPackage (after 1))
   later_lowers : Lowers GeoPackage (after 2) (sql GeoPackage (after 2))
@@ -195,13 +195,13 @@ record Computed (w : Writing) : Type 0 where
   after_temporal : is_temporal TAfter ≡ true
   held_timestamp : (holds columns_timestamp a ≡ true) × (holds columns_timestamp (midnight 1) ≡ true) × (holds columns_timestamp (after 2) ≡ true)
   stamps : (instants twenty_four columns_timestamp ≡ true) × (ogc_operand twenty_four a ≡ true) × (ogc_operand twenty_four (midnight 1) ≡ true)
-  later : answered (truth_of (ogc_on twenty_four columns_timestamp TAfter a (midnight 1))) ≡ SaysTrue
-  not_later : answered (truth_on GeoPackage columns_timestamp (after 2)) ≡ SaysFalse
+  later : answered (truth_of (ogc_on twenty_four columns_timestamp TAfter a (midnight 1))) ≡ says_true
+  not_later : answered (truth_on GeoPackage columns_timestamp (after 2)) ≡ says_false
   stay_lowers : Lowers GeoPackage staying (sql GeoPackage staying)
   meets_temporal : is_temporal TIntersects ≡ true
   held_stay : (holds columns_timestamp stay ≡ true) × (holds columns_timestamp (midnight 2) ≡ true)
   stays : (ogc_operand twenty_four stay ≡ true) × (ogc_operand twenty_four (midnight 2) ≡ true)
-  stays_there : answered (truth_of (ogc_on twenty_four columns_timestamp TIntersects stay (midnight 2))) ≡ SaysTrue
+  stays_there : answered (truth_of (ogc_on twenty_four columns_timestamp TIntersects stay (midnight 2))) ≡ says_true
 
 computed : (w : Writing) → Computed w
 unfolding prelude-choice.some record-record.frame record-record.record_of charset-charset.letter charset-charset.digit charset-charset.name_start charset-charset.name_byte word-case.upper keyword-reserved.reserved_words keyword-keywords.keywords keyword-keywords.keyword_texts keyword-reserved.reserved charset-charset.name string-utf8.sequences string-utf8.goes_on string-utf8.valid string-quote.doubled string-quote.undoubled string-quote.closing string-quote.quoted_size charset-charset.spatial_byte civil-civil.leap civil-civil.days_in civil-civil.valid_date civil-civil.valid_time op-op.op_at op-op.is_arithmetic op-op.is_array op-op.is_comparison op-op.is_xtd_comparison op-op.is_spatial op-op.is_temporal op-op.is_instant_or_interval op-op.is_nullable spelling-spelling.spelled_as tree-tree.twos tree-tree.date_bytes tree-tree.counted tree-tree.encode_settings tree-tree.encode tree-parse.also tree-parse.cons tree-parse.end tree-parse.exactly tree-parse.many tree-tests.first tree-tests.second record-record.signed charset-named.named_at tree-parse.empty_body tree-parse.bool_body tree-parse.num_body tree-parse.str_body tree-parse.date_body tree-parse.timestamp_body tree-parse.spatial_body tree-parse.takes_one tree-parse.takes_two tree-parse.allowed tree-parse.operated tree-parse.read_function tree-parse.choose tree-parse.kinds tree-parse.node tree-parse.parse tree-tests.is_interval tree-tests.count tree-tests.is_pair tree_placed.is_between tree_placed.operands tree_placed.placed tree_placed.no_interval tree_placed.in_place tree_placed.inner tree-tests.everywhere tree-tests.everywhere_in tree-tests.by_operator settings-settings.is_frame settings-settings.settings_body settings-settings.is_settings tree-accepted.settings tree-accepted.accepted_tree tree-accepted.accepted literal-literal.low literal-literal.digits literal-literal.decimal literal-literal.pointed literal-literal.plain literal-literal.sign literal-literal.num_text literal-literal.quoted literal-literal.collate literal-literal.str_text literal-literal.spatial_text literal-literal.date literal-literal.clock literal-literal.timestamp literal-literal.after_seconds literal-literal.open_end sql-condition.print sql-condition.check_id sql-condition.check_ids sql-translators.t_after sql-translators.t_before sql-translators.t_disjoint sql-translators.t_equals sql-translators.t_intersects sql-translators.t_contains sql-translators.t_during sql-translators.t_finished_by sql-translators.t_finishes sql-translators.t_meets sql-translators.t_met_by sql-translators.t_overlapped_by sql-translators.t_overlaps sql-translators.t_started_by sql-translators.t_starts sql-translators.translate tree-tests.is_id tree-tests.is_literal_or_id tree-tests.is_monadic tree-tests.is_items tree-tests.start_of tree-tests.stop_of tree-tests.ends_of gpkg-text.joined gpkg-text.reduce_precision gpkg-text.monadic_text gpkg-text.reduces gpkg-text.dyadic_text tree-tests.is_literal gpkg-text.text room-room.sized gpkg-lowered.fitted gpkg-lowered.lowering_within gpkg-lowered.answer order-order.order order-order.below row-row.cell_of row-row.column_in row-row.framed row-row.front row-row.clash row-row.joined row-row.row_from row-row.row_of row-row.look truth-lex.run truth-lex.word_kind truth-lex.sign_kind truth-lex.sign_more truth-lex.quote_kind truth-lex.lexeme truth-lex.cut truth-lex.tokens_in truth-lex.tokens truth-lex.kind truth-lex.body truth-lex.rest truth-grammar.value truth-grammar.holds truth-grammar.eval truth-grammar.atom_of truth-grammar.not_null truth-grammar.null_test truth-grammar.from_atom truth-grammar.simple truth-grammar.or_e truth-reading.parse truth-reading.reading_of truth-reading.decided time-filter.comparable time-filter.is_end time-filter.is_operand time-filter.time_filter time-filtertruth.tree_atom time-filtertruth.holds time-filtertruth.value_on time-filtertruth.end_atom time-filtertruth.end_on time-filtertruth.cond_truth time-filtertruth.temporal_truth time-filtertruth.comparison time-filtertruth.truth_on time-filtertruth.is_value time-filtertruth.lies_below time-filtertruth.columns_non_null time-converse.converse time-converse.thirteen time-ogc.earlier time-ogc.same_moment time-ogc.ogc time-ogc.begins_date time-ogc.goes_on_time time-ogc.goes_on_milliseconds time-ogc.is_instant time-ogc.fields time-ogc.instants time-ogc.is_point time-ogc.is_start time-ogc.is_stop time-ogc.ogc_operand time-ogc.moment_on time-ogc.ogc_on
@@ -261,29 +261,29 @@ pub is-row_d : IsRow row_d columns_d
 is-row_d = record { short = omega arith; reads = (computed Rust).row_d-is }
 
 -- reads-truth: sheet J's filter on the row with a NULL is unknown
-pub reads_truth_instance : (w : Writing) → reading_of (sql w apart) row_null ≡ SaysUnknown
+pub reads_truth_instance : (w : Writing) → reading_of (sql w apart) row_null ≡ says_unknown
 reads_truth_instance w = (reads_truth (computed w).apart_lowers (computed w).apart-filter is-row_null (computed w).held_null).0 ∙ (computed w).unknown
 
 -- converse-reads: the operands exchanged
-pub converse_instance : (w : Writing) → Alike SaysTrue SaysFalse SaysUnknown (reading_of (sql w apart) row_null) (reading_of (sql w turned) row_null)
+pub converse_instance : (w : Writing) → Alike says_true says_false says_unknown (reading_of (sql w apart) row_null) (reading_of (sql w turned) row_null)
 unfolding time-converse.converse prelude-choice.some
 converse_instance w =
     converse-reads (turn TDisjoint a (interval b c) (computed w).temporal) (computed w).apart_lowers (computed w).turned_lowers (computed w).apart-filter is-row_null (computed w).held_null
 
 -- complement-reads: on a row without NULL
-pub complement_instance : (w : Writing) → Opposite SaysTrue SaysFalse SaysUnknown (reading_of (sql w apart) row_d) (reading_of (sql w meeting) row_d)
+pub complement_instance : (w : Writing) → Opposite says_true says_false says_unknown (reading_of (sql w apart) row_d) (reading_of (sql w meeting) row_d)
 complement_instance w =
     complement_reads (computed w).apart_lowers (computed w).meeting_lowers (computed w).instant (computed w).operands.0 is-row_d
     (computed w).no_null.0 (computed w).no_null.1
 
 -- agrees-with-ogc: a lies before the interval from b to c, so they are disjoint
-pub ogc_instance : reading_of (sql Rust apart) row_d ≡ SaysTrue
+pub ogc_instance : reading_of (sql Rust apart) row_d ≡ says_true
 ogc_instance =
     agrees_with_ogc ten (computed Rust).apart_lowers (computed Rust).temporal is-row_d (computed Rust).held_d.0 (computed Rust).held_d.1 (computed Rust).dates.0 (computed Rust).dates.1 (computed Rust).dates.2
     ∙ (computed Rust).holds_there
 
 -- exactly-one-reads: [a, c] and [b, d]
-pub exactly_one_instance : (w : Writing) → ExactlyOne SaysTrue SaysFalse (λ o. reading_of (sql w (pair o)) row_d)
+pub exactly_one_instance : (w : Writing) → ExactlyOne says_true says_false (λ o. reading_of (sql w (pair o)) row_d)
 exactly_one_instance w =
     exactly_one_reads (λ o. sql w (pair o)) (among (λ o. Lowers w (pair o) (sql w (pair o))) (computed w).pairs_lower) (computed w).operands.1 (computed w).operands.2 is-row_d
     (computed w).below.0 (computed w).below.1
@@ -292,17 +292,17 @@ exactly_one_instance w =
 pub is-row_timestamp : IsRow row_timestamp columns_timestamp
 is-row_timestamp = record { short = omega arith; reads = (computed Rust).row_timestamp-is }
 
-pub geopackage_truth_instance : reading_of (sql GeoPackage (after 2)) row_timestamp ≡ SaysFalse
+pub geopackage_truth_instance : reading_of (sql GeoPackage (after 2)) row_timestamp ≡ says_false
 geopackage_truth_instance =
     (reads_truth (computed GeoPackage).later_lowers (computed GeoPackage).later-filter is-row_timestamp (computed GeoPackage).held_timestamp.2).0 ∙ (computed GeoPackage).not_later
 
-pub geopackage_ogc_instance : reading_of (sql GeoPackage (after 1)) row_timestamp ≡ SaysTrue
+pub geopackage_ogc_instance : reading_of (sql GeoPackage (after 1)) row_timestamp ≡ says_true
 geopackage_ogc_instance =
     agrees_with_ogc twenty_four (computed GeoPackage).after_lowers (computed GeoPackage).after_temporal is-row_timestamp (computed GeoPackage).held_timestamp.0 (computed GeoPackage).held_timestamp.1 (computed GeoPackage).stamps.0 (computed GeoPackage).stamps.1 (computed GeoPackage).stamps.2
     ∙ (computed GeoPackage).later
 
 -- and with an open end
-pub open_end_instance : reading_of (sql GeoPackage staying) row_timestamp ≡ SaysTrue
+pub open_end_instance : reading_of (sql GeoPackage staying) row_timestamp ≡ says_true
 open_end_instance =
     agrees_with_ogc twenty_four (computed GeoPackage).stay_lowers (computed GeoPackage).meets_temporal is-row_timestamp (computed GeoPackage).held_stay.0 (computed GeoPackage).held_stay.1 (computed GeoPackage).stamps.0 (computed GeoPackage).stays.0 (computed GeoPackage).stays.1
     ∙ (computed GeoPackage).stays_there

@@ -24,8 +24,7 @@ use Rattle.literal.specs.declared.Writing.{Writing}
 use Rattle.row.specs.Row.{val, Column, has, look}
 use Rattle.truth.specs.declared.Truth.{Truth}
 use Rattle.truth.specs.declared.Truth.TheVariants.{True, False, Unknown, Missing}
-use Rattle.truth.specs.declared.Reading.{Reading}
-use Rattle.truth.specs.declared.Reading.TheVariants.{True as SaysTrue, False as SaysFalse, Unknown as SaysUnknown}
+use Rattle.truth.specs.Reading.{Reading, says_true, says_false, says_unknown}
 use Rattle.lexer.specs.declared.Kind.TheVariants.{Eq as EQ}
 use Rattle.truth.specs.Grammar.{value, holds as says, truth_of}
 use Rattle.truth.specs.Reading.{answered, reading_of}
@@ -69,14 +68,14 @@ turned-filter (in_both {t} {t'} {u} {u'} o h p q) e =
 turned-filter (in_neg {t} {t'} o h p) e = rw h (turned-filter p (rw h at e))
 
 -- what is read from a truth that is known
-alike : (a b : Truth) (r s : Reading) → known a ≡ true → a ≡ b → r ≡ answered a → s ≡ answered b → Alike SaysTrue SaysFalse SaysUnknown r s
+alike : (a b : Truth) (r s : Reading) → known a ≡ true → a ≡ b → r ≡ answered a → s ≡ answered b → Alike says_true says_false says_unknown r s
 alike True b r s k e f g = both_yes f (g ∙ ap answered (sym e))
 alike False b r s k e f g = both_no f (g ∙ ap answered (sym e))
 alike Unknown b r s k e f g = both_unknown f (g ∙ ap answered (sym e))
 alike Missing b r s k e f g = absurd (false≢true k)
 
 pub converse-reads : {writing : Writing} {t t' : Tree} {x x' row : List ℕ} {cs : List Column} → Turned t t' → Lowers writing t x → Lowers writing t' x' → time_filter t ≡ true
-    → IsRow row cs → holds cs t ≡ true → Alike SaysTrue SaysFalse SaysUnknown (reading_of x row) (reading_of x' row)
+    → IsRow row cs → holds cs t ≡ true → Alike says_true says_false says_unknown (reading_of x row) (reading_of x' row)
 converse-reads {writing} {t} {t'} {x} {x'} {row} {cs} T L L' f R h =
     let r = reads_truth L f R h in
     alike (truth_on writing cs t) (truth_on writing cs t') (reading_of x row) (reading_of x' row) r.1 (turned_truth writing cs T) r.0 (reads_as L' (turned-filter T f) R)
@@ -85,14 +84,14 @@ converse-reads {writing} {t} {t'} {x} {x'} {row} {cs} T L L' f R h =
 
 pub complement_reads : {writing : Writing} {t u : Tree} {x x' row : List ℕ} {cs : List Column} → Lowers writing (dyadic TDisjoint t u) x → Lowers writing (dyadic TIntersects t u) x'
     → is_operand t ≡ true → is_operand u ≡ true → IsRow row cs → columns_non_null cs t ≡ true → columns_non_null cs u ≡ true
-    → Opposite SaysTrue SaysFalse SaysUnknown (reading_of x row) (reading_of x' row)
+    → Opposite says_true says_false says_unknown (reading_of x row) (reading_of x' row)
 unfolding is_temporal some
 complement_reads {writing} {t} {u} {x} {x'} {row} {cs} L L' p q R nt nu =
     let f = both_of (is_operand t) (is_operand u) p q in
     let a = reads_as L (predicate_filter t u TDisjoint refl ∙ f) R ∙ ap answered (predicate_truth writing cs TDisjoint t u refl) in
     let b = reads_as L' (predicate_filter t u TIntersects refl ∙ f) R ∙ ap answered (predicate_truth writing cs TIntersects t u refl) in
-    subst (λ (r : Reading). Opposite SaysTrue SaysFalse SaysUnknown r (reading_of x' row)) (sym a)
-    (subst (λ (r : Reading). Opposite SaysTrue SaysFalse SaysUnknown (answered (temporal_truth writing cs TDisjoint t u)) r) (sym b) (complement-readings writing cs t u nt nu))
+    subst (λ (r : Reading). Opposite says_true says_false says_unknown r (reading_of x' row)) (sym a)
+    (subst (λ (r : Reading). Opposite says_true says_false says_unknown (answered (temporal_truth writing cs TDisjoint t u)) r) (sym b) (complement-readings writing cs t u nt nu))
 
 -- ---- Exactly one of thirteen.
 
@@ -107,7 +106,7 @@ thirteen_temporal = among (λ o. is_temporal o ≡ true) temporal_thirteen
 pub exactly_one_reads : {writing : Writing} {a b c d : Tree} {row : List ℕ} {cs : List Column} (x : Op → List ℕ)
     → ((o : Op) → one_of o thirteen ≡ true → Lowers writing (dyadic o (interval a b) (interval c d)) (x o))
     → is_operand (interval a b) ≡ true → is_operand (interval c d) ≡ true → IsRow row cs
-    → proper writing cs a b ≡ true → proper writing cs c d ≡ true → ExactlyOne SaysTrue SaysFalse (λ o. reading_of (x o) row)
+    → proper writing cs a b ≡ true → proper writing cs c d ≡ true → ExactlyOne says_true says_false (λ o. reading_of (x o) row)
 exactly_one_reads {writing} {a} {b} {c} {d} {row} {cs} x L p q R s t =
     laws.carried answered True False (λ o. temporal_truth writing cs o (interval a b) (interval c d)) (λ o. reading_of (x o) row) reads (laws.exactly_one writing cs a b c d s t)
   where
@@ -157,20 +156,20 @@ agrees_with_ogc {o} {t} {u} {cs = cs} w L i R ht hu n a b =
 -- Round trip of a Str, whatever bytes it holds: its text, compared with a column, reads true exactly if the column's value is the string. A row's
 -- value has at most 64 bytes; for a Str of any length `text_atom` (AtomLaws.antt) says that its text is one token, whose value is the string.
 pub string_reads : {writing : Writing} {n s v x row : List ℕ} {cs : List Column} → Lowers writing (dyadic Eq (id n) (str 0 s)) x → IsRow row cs → look n cs ≡ has (val v)
-    → (reading_of x row ≡ SaysTrue) ↔ (v ≡ s)
+    → (reading_of x row ≡ says_true) ↔ (v ≡ s)
 unfolding time_filter by_operator comparable some truth_on value_on tree_atom value comparison says
 string_reads {writing} {n} {s} {v} {x} {row} {cs} L R e = (only, back)
   where
     told : reading_of x row ≡ answered (truth_of (says EQ (order v s)))
     told = reads_as L refl R ∙ rw e refl
 
-    only : reading_of x row ≡ SaysTrue → v ≡ s
+    only : reading_of x row ≡ says_true → v ≡ s
     only r = by (order v s) refl (sym told ∙ r)
       where
-        by : (o : Ordering) → order v s ≡ o → answered (truth_of (says EQ o)) ≡ SaysTrue → v ≡ s
+        by : (o : Ordering) → order v s ≡ o → answered (truth_of (says EQ o)) ≡ says_true → v ≡ s
         by Less q z = absurd (false≢true cc)
         by Equal q z = order_same v s q
         by Greater q z = absurd (false≢true cc)
 
-    back : v ≡ s → reading_of x row ≡ SaysTrue
+    back : v ≡ s → reading_of x row ≡ says_true
     back q = told ∙ rw (ap (order v) (sym q) ∙ order_refl v) refl

@@ -8,8 +8,7 @@ use Rattle.op.specs.Op.{op_number, one_of}
 use Rattle.tree.specs.Tree.{Tree, dyadic, interval}
 use Rattle.literal.specs.declared.Writing.{Writing}
 use Rattle.row.specs.Row.{Column}
-use Rattle.truth.specs.declared.Reading.TheVariants.{True, False, Unknown}
-use Rattle.truth.specs.Reading.{reading_of}
+use Rattle.truth.specs.Reading.{says_true, says_false, says_unknown, reading_of}
 use Rattle.time.specs.Filter.{is_operand, time_filter}
 use Rattle.time.specs.FilterTruth.{holds, columns_non_null, proper}
 use Rattle.time.specs.Converse.{Turned, thirteen}
@@ -39,17 +38,17 @@ pub record Demand3 : Type 0 where
   -- "Whatever time filter an integrator composes, whatever row holds its columns, and whichever of its temporal predicates, one, some or all, are
   -- replaced by their converses with operands exchanged: the texts before and after read alike on that row, if both filters are accepted."
   pub converses : {w : Writing} {t t' : Tree} {x x' row : List ℕ} {cs : List Column} → Turned t t' → Lowers w t x → Lowers w t' x' → time_filter t ≡ true
-      → IsRow row cs → holds cs t ≡ true → Alike True False Unknown (reading_of x row) (reading_of x' row)
+      → IsRow row cs → holds cs t ≡ true → Alike says_true says_false says_unknown (reading_of x row) (reading_of x' row)
   -- "For whichever two operands a time filter allows a temporal operator, and whatever row holds their columns, none of these NULL, TDisjoint's text
   -- reads true exactly when that of TIntersects reads false, false exactly when it reads true, and unknown exactly when it reads unknown, if both
   -- are accepted." A row holds the columns that are not NULL on it.
   pub complement : {w : Writing} {t u : Tree} {x x' row : List ℕ} {cs : List Column} → Lowers w (dyadic TDisjoint t u) x → Lowers w (dyadic TIntersects t u) x'
       → is_operand t ≡ true → is_operand u ≡ true → IsRow row cs → columns_non_null cs t ≡ true → columns_non_null cs u ≡ true
-      → Opposite True False Unknown (reading_of x row) (reading_of x' row)
+      → Opposite says_true says_false says_unknown (reading_of x row) (reading_of x' row)
   -- "Where both operands are intervals, and whatever row holds their columns with the four ends non-null and each start below its end, exactly one of
   -- the texts of Allen's thirteen predicates reads true and the other twelve false, if all thirteen are accepted." A row holds the columns of ends
   -- that are non-null on it.
   pub thirteen-apart : {w : Writing} {a b c d : Tree} {row : List ℕ} {cs : List Column} (x : Op → List ℕ)
       → ((o : Op) → one_of o thirteen ≡ true → Lowers w (dyadic o (interval a b) (interval c d)) (x o))
       → is_operand (interval a b) ≡ true → is_operand (interval c d) ≡ true → IsRow row cs
-      → proper w cs a b ≡ true → proper w cs c d ≡ true → ExactlyOne True False (λ o. reading_of (x o) row)
+      → proper w cs a b ≡ true → proper w cs c d ≡ true → ExactlyOne says_true says_false (λ o. reading_of (x o) row)

