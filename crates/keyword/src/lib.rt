@@ -21,8 +21,5 @@ pub fn is_reserved(s: &[u8]) -> bool
     if LONGEST < s.len() {
         return false;
     }
-    if may_be_reserved(s) {
-        return is_listed(s);
-    }
-    false
+    may_be_reserved(s) && is_listed(s)
 }

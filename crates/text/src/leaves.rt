@@ -9,6 +9,7 @@ ghost use Rattle.tree.specs.Accepted.{settings_in};
 ghost use Rattle.string.specs.Quote.{doubled};
 ghost use Rattle.literal.specs.Literal.{date_text, timestamp_text, quoted};
 
+use crate::Style;
 use crate::records::rest;
 use instant::{Clock, Date};
 use literal::Writing;
@@ -100,12 +101,12 @@ fn put_timestamp(s: &[u8], writing: Writing, out: &mut [u8], at: usize) -> usize
 }
 
 // The text of a node without operands.
-pub(crate) fn put_leaf(s: &[u8], set: &[u8], writing: Writing, out: &mut [u8], at: usize) -> usize
-    ensures { Lays count_limit at (leaf_text writing (settings_in set.now) s.now) out.old out.new result }
+pub(crate) fn put_leaf(s: &[u8], style: Style<'_>, out: &mut [u8], at: usize) -> usize
+    ensures { Lays count_limit at (leaf_text style.entry.writing (settings_in style.entry.set.now) s.now) out.old out.new result }
 {
     match record::word_at(s, KIND) {
         NULL => emit::put(b"NULL", out, at),
-        UNBOUNDED => instant::put_unbounded(writing, false, out, at),
+        UNBOUNDED => instant::put_unbounded(style.writing, false, out, at),
         BOOL => literal::put_bool(record::byte_at(s, BODY) == 1, out, at),
         NUM => number::put_num(
             record::signed_at(s, BODY),
@@ -113,9 +114,9 @@ pub(crate) fn put_leaf(s: &[u8], set: &[u8], writing: Writing, out: &mut [u8], a
             out,
             at,
         ),
-        STR => qstr_to_sql(s, set, out, at),
+        STR => qstr_to_sql(s, style.set, out, at),
         DATE => put_date(s, out, at),
-        TIMESTAMP => put_timestamp(s, writing, out, at),
+        TIMESTAMP => put_timestamp(s, style.writing, out, at),
         SPATIAL => number::put_spatial(record::dword_at(s, BODY), rest(s, SPATIAL_TEXT), out, at),
         _ => emit::put(rest(s, BODY), out, at),
     }

@@ -16,7 +16,7 @@ use record::Frame;
 use refusal::Refusal;
 use settings::CAI;
 
-// The kinds of a record.
+// The kinds of a record, as the number that stands in it: the walks of text and reduce compare it as it was read.
 pub const NULL: usize = 0;
 
 pub const UNBOUNDED: usize = 1;
@@ -376,6 +376,7 @@ fn still_plain(plain: bool, a: Shape) -> bool
 fn check_many(s: &[u8], levels: usize) -> Result<Items, Refusal>
     ensures { result ≡ seen_all (items (node levels) s.now) }
 {
+    // No `for`: a record's own length is the step.
     let mut at = 0;
     let mut plain = true;
     let mut count = 0;

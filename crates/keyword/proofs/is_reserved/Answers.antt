@@ -1,5 +1,5 @@
 -- `keyword::is_reserved` meets its contract: a word that is too short, too long, or unlike every word of its first letter is no reserved one.
-use mathlib.Core.Path.{refl, sym}
+use mathlib.Core.Path.{refl, sym, ◌∙◌}
 use lib.Dec.{ltb}
 use borrow.Author.Tests.{lt-ltb}
 use Rattle.prelude.specs.Choice.{some}
@@ -16,5 +16,5 @@ pub returns-then-s-gt-LONGEST : goal.returns-then-s-gt-LONGEST
 unfolding some reserved_words keywords keyword_texts
 returns-then-s-gt-LONGEST c = sym (other_length (λ n. ltb 17 n) refl _ (lt-ltb 17 _ c.if-s-gt-LONGEST.true))
 
-pub returns : goal.returns
-returns c = sym (c.may_be_reserved.ensures c.if-may_be_reserved.false)
+pub returns-else-may_be_reserved : goal.returns-else-may_be_reserved
+returns-else-may_be_reserved c = c.if-may_be_reserved.false ∙ sym (c.may_be_reserved.ensures c.if-may_be_reserved.false)

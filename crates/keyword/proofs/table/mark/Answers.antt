@@ -6,4 +6,4 @@ use Rattle.keyword.proofs.table.mark.Goals as goal
 
 pub returns : goal.returns
 unfolding mark_of
-returns c = (rw (c.wide.ensures.0, c.wide-2.ensures.0) refl, omega arith)
+returns c = (rw (c.from.ensures, c.from-2.ensures) refl, omega arith)

@@ -11,7 +11,7 @@ returns-then-has c e =
     ruled_out mark_of _ _ _ c.family_of-family.ensures.1 refl
     (ap (has_bit _) (mark_any_case _ ∙ sym c.mark.ensures.0) ∙ sym c.has-then-has.ensures ∙ e)
 
-pub returns : goal.returns
-returns c e =
+pub returns-else-has : goal.returns-else-has
+returns-else-has c e =
     ruled_out length _ _ _ c.family_of-family.ensures.0 refl
     (ap (has_bit _) (upper-length c.args.s.now) ∙ sym c.has.ensures ∙ c.if-has.false)

@@ -1,7 +1,0 @@
--- `keyword::table::count` meets its contract: the byte is that of the definition.
-use Rattle.keyword.specs.TableWords.{count_in}
-use Rattle.keyword.proofs.table.count.Goals as goal
-
-pub returns : goal.returns
-unfolding count_in
-returns c = c.wide.ensures.0
