@@ -119,6 +119,11 @@ short_tree s room {found} {n} b e f = go (reducing s room) refl (sym f ∙ e)
         let g = (given-tree s room x p).0 in
         omega (arith, reducing_short s b room x p, (tree_is planner s g.tree g.read).0)
 
--- the number of the answer that the code found, of which is heard what the definition says
-pub reduced_number_lem : {found case : Result ℕ Refusal} {said : Heard} → reducer.heard found ≡ said → found ≡ case → lowering_number (reducer.heard case) ≡ lowering_number said
-reduced_number_lem e f = ap (λ (r : Result ℕ Refusal). lowering_number (reducer.heard r)) (sym f) ∙ ap lowering_number e
+pub short_reduced : (s : List ℕ) (room : ℕ) (found : Result ℕ Refusal) → Bytes s → found ≡ reducer.answer (reducing s room) → length_of found ≤ 65535
+short_reduced s room (Ok n) b e = short_tree s room b e refl
+short_reduced s room (Err r) b e = omega arith
+
+-- of an answer of reducing is heard what would be of one of lowering
+pub heard_alike : (l : Result ℕ Refusal) → heard l ≡ reducer.heard l
+heard_alike (Ok n) = refl
+heard_alike (Err r) = refl

@@ -1,4 +1,5 @@
 // Lowering, reducing and reading for callers in C: each answer as one number, never the same for two answers.
+// A function for each call is the C interface, which has no generic functions: each is one line over the call itself.
 #![tactic(auto)]
 
 ghost use Rattle.std.specs.Prelude.{◌≡◌, ◌<◌, ◌≤◌, length};
@@ -23,12 +24,12 @@ fn negative(r: Refusal) -> i32
     -i32::from(u8::from(r))
 }
 
-// The text's length, or minus the number of a refusal.
-fn number(lowered: Result<usize, Refusal>) -> i64
-    requires { length_of lowered ≤ length_limit }
-    ensures { result ≡ lowering_number (heard lowered) }
+// The length of the text or of the reduced tree, or minus the number of a refusal.
+fn number(answer: Result<usize, Refusal>) -> i64
+    requires { length_of answer ≤ length_limit }
+    ensures { result ≡ lowering_number (heard answer) }
 {
-    match lowered {
+    match answer {
         Ok(n) => n as i64,
         Err(r) => negative(r) as i64,
     }
@@ -52,19 +53,12 @@ pub extern "C" fn wenduulig_to_geopackage_sql(settings: &[u8], tree: &[u8], out:
     number(gpkg::to_geopackage_sql(settings, tree, out))
 }
 
-// The number of a preview's answer, by either writing.
-fn preview(writing: Writing, settings: &[u8], tree: &[u8], size: usize) -> i64
-    ensures { result ≡ lowering_number (said (lowering writing settings.now tree.now size)) }
-{
-    number(gpkg::preview(writing, settings, tree, size))
-}
-
 // What `wenduulig_to_sql` answers with a buffer of this size; nothing is written.
 #[unsafe(no_mangle)]
 pub extern "C" fn wenduulig_preview_sql(settings: &[u8], tree: &[u8], size: usize) -> i64
     ensures { result ≡ lowering_number (said (lowering Rust settings.now tree.now size)) }
 {
-    preview(Writing::Rust, settings, tree, size)
+    number(gpkg::preview(Writing::Rust, settings, tree, size))
 }
 
 // What `wenduulig_to_geopackage_sql` answers with a buffer of this size; nothing is written.
@@ -72,7 +66,7 @@ pub extern "C" fn wenduulig_preview_sql(settings: &[u8], tree: &[u8], size: usiz
 pub extern "C" fn wenduulig_preview_geopackage_sql(settings: &[u8], tree: &[u8], size: usize) -> i64
     ensures { result ≡ lowering_number (said (lowering GeoPackage settings.now tree.now size)) }
 {
-    preview(Writing::GeoPackage, settings, tree, size)
+    number(gpkg::preview(Writing::GeoPackage, settings, tree, size))
 }
 
 // What `wenduulig_to_sql` answers and leaves, of `controller::to_sql`: refusals 2, 4 and 8 mean the controller's limits.
@@ -97,19 +91,12 @@ pub extern "C" fn wenduulig_controller_to_geopackage_sql(
     number(controller::to_geopackage_sql(settings, tree, out))
 }
 
-// The number of the answer of a controller's preview, by either writing.
-fn controller_preview(writing: Writing, settings: &[u8], tree: &[u8], size: usize) -> i64
-    ensures { result ≡ lowering_number (said (lowering_within controller writing settings.now tree.now size)) }
-{
-    number(controller::preview(writing, settings, tree, size))
-}
-
 // What `wenduulig_controller_to_sql` answers with a buffer of this size; nothing is written.
 #[unsafe(no_mangle)]
 pub extern "C" fn wenduulig_controller_preview_sql(settings: &[u8], tree: &[u8], size: usize) -> i64
     ensures { result ≡ lowering_number (said (lowering_within controller Rust settings.now tree.now size)) }
 {
-    controller_preview(Writing::Rust, settings, tree, size)
+    number(controller::preview(Writing::Rust, settings, tree, size))
 }
 
 // What `wenduulig_controller_to_geopackage_sql` answers with a buffer of this size; nothing is written.
@@ -121,7 +108,7 @@ pub extern "C" fn wenduulig_controller_preview_geopackage_sql(
 ) -> i64
     ensures { result ≡ lowering_number (said (lowering_within controller GeoPackage settings.now tree.now size)) }
 {
-    controller_preview(Writing::GeoPackage, settings, tree, size)
+    number(controller::preview(Writing::GeoPackage, settings, tree, size))
 }
 
 // The reduced tree's length, or minus the number of a refusal, 2 to 7, 9 or 14; every byte of `out` is as `reduce::reduce` leaves it.
@@ -130,10 +117,7 @@ pub extern "C" fn wenduulig_reduce(tree: &[u8], out: &mut [u8]) -> i64
     ensures says { result ≡ lowering_number (said (reducing tree.now (length out.old))) }
     ensures bytes { out.new ≡ leaves out.old (reducing tree.now (length out.old)) }
 {
-    match reduce::reduce(tree, out) {
-        Ok(n) => n as i64,
-        Err(r) => negative(r) as i64,
-    }
+    number(reduce::reduce(tree, out))
 }
 
 // 1 true, 0 false, 2 unknown, or minus the number of a refusal, 10 to 13.

@@ -1,4 +1,5 @@
 // The library for C (include/wenduulig.h): each export is the function of that name of crate capi, with its clauses.
+// That they stand here again is the C interface: a static library exports what its own crate declares, and a contract is read where it is declared.
 #![tactic(auto)]
 
 ghost use Rattle.std.specs.Prelude.{◌≡◌, length};

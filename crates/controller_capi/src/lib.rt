@@ -1,4 +1,5 @@
 // The controller's calls for C in a library of their own, without the planner's and the reader: what crate capi answers.
+// That they stand here again is the C interface: the same names, in a library that has no other.
 #![tactic(auto)]
 
 ghost use Rattle.std.specs.Prelude.{◌≡◌, length};

@@ -1,10 +1,10 @@
 -- A test of an i64 against 0, told of the number itself: the machine reads it back from its bits, and what fits comes back as it was.
-use Prim.Native.Nat.{ℕ, suc, ◌<◌, ◌^◌}
-use mathlib.Core.Path.{◌≡◌, refl, ap, subst, ◌∙◌}
+use Prim.Native.Nat.{ℕ, ◌<◌, ◌^◌}
+use mathlib.Core.Path.{◌≡◌, refl, subst}
 use mathlib.Core.Bool.{true, false}
 use native.Mathlib.Omega.{arith}
 use lib.Dec.{ltb}
-use lib.IntN.{ℤ, pos, negsuc, ◌-ℤ◌}
+use lib.IntN.{ℤ, pos, negsuc}
 use lib.Signed.{lt_z}
 use mir.Syntax.{w64}
 use mir.Val.{to_z, of_z, SFits}
@@ -40,13 +40,3 @@ above z f e = go z f (subst (λ (x : ℤ). lt_z x (pos 0) ≡ false) (to_z-of_z 
     go : (z : ℤ) → SFits w64 z → lt_z z (pos 0) ≡ false → Above z
     go (negsuc n) f e = let v : ◌≡◌ {A = ℕ} 0 1 = cc in absurd (let w : ⊥ = omega arith in w)
     go (pos n) f e = record { n = n; is = refl; small = f.sfits }
-
--- -1 - z
-flip_negsuc : (n : ℕ) → negsuc 0 -ℤ negsuc n ≡ pos n
-flip_negsuc n = simp (le-ltb (suc n) 1 (omega arith)) (ap pos (omega arith))
-
-pub flip : (z : ℤ) → SFits w64 z → (q : Below z) → negsuc 0 -ℤ back z ≡ pos q.n
-flip z f q = ap (λ (x : ℤ). negsuc 0 -ℤ x) (to_z-of_z w64 z f ∙ q.is) ∙ flip_negsuc q.n
-
-pub flip_back : (z : ℤ) → SFits w64 z → (q : Below z) → back (negsuc 0 -ℤ back z) ≡ pos q.n
-flip_back z f q = ap back (flip z f q) ∙ to_z-of_z w64 (pos q.n) (record { sfits = q.small })

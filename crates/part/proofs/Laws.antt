@@ -1,5 +1,5 @@
 -- The ends have no words.
-use Rattle.std.proofs.Common.{◌≡◌, sym, ap, ℕ, List, []}
+use Rattle.std.proofs.Common.{◌≡◌, sym, ap, []}
 use mathlib.Core.Logic.{◌⊎◌, inl, inr}
 use Rattle.sql.specs.declared.Part.{Part}
 use Rattle.sql.specs.declared.Part.TheVariants.{E0, E1, E2, E3}

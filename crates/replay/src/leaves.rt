@@ -2,6 +2,7 @@
 // A case is right if the crate `literal` writes that text into a buffer that just holds it, changes no byte beside it,
 // and changes nothing where the buffer is one byte short.
 use input::Part;
+use instant::{Clock, Date};
 use literal::Writing;
 use record::{BODY, KIND, byte_at, dword_at, word_at};
 use replay_cases::{Case, Kind, Tally};
@@ -33,28 +34,21 @@ fn write_str(body: &[u8], out: &mut [u8]) -> usize {
     }
 }
 
-fn write_date(body: &[u8], out: &mut [u8]) -> usize {
-    instant::put_date(
-        word_at(body, 0),
-        byte_at(body, 2),
-        byte_at(body, 3),
-        out,
-        START,
-    )
+fn date_at(body: &[u8]) -> Date {
+    Date {
+        year: word_at(body, 0),
+        month: byte_at(body, 2),
+        day: byte_at(body, 3),
+    }
 }
 
 fn write_timestamp(body: &[u8], out: &mut [u8]) -> usize {
-    instant::put_timestamp(
-        Writing::Rust,
-        word_at(body, 0),
-        byte_at(body, 2),
-        byte_at(body, 3),
-        byte_at(body, 4),
-        byte_at(body, 5),
-        byte_at(body, 6),
-        out,
-        START,
-    )
+    let time = Clock {
+        hour: byte_at(body, 4),
+        minute: byte_at(body, 5),
+        second: byte_at(body, 6),
+    };
+    instant::put_timestamp(Writing::Rust, date_at(body), time, out, START)
 }
 
 fn write_leaf(kind: usize, body: &[u8], out: &mut [u8]) -> usize {
@@ -69,7 +63,7 @@ fn write_leaf(kind: usize, body: &[u8], out: &mut [u8]) -> usize {
             START,
         ),
         STR => write_str(body, out),
-        DATE => write_date(body, out),
+        DATE => instant::put_date(date_at(body), out, START),
         TIMESTAMP => write_timestamp(body, out),
         SPATIAL => number::put_spatial(dword_at(body, 0), from(body, 4), out, START),
         _ => START,

@@ -1,7 +1,7 @@
 // What the replays of stored answers share: the cases of a file, judged and counted, and what a call left in a buffer that it was lent.
 #![tactic(auto)]
 
-ghost use Rattle.std.specs.Prelude.{◌≡◌, ◌+◌, ◌%◌, ◌^◌, ◌≤◌, length};
+ghost use Rattle.std.specs.Prelude.{◌≡◌, ◌+◌, ◌%◌, ◌^◌, ◌≤◌, replicate};
 ghost use Rattle.replay_cases.specs.TallyWords.{tallied};
 ghost use Rattle.replay_cases.specs.Found.{found, are_blank};
 
@@ -62,7 +62,7 @@ impl Tally {
 
 // A buffer to lend.
 pub fn blank_buffer() -> [u8; 65536]
-    ensures { 65536 ≡ length result }
+    ensures { result ≡ replicate 65536 7 }
 {
     [BLANK; 65536]
 }

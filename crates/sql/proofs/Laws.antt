@@ -2,7 +2,7 @@
 use Rattle.std.proofs.Common.{◌≡◌, refl, ap, sym, ◌∙◌, arith, List, [], ◌∷◌, ◌++◌, append_assoc, length, slice_index_or, ℕ, Bool, true, false}
 use Rattle.prelude.specs.Choice.{pick}
 use Rattle.prelude.specs.Bytes.{bytes}
-use Rattle.sql.specs.Condition.{Cond, and, or, not, is_not_null, not_null, brackets, print, check_id, check_ids}
+use Rattle.sql.specs.Condition.{Cond, and, or, is_not_null, not_null, brackets, print, check_id, check_ids}
 use Rattle.op.specs.declared.Op.{Op}
 use Rattle.op.specs.declared.Op.TheVariants as op
 use Rattle.op.specs.Op.{op_number}
@@ -10,7 +10,7 @@ use Rattle.sql.specs.Translators.{translate, t_starts}
 use Rattle.sql.specs.declared.Part.{Part}
 use Rattle.sql.specs.declared.Part.TheVariants.{Open, Close, CloseBoth, Quote, IsNotNull, IsNotNullQuote, NotNull, Or, And, Not}
 use Rattle.sql.specs.TemplateLaws.{spelt-append}
-use Rattle.sql.specs.Template.{held, spelt, part_of, digit_of, template_of, guarded_text, guarded_both_text, check_id_text, check_ids_text, both_text, neither_text, either_text}
+use Rattle.sql.specs.Template.{spelt, part_of, digit_of, template_of, guarded_text, guarded_both_text, check_id_text, check_ids_text, both_text, neither_text, either_text}
 
 module _ (x s y : Part) where
   pub one_guarded : (i : Part) → spelt (Quote ∷ i ∷ IsNotNull ∷ x ∷ s ∷ y ∷ Close ∷ []) ≡ guarded_text (part_of i) (spelt (x ∷ s ∷ y ∷ []))

@@ -56,7 +56,8 @@ pub enum Part {
 // A condition's text in parts, of which none has more than 21.
 pub type Template = ArrayVec<Part, 24>;
 
-// A template with some parts after it.
+// A template with some parts after it. One by one: a slice as a whole would be copied by memmove, and include/wenduulig.h promises that memcpy and memset
+// alone are called.
 fn append(t: &mut Template, parts: &[Part])
     requires { length t.old.items + length parts.now ≤ 24 }
     ensures { t.new.items ≡ t.old.items ++ parts.now }

@@ -43,6 +43,7 @@ pub(crate) fn put_word(op: usize, out: &mut [u8], at: usize) -> usize
 pub(crate) fn put_infix(a: bool, op: usize, b: bool, out: &mut [u8], at: usize) -> usize
     ensures { (o : Op) → op ≡ op_number o → Lays count_limit at (infix_text a (word o) b) out.old out.new result }
 {
+    // One call over two chosen texts took 1 to 3 % more instructions of the walk than these four.
     let word = word_of(op);
     if a {
         if b {

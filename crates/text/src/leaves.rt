@@ -9,7 +9,9 @@ ghost use Rattle.tree.specs.Accepted.{settings_in};
 ghost use Rattle.string.specs.Quote.{doubled};
 ghost use Rattle.literal.specs.Literal.{date_text, timestamp_text, quoted};
 
+use crate::Style;
 use crate::records::rest;
+use instant::{Clock, Date};
 use literal::Writing;
 use record::{BODY, KIND};
 use settings::{AI, CI, CI_AT, PLAIN};
@@ -68,47 +70,43 @@ fn qstr_to_sql(s: &[u8], set: &[u8], out: &mut [u8], at: usize) -> usize
     literal::put_collate(name_of(flags, set), out, end)
 }
 
+// The day in the record of a Date or Timestamp.
+fn date_at(s: &[u8]) -> Date
+    ensures year { result.year ≡ le16 s.now 6 }
+    ensures month { result.month ≡ get_or s.now 8 0 }
+    ensures day { result.day ≡ get_or s.now 9 0 }
+{
+    Date {
+        year: record::word_at(s, BODY),
+        month: record::byte_at(s, MONTH),
+        day: record::byte_at(s, DAY),
+    }
+}
+
 pub(crate) fn put_date(s: &[u8], out: &mut [u8], at: usize) -> usize
     ensures { Lays count_limit at (date_text (le16 s.now 6) (get_or s.now 8 0) (get_or s.now 9 0)) out.old out.new result }
 {
-    let y = record::word_at(s, BODY);
-    instant::put_date(
-        y,
-        record::byte_at(s, MONTH),
-        record::byte_at(s, DAY),
-        out,
-        at,
-    )
+    instant::put_date(date_at(s), out, at)
 }
 
 fn put_timestamp(s: &[u8], writing: Writing, out: &mut [u8], at: usize) -> usize
     ensures { Lays count_limit at (timestamp_text writing (le16 s.now 6) (get_or s.now 8 0) (get_or s.now 9 0) (get_or s.now 10 0) (get_or s.now 11 0) (get_or s.now 12 0)) out.old out.new result }
 {
-    let y = record::word_at(s, BODY);
-    let m = record::byte_at(s, MONTH);
-    let d = record::byte_at(s, DAY);
-    let hour = record::byte_at(s, HOUR);
-    let minute = record::byte_at(s, MINUTE);
-    instant::put_timestamp(
-        writing,
-        y,
-        m,
-        d,
-        hour,
-        minute,
-        record::byte_at(s, SECOND),
-        out,
-        at,
-    )
+    let time = Clock {
+        hour: record::byte_at(s, HOUR),
+        minute: record::byte_at(s, MINUTE),
+        second: record::byte_at(s, SECOND),
+    };
+    instant::put_timestamp(writing, date_at(s), time, out, at)
 }
 
 // The text of a node without operands.
-pub(crate) fn put_leaf(s: &[u8], set: &[u8], writing: Writing, out: &mut [u8], at: usize) -> usize
-    ensures { Lays count_limit at (leaf_text writing (settings_in set.now) s.now) out.old out.new result }
+pub(crate) fn put_leaf(s: &[u8], style: Style<'_>, out: &mut [u8], at: usize) -> usize
+    ensures { Lays count_limit at (leaf_text style.entry.writing (settings_in style.entry.set.now) s.now) out.old out.new result }
 {
     match record::word_at(s, KIND) {
         NULL => emit::put(b"NULL", out, at),
-        UNBOUNDED => instant::put_unbounded(writing, false, out, at),
+        UNBOUNDED => instant::put_unbounded(style.writing, false, out, at),
         BOOL => literal::put_bool(record::byte_at(s, BODY) == 1, out, at),
         NUM => number::put_num(
             record::signed_at(s, BODY),
@@ -116,9 +114,9 @@ pub(crate) fn put_leaf(s: &[u8], set: &[u8], writing: Writing, out: &mut [u8], a
             out,
             at,
         ),
-        STR => qstr_to_sql(s, set, out, at),
+        STR => qstr_to_sql(s, style.set, out, at),
         DATE => put_date(s, out, at),
-        TIMESTAMP => put_timestamp(s, writing, out, at),
+        TIMESTAMP => put_timestamp(s, style.writing, out, at),
         SPATIAL => number::put_spatial(record::dword_at(s, BODY), rest(s, SPATIAL_TEXT), out, at),
         _ => emit::put(rest(s, BODY), out, at),
     }

@@ -1,45 +1,29 @@
--- `number::decimal_len` meets its contract: the digits counted so far and those of what is left are one more than all.
--- one digit more than what is before the last
-use native.Mathlib.Omega.{arith}
-use mathlib.Core.Path.{◌≡◌, refl, ap, ◌∙◌}
-use mathlib.Core.List.{[], ◌∷◌}
-use Prim.Native.Nat.{ℕ, ◌+◌, ◌≤◌, ◌/◌, ◌%◌}
-use lib.ListN.{length, length-append}
+-- A number from a power of ten on and below the next has one digit more than the power has zeros; 0 has one.
+use Rattle.std.proofs.Common.{◌≡◌, ◌+◌, ◌*◌, ◌/◌, ◌%◌, ◌^◌, ◌≤◌, ◌<◌, ℕ, zero, suc, [], ◌∷◌, length, length-append, max, arith, ap, sym, ◌∙◌}
+use Rattle.std.proofs.Math.Nat.{pow-succ'}
 use Rattle.literal.specs.Literal.{decimal}
-use Rattle.literal.specs.LiteralLaws.{decimal_one, decimal-more, decimal_short}
+use Rattle.literal.specs.LiteralLaws.{decimal_one, decimal-more}
 use Rattle.number.proofs.decimal_len.Goals as goal
 
 one_more : (m : ℕ) → 10 ≤ m → length (decimal m) ≡ length (decimal (m / 10)) + 1
 one_more m h = ap length (decimal-more m h) ∙ length-append (decimal (m / 10)) ((48 + m % 10) ∷ [])
 
-two-more : (m : ℕ) → 100 ≤ m → length (decimal m) ≡ length (decimal (m / 100)) + 2
-two-more m h =
-    let a = one_more m (omega arith) in
-    let b = one_more (m / 10) (omega arith) in
-    let q : m / 10 / 10 ≡ m / 100 = omega arith in
-    let r : length (decimal (m / 10 / 10)) ≡ length (decimal (m / 100)) = ap (λ (k : ℕ). length (decimal k)) q in
-    omega arith
+ten_some : (k : ℕ) → 1 ≤ 10 ^ k
+ten_some zero = omega arith
+ten_some (suc k) = let e : 10 ^ suc k ≡ 10 * 10 ^ k = pow-succ' 10 k in omega (arith, ten_some k)
 
-pub loop-m-init : goal.loop-m-init
-loop-m-init c = (refl, omega arith, omega arith)
+by_power : (k m : ℕ) → 10 ^ k ≤ m → m < 10 * 10 ^ k → length (decimal m) ≡ k + 1
+by_power zero m h g = ap length (decimal_one m (omega arith))
+by_power (suc k) m h g =
+    let e : 10 ^ suc k ≡ 10 * 10 ^ k = pow-succ' 10 k in
+    let p : 1 ≤ 10 ^ k = ten_some k in
+    let r = by_power k (m / 10) (omega arith) (omega arith) in
+    one_more m (omega arith) ∙ omega (arith, r)
 
-pub loop-m-preserved : goal.loop-m-preserved
-loop-m-preserved c =
-    let m = c.loop-m.m in
-    let e = two-more m (omega arith) in
-    (omega arith, omega arith, omega arith)
+-- 0 is written as 1 is
+and_zero : (n k : ℕ) {m : ℕ} → m ≡ max n 1 → 10 ^ k ≤ m → m < 10 * 10 ^ k → length (decimal n) ≡ k + 1
+and_zero zero k e h g = ap length (decimal_one 0 (omega arith)) ∙ sym (ap length (decimal_one 1 (omega arith))) ∙ by_power k 1 (omega (arith, e)) (omega (arith, e))
+and_zero (suc n) k e h g = by_power k (suc n) (omega (arith, e)) (omega (arith, e))
 
-pub returns-then-m-ge10 : goal.returns-then-m-ge10
-returns-then-m-ge10 c =
-    let m = c.loop-m.m in
-    let n = c.args.n in
-    let d = one_more m (omega arith) in
-    let e : length (decimal (m / 10)) ≡ 1 = ap length (decimal_one (m / 10) (omega arith)) in
-    (omega arith, omega (arith, decimal_short n c.ranges.n.fits))
-
-pub returns-else-m-ge10 : goal.returns-else-m-ge10
-returns-else-m-ge10 c =
-    let m = c.loop-m.m in
-    let n = c.args.n in
-    let e : length (decimal m) ≡ 1 = ap length (decimal_one m (omega arith)) in
-    (omega arith, omega (arith, decimal_short n c.ranges.n.fits))
+pub returns : goal.returns
+returns c = let l = c.ilog10.ensures in (sym (and_zero c.args.n c.ilog10.result c.max.ensures l.power_le l.next_power_gt), omega (arith, l.bound))

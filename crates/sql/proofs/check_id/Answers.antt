@@ -1,5 +1,5 @@
 -- Whether the end is a column says whether the base is guarded.
-use Rattle.std.proofs.Common.{sym, ap, arith, ◌∙◌, rules}
+use Rattle.std.proofs.Common.{sym, ap, ◌∙◌, rules}
 use Rattle.sql.specs.Template.{check_id_text, spelt}
 use Rattle.sql.proofs.check_id.Goals as goal
 

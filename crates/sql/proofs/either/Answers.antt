@@ -1,5 +1,4 @@
 -- The parts that were laid one after the other, spelt.
-use Rattle.std.proofs.Common.{◌∙◌}
 use Rattle.sql.proofs.Laws.{either_spelt}
 use Rattle.sql.proofs.either.Goals as goal
 

@@ -1,7 +1,7 @@
 -- The parts spell the guard around the base, which is its three parts.
 use Rattle.std.proofs.Common.{rules, arith, ◌∙◌, ap, List}
 use Rattle.sql.specs.declared.Part.{Part}
-use Rattle.sql.specs.Template.{spelt, part_of, guarded_text, guarded_both_text}
+use Rattle.sql.specs.Template.{spelt, part_of, guarded_text}
 use Rattle.sql.proofs.Laws.{one_guarded, three}
 use Rattle.sql.proofs.guarded.Goals as goal
 

@@ -1,6 +1,6 @@
 -- What the guard spells is the condition's template, in each case.
 use Rattle.std.proofs.Common.{◌∙◌, ap}
-use Rattle.sql.specs.Condition.{test, gt, lt, print}
+use Rattle.sql.specs.Condition.{test, gt, print}
 use Rattle.sql.specs.Template.{spelt, part_of}
 use Rattle.sql.specs.Translators.{t_after}
 use Rattle.sql.proofs.Laws.{one_guard, two_guards}

@@ -1,6 +1,6 @@
 -- Each side is what its guard spells, and the two are joined.
 use Rattle.std.proofs.Common.{◌∙◌, ap}
-use Rattle.sql.specs.Condition.{Cond, test, gt, lt, print, check_id, check_ids}
+use Rattle.sql.specs.Condition.{test, gt, lt, print, check_id, check_ids}
 use Rattle.sql.specs.Template.{spelt, part_of}
 use Rattle.sql.specs.Translators.{t_disjoint}
 use Rattle.sql.proofs.Laws.{one_guard, two_guards, either_of, either_or}

@@ -34,7 +34,7 @@ returns-in-3 c = let s = c.args.s.now in let m = c.signed_at.result in let q : t
 
 pub returns-in-4 : goal.returns-in-4
 unfolding leaf_text
-returns-in-4 c = let i = c.args in rw (sym c.word_at.ensures.0 ∙ c.in-4.is) (lays_of (str_collated (settings_in i.set.now) (get_or i.s.now 6 0) (drop 7 i.s.now)) c.qstr_to_sql.ensures)
+returns-in-4 c = let i = c.args in rw (sym c.word_at.ensures.0 ∙ c.in-4.is) (lays_of (str_collated (settings_in i.style.set.now) (get_or i.s.now 6 0) (drop 7 i.s.now)) c.qstr_to_sql.ensures)
 
 pub returns-in-5 : goal.returns-in-5
 unfolding leaf_text

@@ -46,10 +46,10 @@ abbrev pub decreases-write_spatial : goal.decreases-write_spatial
 decreases-write_spatial l = 5 * length l.s.now + 1
 
 abbrev pub invariant-write_items-loop-p : goal.invariant-write_items-loop-p
-invariant-write_items-loop-p l = (length l.out ≡ length l.initial.out) × ((ts : Trees) → l.s ≡ encodes ts → sounds ts ≡ true → Come l.writing (settings_in l.set) l.s l.at l.initial.out ts l.p l.here l.out)
+invariant-write_items-loop-p l = (length l.out ≡ length l.initial.out) × ((ts : Trees) → l.s ≡ encodes ts → sounds ts ≡ true → Come l.style.writing (settings_in l.style.set.now) l.s l.at l.initial.out ts l.p l.here l.out)
 
 abbrev pub decreases-write_items-loop-p : goal.decreases-write_items-loop-p
 decreases-write_items-loop-p l = length l.s - l.p
 
 abbrev pub invariant-write_operands-loop-part : goal.invariant-write_operands-loop-part
-invariant-write_operands-loop-part l = (length l.out ≡ length l.initial.out) × ((t : Tree) → l.s ≡ encode t → sound t ≡ true → 9 ≤ le16 l.s 4 → le16 l.s 4 < 11 → Lays count_limit l.at (fill (slot l.writing (settings_in l.set) (node_ends t)) (spelt (take l.part-index l.parts))) l.initial.out l.out l.here)
+invariant-write_operands-loop-part l = (length l.out ≡ length l.initial.out) × ((t : Tree) → l.s ≡ encode t → sound t ≡ true → 9 ≤ le16 l.s 4 → le16 l.s 4 < 11 → Lays count_limit l.at (fill (slot l.style.writing (settings_in l.style.set.now) (node_ends t)) (spelt (take l.part-index l.parts))) l.initial.out l.out l.here)

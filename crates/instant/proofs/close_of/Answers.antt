@@ -1,7 +1,7 @@
--- `instant::timestamp_len` meets its contract: 21 bytes up to the seconds, and what each writing has after them.
-use mathlib.Core.Path.{refl}
+-- Each writing has its own text.
+use Rattle.std.proofs.Common.{refl}
 use Rattle.literal.specs.Literal.{after_seconds}
-use Rattle.instant.proofs.timestamp_len.Goals as goal
+use Rattle.instant.proofs.close_of.Goals as goal
 
 pub returns-in-Rust : goal.returns-in-Rust
 unfolding after_seconds

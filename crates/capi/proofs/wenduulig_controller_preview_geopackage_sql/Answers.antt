@@ -1,7 +1,7 @@
--- `capi::preview` meets its contract, by either writing: the number of what `gpkg::preview` answers.
+-- `capi::wenduulig_controller_preview_geopackage_sql` meets its contract: the number of what `controller::preview` answers.
 use native.Mathlib.Omega.{arith}
 use Rattle.capi.proofs.Laws.{short_answer, said-back}
-use Rattle.capi.proofs.preview.Goals as goal
+use Rattle.capi.proofs.wenduulig_controller_preview_geopackage_sql.Goals as goal
 
 pub number-requires : goal.number-requires
 number-requires c = short_answer _ _ _ _ _ (omega arith) c.preview.ensures.says

@@ -1,7 +1,7 @@
--- `capi::controller_preview` meets its contract, by either writing: the number of what `controller::preview` answers.
+-- `capi::wenduulig_preview_sql` meets its contract: the number of what `gpkg::preview` answers.
 use native.Mathlib.Omega.{arith}
 use Rattle.capi.proofs.Laws.{short_answer, said-back}
-use Rattle.capi.proofs.controller_preview.Goals as goal
+use Rattle.capi.proofs.wenduulig_preview_sql.Goals as goal
 
 pub number-requires : goal.number-requires
 number-requires c = short_answer _ _ _ _ _ (omega arith) c.preview.ensures.says

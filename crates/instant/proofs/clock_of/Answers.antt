@@ -1,7 +1,0 @@
--- `instant::clock_of` meets its contract: the bytes of the array are those of the text, digit by digit.
-use Rattle.literal.specs.Literal.{low, clock}
-use Rattle.instant.proofs.clock_of.Goals as goal
-
-pub returns : goal.returns
-unfolding clock low
-returns c = cc

@@ -1,7 +1,0 @@
--- `instant::date_of` meets its contract: the bytes of the array are those of the text, digit by digit.
-use Rattle.literal.specs.Literal.{low, date}
-use Rattle.instant.proofs.date_of.Goals as goal
-
-pub returns : goal.returns
-unfolding date low
-returns c = cc
