@@ -10,9 +10,9 @@ use Rattle.string.proofs.sequence.sequence_at.Goals as goal
 pub returns-then-more-eq0 : goal.returns-then-more-eq0
 returns-then-more-eq0 c =
     elim c.then-more-eq0.branch [
-        then-more-eq0-via-then-more-eq0 w ↦ none_heads _ _ c.requires.0 c.more_after-more.ensures.1 c.requires.1 (sym c.more_after-more.ensures.0 ∙ w.if-more-eq0.true)
-        | then-more-eq0-via-else-more-eq0+then-s-i w ↦ cut_heads _ _ c.requires.0 c.more_after-more.ensures.1 c.requires.1 (c.more_after-more.result - 1) (sym c.more_after-more.ensures.0 ∙ omega arith) (omega arith)
-        | then-more-eq0-via-else-more-eq0+else-s-i+then-not-is_second w ↦ second_fails _ _ c.requires.0 c.more_after-more.ensures.1 c.requires.1 (c.more_after-more.result - 1) (sym c.more_after-more.ensures.0 ∙ omega arith) (omega arith) (sym w.is_second.ensures ∙ w.if-not-is_second.true)
+      | then-more-eq0-via-then-more-eq0 w ↦ none_heads _ _ c.requires.0 c.more_after-more.ensures.1 c.requires.1 (sym c.more_after-more.ensures.0 ∙ w.if-more-eq0.true)
+      | then-more-eq0-via-else-more-eq0+then-s-i w ↦ cut_heads _ _ c.requires.0 c.more_after-more.ensures.1 c.requires.1 (c.more_after-more.result - 1) (sym c.more_after-more.ensures.0 ∙ omega arith) (omega arith)
+      | then-more-eq0-via-else-more-eq0+else-s-i+then-not-is_second w ↦ second_fails _ _ c.requires.0 c.more_after-more.ensures.1 c.requires.1 (c.more_after-more.result - 1) (sym c.more_after-more.ensures.0 ∙ omega arith) (omega arith) (sym w.is_second.ensures ∙ w.if-not-is_second.true)
     ]
 
 pub returns-then-more-eq1 : goal.returns-then-more-eq1
