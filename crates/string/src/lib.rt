@@ -37,7 +37,9 @@ fn past_simple(s: &[u8], quoted: bool) -> usize
         .unwrap_or(s.len())
 }
 
-// The rest from the place `from` on. Of a quoted text: its size as below. Of any other string: 1 if it is valid, 0 if it is not.
+// The rest from the place `from` on. Of a quoted text: its size as below. Of any other string: 1 if it is valid, 0 if it is not. One function for both:
+// a copy for each would have one caller, be taken in there, and cost every string six instructions (docs/PROVING.md, "Code"). The place goes on by
+// one, two or a whole sequence, so no `for` counts it.
 fn past_sequences(s: &[u8], quoted: bool, from: usize) -> usize
     requires { Reaches quoted s.now from }
     ensures { result ≡ pick quoted (quoted_size s.now) (pick (valid s.now) 1 0) }
