@@ -13,8 +13,8 @@ pub returns-then-s-lt2 : goal.returns-then-s-lt2
 unfolding some reserved_words keywords keyword_texts
 returns-then-s-lt2 c =
     elim c.then-s-lt2.branch [
-        then-s-lt2-via-then-s-lt2 w ↦ sym (other_length (λ n. ltb n 2) refl _ (lt-ltb _ 2 w.if-s-lt2.true))
-        | then-s-lt2-via-else-s-lt2+then-s-gt-LONGEST w ↦ sym (other_length (λ n. ltb 17 n) refl _ (lt-ltb 17 _ w.if-s-gt-LONGEST.true))
+      | then-s-lt2-via-then-s-lt2 w ↦ sym (other_length (λ n. ltb n 2) refl _ (lt-ltb _ 2 w.if-s-lt2.true))
+      | then-s-lt2-via-else-s-lt2+then-s-gt-LONGEST w ↦ sym (other_length (λ n. ltb 17 n) refl _ (lt-ltb 17 _ w.if-s-gt-LONGEST.true))
     ]
 
 pub returns-else-may_be_reserved : goal.returns-else-may_be_reserved
