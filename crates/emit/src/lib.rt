@@ -65,7 +65,7 @@ pub fn put(s: &[u8], out: &mut [u8], at: usize) -> usize
     put_all(&[s], out, at)
 }
 
-// One of two texts.
+// One of two texts, each by a `put` of its own: so its length is known where it is named.
 pub fn put_either(first: bool, a: &[u8], b: &[u8], out: &mut [u8], at: usize) -> usize
     ensures { Puts count_limit at (pick first a.now b.now) out.old out.new result }
 {

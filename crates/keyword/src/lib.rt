@@ -15,10 +15,7 @@ const LONGEST: usize = 17;
 pub fn is_reserved(s: &[u8]) -> bool
     ensures { result ≡ reserved s.now }
 {
-    if s.len() < 2 {
-        return false;
-    }
-    if LONGEST < s.len() {
+    if s.len() < 2 || s.len() > LONGEST {
         return false;
     }
     may_be_reserved(s) && is_listed(s)

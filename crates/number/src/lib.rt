@@ -71,36 +71,38 @@ fn shorten(n: usize, scale: u8) -> Scaled
     Scaled { n: m, s }
 }
 
-// How many bytes n ÷ 10^s takes: all digits of n and a point, or a zero, a point and s digits.
-fn shown_len(n: usize, s: usize) -> usize
-    requires { s < 256 }
-    ensures { (result ≡ length (shown n s)) × (result < 260) }
-{
-    let w = decimal_len(n);
-    if s == 0 {
-        return w;
+impl Scaled {
+    // How many bytes it takes: all digits of n and a point, or a zero, a point and s digits.
+    fn len(self) -> usize
+        requires { self.s < 256 }
+        ensures { (result ≡ length (shown self.n self.s)) × (result < 260) }
+    {
+        let w = decimal_len(self.n);
+        if self.s == 0 {
+            w
+        } else if self.s < w {
+            w + 1
+        } else {
+            self.s + 2
+        }
     }
-    if s < w {
-        return w + 1;
-    }
-    s + 2
-}
 
-// Fills a part of the right length with n ÷ 10^s: the fraction, then the point, then the whole part.
-fn fill_shown(n: usize, s: usize, part: &mut [u8])
-    requires { length part.old ≡ length (shown n s) }
-    ensures { part.new ≡ shown n s }
-{
-    if s == 0 {
-        fill_low(n, part);
-        return;
+    // Fills a part of the right length: the fraction, then the point, then the whole part.
+    fn fill(self, part: &mut [u8])
+        requires { length part.old ≡ length (shown self.n self.s) }
+        ensures { part.new ≡ shown self.n self.s }
+    {
+        if self.s == 0 {
+            fill_low(self.n, part);
+            return;
+        }
+        let from = part.len() - self.s;
+        let end = part.len();
+        let whole = fill_low(self.n, &mut part[from..end]);
+        let point = from - 1;
+        part[point] = b'.';
+        fill_low(whole, &mut part[0..point]);
     }
-    let from = part.len() - s;
-    let end = part.len();
-    let whole = fill_low(n, &mut part[from..end]);
-    let point = from - 1;
-    part[point] = b'.';
-    fill_low(whole, &mut part[0..point]);
 }
 
 // Writes m ÷ 10^scale as exact decimal.
@@ -109,14 +111,14 @@ pub fn put_num(m: i64, scale: u8, out: &mut [u8], at: usize) -> usize
 {
     let sign = sign_of(m);
     let p = shorten(m.unsigned_abs() as usize, scale);
-    let k = shown_len(p.n, p.s);
+    let k = p.len();
     let n = sign.len() + k;
     if emit::lacks_room(out.len(), at, n) {
         return emit::ended(at, n);
     }
     let from = emit::put(sign, out, at);
     let end = from + k;
-    fill_shown(p.n, p.s, &mut out[from..end]);
+    p.fill(&mut out[from..end]);
     end
 }
 

@@ -37,7 +37,9 @@ fn past_simple(s: &[u8], quoted: bool) -> usize
         .unwrap_or(s.len())
 }
 
-// The rest from the place `from` on. Of a quoted text: its size as below. Of any other string: 1 if it is valid, 0 if it is not.
+// The rest from the place `from` on. Of a quoted text: its size as below. Of any other string: 1 if it is valid, 0 if it is not. One function for both:
+// as a const parameter, so with a copy for each, reading takes 3 to 5 in 100 more instructions (small texts 1.014 of the older form for 0.982, a text of
+// 2 KB 1.019 for 0.970), though lowering of strings up to 5 fewer. The place goes on by one, two or a whole sequence, so no `for` counts it.
 fn past_sequences(s: &[u8], quoted: bool, from: usize) -> usize
     requires { Reaches quoted s.now from }
     ensures { result ≡ pick quoted (quoted_size s.now) (pick (valid s.now) 1 0) }

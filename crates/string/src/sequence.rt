@@ -52,13 +52,7 @@ pub(crate) fn sequence_at(s: &[u8], i: usize) -> Option<usize>
 {
     let b = s[i];
     let more = more_after(b);
-    if more == 0 {
-        return None;
-    }
-    if s.len() - i <= more {
-        return None;
-    }
-    if !is_second(b, s[i + 1]) {
+    if more == 0 || s.len() - i <= more || !is_second(b, s[i + 1]) {
         return None;
     }
     if more == 1 {

@@ -26,7 +26,7 @@ returns-then-lacks_room c =
     let b = to_z-of_z w64 i.m c.ranges.m in
     let g : c.sign_of-sign.result.now ≡ sign i.m = c.sign_of-sign.ensures.0 ∙ ap sign b in
     let z = num_length i.m i.scale (c.unsigned_abs.ensures.value ∙ absolute (back i.m) ∙ ap nat_abs b) c.shorten-p.ensures.0 in
-    let n : length c.sign_of-sign.result.now + c.shown_len-k.result ≡ length (num_text i.m i.scale) = omega (arith, ap length g, c.shown_len-k.ensures.0) in
+    let n : length c.sign_of-sign.result.now + c.len-k.result ≡ length (num_text i.m i.scale) = omega (arith, ap length g, c.len-k.ensures.0) in
     no_room i.out.now i.at (num_text i.m i.scale) n c.lacks_room.ensures c.if-lacks_room.true c.ended.ensures
 
 pub overflow_add-end : goal.overflow_add-end
@@ -35,27 +35,27 @@ overflow_add-end c =
     let b = to_z-of_z w64 i.m c.ranges.m in
     let g : c.sign_of-sign.result.now ≡ sign i.m = c.sign_of-sign.ensures.0 ∙ ap sign b in
     let z = num_length i.m i.scale (c.unsigned_abs.ensures.value ∙ absolute (back i.m) ∙ ap nat_abs b) c.shorten-p.ensures.0 in
-    let n : length c.sign_of-sign.result.now + c.shown_len-k.result ≡ length (num_text i.m i.scale) = omega (arith, ap length g, c.shown_len-k.ensures.0) in
+    let n : length c.sign_of-sign.result.now + c.len-k.result ≡ length (num_text i.m i.scale) = omega (arith, ap length g, c.len-k.ensures.0) in
     let h = room i.out.now i.at (num_text i.m i.scale) n c.lacks_room.ensures c.if-lacks_room.false in
     let p = c.put-from in
     let one = wrote {t = sign i.m} (front _ h (omega arith)) (puts_of g p.ensures) in
     let y : p.result ≡ i.at + length (sign i.m) = one.end in
     let x : length p.new.out ≡ length i.out.now = ap length one.laid ∙ length-sets i.out.now i.at (sign i.m) in
-    omega (arith, c.shown_len-k.ensures.0)
+    omega (arith, c.len-k.ensures.0)
 
-pub slice_bounds-fill_shown-end : goal.slice_bounds-fill_shown-end
-slice_bounds-fill_shown-end c =
+pub slice_bounds-fill-end : goal.slice_bounds-fill-end
+slice_bounds-fill-end c =
     let i = c.args in
     let b = to_z-of_z w64 i.m c.ranges.m in
     let g : c.sign_of-sign.result.now ≡ sign i.m = c.sign_of-sign.ensures.0 ∙ ap sign b in
     let z = num_length i.m i.scale (c.unsigned_abs.ensures.value ∙ absolute (back i.m) ∙ ap nat_abs b) c.shorten-p.ensures.0 in
-    let n : length c.sign_of-sign.result.now + c.shown_len-k.result ≡ length (num_text i.m i.scale) = omega (arith, ap length g, c.shown_len-k.ensures.0) in
+    let n : length c.sign_of-sign.result.now + c.len-k.result ≡ length (num_text i.m i.scale) = omega (arith, ap length g, c.len-k.ensures.0) in
     let h = room i.out.now i.at (num_text i.m i.scale) n c.lacks_room.ensures c.if-lacks_room.false in
     let p = c.put-from in
     let one = wrote {t = sign i.m} (front _ h (omega arith)) (puts_of g p.ensures) in
     let y : p.result ≡ i.at + length (sign i.m) = one.end in
     let x : length p.new.out ≡ length i.out.now = ap length one.laid ∙ length-sets i.out.now i.at (sign i.m) in
-    omega (arith, c.shown_len-k.ensures.0)
+    omega (arith, c.len-k.ensures.0)
 
 pub returns : goal.returns
 returns c =
@@ -63,15 +63,15 @@ returns c =
     let b = to_z-of_z w64 i.m c.ranges.m in
     let g : c.sign_of-sign.result.now ≡ sign i.m = c.sign_of-sign.ensures.0 ∙ ap sign b in
     let z = num_length i.m i.scale (c.unsigned_abs.ensures.value ∙ absolute (back i.m) ∙ ap nat_abs b) c.shorten-p.ensures.0 in
-    let n : length c.sign_of-sign.result.now + c.shown_len-k.result ≡ length (num_text i.m i.scale) = omega (arith, ap length g, c.shown_len-k.ensures.0) in
+    let n : length c.sign_of-sign.result.now + c.len-k.result ≡ length (num_text i.m i.scale) = omega (arith, ap length g, c.len-k.ensures.0) in
     let h = room i.out.now i.at (num_text i.m i.scale) n c.lacks_room.ensures c.if-lacks_room.false in
     let p = c.put-from in
     let one = wrote {t = sign i.m} (front _ h (omega arith)) (puts_of g p.ensures) in
     let y : p.result ≡ i.at + length (sign i.m) = one.end in
     let x : length p.new.out ≡ length i.out.now = ap length one.laid ∙ length-sets i.out.now i.at (sign i.m) in
-    let u = c.fill_shown.new.part in
-    let k = c.shown_len-k in
-    let v = c.fill_shown.ensures in
+    let u = c.fill.new.part in
+    let k = c.len-k in
+    let v = c.fill.ensures in
     let j : length u ≡ k.result = ap length v ∙ sym k.ensures.0 in
     let two = wrote_part u (p.result + k.result) (front _ h (omega (arith, k.ensures.0))) one (ap (λ (w : ℕ). p.result + w) (sym j)) in
     wrote_puts h (wrote_same (ap (λ (w : List ℕ). sign i.m ++ w) v ∙ num_is i.m i.scale (c.unsigned_abs.ensures.value ∙ absolute (back i.m) ∙ ap nat_abs b) c.shorten-p.ensures.0) two)

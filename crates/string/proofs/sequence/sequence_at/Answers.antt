@@ -4,16 +4,16 @@ use native.Mathlib.Omega.{arith}
 use Prim.Native.Nat.{◌-◌}
 use Rattle.string.specs.SequenceWords.{tails}
 use Rattle.string.proofs.SequenceLaws.{more_most, none_heads, cut_heads, second_fails, second_passes, later_passes, heads_of, third_fails, fourth_fails}
+use Rattle.string.proofs.sequence.sequence_at.Goals.{then-more-eq0-via-then-more-eq0, then-more-eq0-via-else-more-eq0+then-s-i, then-more-eq0-via-else-more-eq0+else-s-i+then-not-is_second}
 use Rattle.string.proofs.sequence.sequence_at.Goals as goal
 
 pub returns-then-more-eq0 : goal.returns-then-more-eq0
-returns-then-more-eq0 c = none_heads _ _ c.requires.0 c.more_after-more.ensures.1 c.requires.1 (sym c.more_after-more.ensures.0 ∙ c.if-more-eq0.true)
-
-pub returns-then-s-i : goal.returns-then-s-i
-returns-then-s-i c = cut_heads _ _ c.requires.0 c.more_after-more.ensures.1 c.requires.1 (c.more_after-more.result - 1) (sym c.more_after-more.ensures.0 ∙ omega arith) (omega arith)
-
-pub returns-then-not-is_second : goal.returns-then-not-is_second
-returns-then-not-is_second c = second_fails _ _ c.requires.0 c.more_after-more.ensures.1 c.requires.1 (c.more_after-more.result - 1) (sym c.more_after-more.ensures.0 ∙ omega arith) (omega arith) (sym c.is_second.ensures ∙ c.if-not-is_second.true)
+returns-then-more-eq0 c =
+    elim c.then-more-eq0.branch [
+      | then-more-eq0-via-then-more-eq0 w ↦ none_heads _ _ c.requires.0 c.more_after-more.ensures.1 c.requires.1 (sym c.more_after-more.ensures.0 ∙ w.if-more-eq0.true)
+      | then-more-eq0-via-else-more-eq0+then-s-i w ↦ cut_heads _ _ c.requires.0 c.more_after-more.ensures.1 c.requires.1 (c.more_after-more.result - 1) (sym c.more_after-more.ensures.0 ∙ omega arith) (omega arith)
+      | then-more-eq0-via-else-more-eq0+else-s-i+then-not-is_second w ↦ second_fails _ _ c.requires.0 c.more_after-more.ensures.1 c.requires.1 (c.more_after-more.result - 1) (sym c.more_after-more.ensures.0 ∙ omega arith) (omega arith) (sym w.is_second.ensures ∙ w.if-not-is_second.true)
+    ]
 
 pub returns-then-more-eq1 : goal.returns-then-more-eq1
 unfolding tails
