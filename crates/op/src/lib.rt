@@ -61,8 +61,8 @@ pub enum Op {
     IsNotNull,
 }
 
-// The numbers of the operators, their places in the enum. Records hold these, and the walks of text and reduce, with sql and spelling, compare them: the
-// operator itself in their place costs lowering 1 to 4 % more instructions.
+// The numbers of the operators, their places in the enum. Records hold these, and the walk of text compares them, with class and settings: the operator
+// itself in their place costs lowering 1 to 4 % more instructions.
 pub const PLUS: usize = Op::Plus as usize;
 
 pub const MINUS: usize = Op::Minus as usize;

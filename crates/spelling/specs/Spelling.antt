@@ -2,6 +2,7 @@
 use Rattle.std.specs.Prelude.{ℕ, List, [], Option, Some, None}
 use Rattle.prelude.specs.Bytes.{bytes}
 use Rattle.op.specs.declared.Op.{Op}
+use Rattle.op.specs.Op.{op_of}
 use Rattle.op.specs.declared.Op.TheVariants.{Plus, Minus, Mult, Div, IntDiv, Mod, Exp, Neg, Eq, Neq, Lt, Gt, Lte, Gte, And, Or, CaseI, AccentI, SIntersects, SEquals, SDisjoint, STouches, SWithin, SOverlaps, SCrosses, SContains, TAfter, TBefore, TContains, TDisjoint, TDuring, TEquals, TFinishedBy, TFinishes, TIntersects, TMeets, TMetBy, TOverlappedBy, TOverlaps, TStartedBy, TStarts, AEquals, AContains, AContainedBy, AOverlaps, IsLike, IsNotLike, IsBetween, IsNotBetween, IsInList, IsNotInList, IsNull, IsNotNull}
 
 -- having no spelling is an answer of its own, and no empty text
@@ -59,6 +60,14 @@ spelling IsInList = Some (bytes "IN")
 spelling IsNotInList = Some (bytes "NOT IN")
 spelling IsNull = Some (bytes "IS NULL")
 spelling IsNotNull = Some (bytes "IS NOT NULL")
+
+-- the spelling by an operator's number; a number that is no operator's has none
+abbrev pub numbered : Option Op → Option (List ℕ)
+numbered None = None
+numbered (Some o) = spelling o
+
+abbrev pub spelling_of : ℕ → Option (List ℕ)
+spelling_of n = numbered (op_of n)
 
 -- what is written of an operator: its spelling, or nothing where it has none
 unfoldable pub spelled_as : Option (List ℕ) → List ℕ

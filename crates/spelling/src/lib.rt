@@ -2,7 +2,7 @@
 #![tactic(auto)]
 
 ghost use Rattle.std.specs.Prelude.{◌≡◌, option_map};
-ghost use Rattle.spelling.specs.Spelling.{spelling};
+ghost use Rattle.spelling.specs.Spelling.{spelling, spelling_of};
 
 use op::Op;
 
@@ -50,4 +50,14 @@ pub fn to_sql(op: Op) -> Option<&'static [u8]>
         _ => return None,
     };
     Some(spelled)
+}
+
+// That of the operator with a number; a number that is no operator's has none.
+pub fn of_number(n: usize) -> Option<&'static [u8]>
+    ensures { option_map (λ s. s.now) result ≡ spelling_of n }
+{
+    match op::op_of(n) {
+        Some(op) => to_sql(op),
+        None => None,
+    }
 }

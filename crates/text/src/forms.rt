@@ -18,7 +18,7 @@ ghost use Rattle.class.specs.ClassWords.{between_number, sign_number, spatial_nu
 use crate::classes::{is_array, is_between, is_like, is_nullable, is_sign, is_spatial};
 use crate::leaves::name_of;
 use crate::records::{NAME, OPERAND, TWIN_OPERAND, is_literal_or_id};
-use op::{ACCENT_I, CASE_I, S_INTERSECTS, op_of};
+use op::{ACCENT_I, CASE_I, S_INTERSECTS};
 use record::{BODY, KIND};
 use settings::PRECISION_AT;
 use tree::{ARRAY, MONADIC};
@@ -27,10 +27,7 @@ use tree::{ARRAY, MONADIC};
 fn word_of(op: usize) -> &'static [u8]
     ensures { (o : Op) → op ≡ op_number o → result.now ≡ word o }
 {
-    match op_of(op) {
-        Some(op) => spelling::to_sql(op).unwrap_or(b""),
-        None => b"",
-    }
+    spelling::of_number(op).unwrap_or(b"")
 }
 
 pub(crate) fn put_word(op: usize, out: &mut [u8], at: usize) -> usize
