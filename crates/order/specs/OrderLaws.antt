@@ -82,6 +82,11 @@ other_length x y f = go (order x y) refl
     go Equal e = absurd (f (ap length (order_same x y e)))
     go Greater e = refl
 
+pub is_equal_true : (o : Ordering) → is_eq o ≡ true → o ≡ Equal
+is_equal_true Less e = absurd (false≢true e)
+is_equal_true Equal e = refl
+is_equal_true Greater e = absurd (false≢true e)
+
 -- two numbers by `cmp`
 pub cmp-level : (x y : ℕ) → x ≡ y → nat_cmp x y ≡ Equal
 cmp-level x y e = let h : y ≤ x = omega arith in rw (le-ltb x y h, eq-eqb x y e) refl
@@ -197,6 +202,30 @@ module _ (a b : List ℕ) (i : ℕ) where
   pub order_level : i < length a → i < length b → get_or a i 0 ≡ get_or b i 0 → order (drop i a) (drop i b) ≡ order (drop (i + 1) a) (drop (i + 1) b)
   order_level h k e =
       order_turn h k ∙ ap (λ o. ordering_then o (order (drop (i + 1) a) (drop (i + 1) b))) (cmp-level (get_or a i 0) (get_or b i 0) e)
+
+  pub order_go : i < length a → i < length b → get_or b i 0 ≤ get_or a i 0 → get_or a i 0 ≤ get_or b i 0
+      → order (drop i a) (drop i b) ≡ order (drop (i + 1) a) (drop (i + 1) b)
+  order_go h k p q = order_level h k (omega arith)
+
+  pub order-less : i < length a → i < length b → get_or a i 0 < get_or b i 0 → order (drop i a) (drop i b) ≡ Less
+  unfolding order
+  order-less h k p = rw (drop_more a i 0 h, drop_more b i 0 k, lt-ltb _ _ p)
+
+  pub order-more : i < length a → i < length b → get_or b i 0 ≤ get_or a i 0 → get_or b i 0 < get_or a i 0 → order (drop i a) (drop i b) ≡ Greater
+  unfolding order
+  order-more h k p q = rw (drop_more a i 0 h, drop_more b i 0 k, le-ltb _ _ p, lt-ltb _ _ q)
+
+  pub order_long : i < length a → length b ≤ i → order (drop i a) (drop i b) ≡ Greater
+  unfolding order
+  order_long h k = rw (drop_more a i 0 h, drop_of_length-le b {i = i} k)
+
+  pub order-both : length a ≤ i → length b ≤ i → order (drop i a) (drop i b) ≡ Equal
+  unfolding order
+  order-both h k = rw (drop_of_length-le a {i = i} h, drop_of_length-le b {i = i} k)
+
+  pub order_short : length a ≤ i → i < length b → order (drop i a) (drop i b) ≡ Less
+  unfolding order
+  order_short h k = rw (drop_of_length-le a {i = i} h, drop_more b i 0 k)
 
   pub order-apart : i < length a → i < length b → (get_or a i 0 ≡ get_or b i 0 → ⊥) → is_eq (order (drop i a) (drop i b)) ≡ false
   order-apart h k f = ap is_eq (order_turn h k) ∙ cmp-apart (get_or a i 0) (get_or b i 0) f (order (drop (i + 1) a) (drop (i + 1) b))
