@@ -80,9 +80,10 @@ def own_enums(files):
 
 
 def numbers(files):
-    """1: constants that number kinds: three or more in a row in one file, each one more than the last, the first below 2."""
+    """1: constants that number kinds: three or more in a row in one file, each one more than the last; and an enum's places as constants."""
     found = []
     for name, text in files.items():
+        found += [(name, c) for c in re.findall(r"const (\w+): usize = \w+::\w+ as usize;", bare(text))]
         run = []
         for m in re.finditer(r"const (\w+): (?:usize|u8|u16|u32) = (\d+);|(\n(?:pub )?(?:fn|enum|struct|use) )", bare(text) + "\nfn "):
             if m.group(3):
