@@ -43,7 +43,10 @@ pub fn is_name_start(b: u8) -> bool
 fn is_name_byte(b: u8) -> bool
     ensures { result ≡ name_byte b }
 {
-    is_letter(b) || is_digit(b) || b == b'_'
+    if is_letter(b) {
+        return true;
+    }
+    is_digit(b) || b == b'_'
 }
 
 #[tactic(auto, unfolding(crate::specs::Charset::spatial_byte))]

@@ -1,21 +1,22 @@
 -- The look-up of reserved words. A test that no reserved word meets rules out every word that meets it: so a test computed over the list is a rule
 -- about all words, for the table as for what its families say.
-use Prim.Native.Nat.{ℕ, zero, suc, ◌+◌, ◌-◌, ◌*◌, ◌%◌, ◌≤◌}
+use Prim.Native.Nat.{ℕ, zero, suc, ◌+◌, ◌-◌, ◌*◌, ◌%◌, ◌≤◌, ◌<◌}
 use mathlib.Core.Path.{◌≡◌, refl, sym, ap, ◌∙◌}
-use mathlib.Core.List.{List, [], ◌∷◌, map}
-use mathlib.Core.Bool.{Bool, true, false, false≢true, ◌||◌}
+use mathlib.Core.List.{List, [], ◌∷◌}
+use mathlib.Core.Bool.{Bool, true, false, false≢true}
+use native.Mathlib.Nat.{suc-mul}
 use native.Mathlib.Omega.{arith}
-use denote.Ref.{Bor}
-use lib.Dec.{eqb, leb}
-use lib.ListN.{length, get_or}
-use borrow.Author.Tests.{eq-eqb, eqb-true, eqb-false, leb-true}
-use Rattle.std.specs.List.{list_any}
+use native.Mathlib.Numerals.{unary_clauses}
+use lib.Dec.{eqb, leb, ltb}
+use lib.ListN.{length, get_or, take, drop}
+use lib.Seq.{drop-cons, drop-drop}
+use borrow.Author.Tests.{eq-eqb, ne_eqb, eqb-true, eqb-false, leb-true, ltb-false}
 use Rattle.prelude.specs.Choice.{pick, both, either, negated, between, some, same}
 use Rattle.prelude.specs.ChoiceLaws.{same_true}
 use Rattle.word.specs.Case.{upper, uppers}
 use Rattle.keyword.specs.Reserved.{reserved}
 use Rattle.word.specs.CaseLaws.{upper_at, upper-length}
-use Rattle.keyword.specs.TableWords.{reserved_list, has_bit, mark_of, lacks, Covers}
+use Rattle.keyword.specs.TableWords.{reserved_list, place_in, count_in, cut, words_in, Lists, has_bit, mark_of, lacks, Covers}
 
 -- neither of two tests holds
 either_false : (a b : Bool) → either a b ≡ false → (a ≡ false) × (b ≡ false)
@@ -35,11 +36,31 @@ none_same p u (w ∷ ws) h e = go (same u w) refl (none_same p u ws h (either_fa
     go true q k = absurd (false≢true (sym fails ∙ ap p (sym (same_true u w q)) ∙ h))
     go false q k = rw q k
 
--- The list.
+-- The table.
 
 -- the word is none of the list
-abbrev pub missing : List (List ℕ) → List ℕ → Bool
+abbrev missing : List (List ℕ) → List ℕ → Bool
 missing ws w = negated (some (same w) ws)
+
+-- at this length the table lacks a reserved word, has another one, or goes on past its end
+abbrev pub wrong : List ℕ → ℕ → Bool
+wrong table n =
+    either (some (λ w. both (eqb (length w) n) (missing (words_in table n) w)) reserved_list)
+    (either (some (missing reserved_list) (words_in table n))
+    (ltb (length table) (place_in table n + count_in table n * n)))
+
+-- some number below k passes
+abbrev pub some_below : (ℕ → Bool) → ℕ → Bool
+some_below p zero = false
+some_below p (suc k) = either (p k) (some_below p k)
+
+none_below : (p : ℕ → Bool) (k n : ℕ) → some_below p k ≡ false → n < k → p n ≡ false
+none_below p zero n e h = absurd (omega arith)
+none_below p (suc k) n e h = go (eqb n k) refl (λ l. none_below p k n (either_false (p k) (some_below p k) e).1 l)
+  where
+    go : (b : Bool) → eqb n k ≡ b → (n < k → p n ≡ false) → p n ≡ false
+    go true q f = ap p (eqb-true n k q) ∙ (either_false (p k) (some_below p k) e).0
+    go false q f = f (let z = eqb-false n k q in omega arith)
 
 agree : (a b : Bool) → (a ≡ false → b ≡ false) → (b ≡ false → a ≡ false) → a ≡ b
 agree true true f g = refl
@@ -47,27 +68,66 @@ agree true false f g = g refl
 agree false true f g = sym (f refl)
 agree false false f g = refl
 
--- a list that lacks no reserved word and has no other is the rule
-pub lists : (ws : List (List ℕ)) → some (missing ws) reserved_list ≡ false → some (missing reserved_list) ws ≡ false → (u : List ℕ) → some (same u) ws ≡ some (same u) reserved_list
-lists ws e f u =
-    agree _ _
-    (λ q. none_same (missing ws) u reserved_list (ap negated q) e)
-    (λ q. none_same (missing reserved_list) u ws (ap negated q) f)
+-- what the test leaves at a length
+module _ (table : List ℕ) (e : some_below (wrong table) 18 ≡ false) (n : ℕ) (h : n ≤ 17) where
+  fails : (some (λ w. both (eqb (length w) n) (missing (words_in table n) w)) reserved_list ≡ false)
+      × (either (some (missing reserved_list) (words_in table n)) (ltb (length table) (place_in table n + count_in table n * n)) ≡ false)
+  fails = either_false _ _ (none_below (wrong table) 18 n e (omega arith))
 
-some_is : (f : List ℕ → Bool) (bs : List (Bor (List ℕ))) → list_any (λ b. f b.now) bs ≡ some f (map (λ b. b.now) bs)
-unfolding some
-some_is f [] = refl
-some_is f (b ∷ bs) = go (f b.now) (some_is f bs)
+  others : (some (missing reserved_list) (words_in table n) ≡ false) × (ltb (length table) (place_in table n + count_in table n * n) ≡ false)
+  others = either_false _ _ fails.1
+
+-- one test, computed over the table at all lengths, is the rule of the table
+pub lists : (table : List ℕ) → 54 ≤ length table → some_below (wrong table) 18 ≡ false → Lists table
+lists table l e = record { long = l; inside = λ n h. ltb-false _ _ (others table e n h).1; right = right }
   where
-    go : (t : Bool) → list_any (λ b. f b.now) bs ≡ some f (map (λ b. b.now) bs) → (t || list_any (λ b. f b.now) bs) ≡ pick t true (some f (map (λ b. b.now) bs))
-    go true e = refl
-    go false e = e
+    right : (u : List ℕ) → length u ≤ 17 → some (same u) (words_in table (length u)) ≡ some (same u) reserved_list
+    right u h =
+        agree _ _
+        (λ q. none_same (λ w. both (eqb (length w) (length u)) (missing (words_in table (length u)) w)) u reserved_list (rw (eq-eqb (length u) (length u) refl) (ap negated q)) (fails table e (length u) h).0)
+        (λ q. none_same (missing reserved_list) u (words_in table (length u)) (ap negated q) (others table e (length u) h).0)
 
--- what a search through such a list, handed over as slices, tells of a word
-pub listed : (s : List ℕ) {xs bs : List (Bor (List ℕ))} {r : Bool} → xs ≡ bs → some (missing (map (λ b. b.now) bs)) reserved_list ≡ false → some (missing reserved_list) (map (λ b. b.now) bs) ≡ false
-    → r ≡ list_any (λ b. same (uppers s) b.now) bs → r ≡ reserved s
+-- The walk over the words of one length.
+
+-- where words are left, the next one and what is left after it lie inside
+pub room : (at n left end : ℕ) → 0 < left → at + left * n ≤ end → (at + n ≤ end) × (at + n + (left - 1) * n ≤ end)
+room at n zero end h k = absurd (omega arith)
+room at n (suc left) end h k =
+    let e = suc-mul left n in
+    let d : suc left - 1 ≡ left = omega arith in
+    (omega arith, rw d (omega arith))
+
+-- a word whose first letter is another
+pub other_first : (s t : List ℕ) (at : ℕ) → 1 ≤ length s → at < length t → (get_or t at 0 ≡ upper (get_or s 0 0) → ⊥) → same (uppers s) (take (length s) (drop at t)) ≡ false
+other_first [] t at h k e = absurd (omega arith)
+other_first (x ∷ s) t at h k e = rw (drop-cons t at 0 k, ne_eqb (upper x) (get_or t at 0) (λ q. e (sym q))) refl
+
+-- the part of a text from `at` to `at + n`
+pub part : (at n : ℕ) (t : List ℕ) → take (at + n - at) (drop at t) ≡ take n (drop at t)
+part at n t = let e : at + n - at ≡ n = omega arith in ap (λ (k : ℕ). take k (drop at t)) e
+
+pub at_first : (table s : List ℕ) → Lists table → length s ≤ 17 → some (same (uppers s)) (words_in table (length s)) ≡ reserved s
 unfolding reserved
-listed s {xs} {bs} q e f h = h ∙ some_is (same (uppers s)) bs ∙ lists (map (λ b. b.now) bs) e f (uppers s)
+at_first table s h k =
+    let e = upper-length s in
+    let q : length (uppers s) ≤ 17 = omega (arith, e) in
+    ap (λ n. some (same (uppers s)) (words_in table n)) (sym e) ∙ h.right (uppers s) q
+
+pub found : (u table : List ℕ) (n at left : ℕ) → 0 < left → same u (take n (drop at table)) ≡ true → some (same u) (cut left n (drop at table)) ≡ true
+unfolding some
+found u table n at zero h e = absurd (omega arith)
+found u table n at (suc left) h e = simp e
+
+pub next : (u table : List ℕ) (n at left : ℕ) → 0 < left → same u (take n (drop at table)) ≡ false
+    → some (same u) (cut left n (drop at table)) ≡ some (same u) (cut (left - 1) n (drop (at + n) table))
+unfolding some
+next u table n at zero h e = absurd (omega arith)
+next u table n at (suc left) h e = simp unary_clauses (rw (e, drop-drop n at table) refl)
+
+pub at_last : (u table : List ℕ) (n at left : ℕ) → left ≤ 0 → some (same u) (cut left n (drop at table)) ≡ false
+unfolding some
+at_last u table n at zero h = refl
+at_last u table n at (suc left) h = absurd (omega arith)
 
 -- The families.
 

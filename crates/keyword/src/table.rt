@@ -1,169 +1,227 @@
-// The words that no name may be, in any letter case: document 01's and SQLite's keywords, and what the words of one first letter have. Both are
-// printed by tools/generators/reserved_table.py.
-ghost use Rattle.std.specs.Prelude.{◌≡◌, false, ◌≤◌, ◌<◌, length};
+// The words that no name may be, in any letter case: document 01's and SQLite's keywords, as one table, and the look-up in it. The table and the
+// families are printed by tools/generators/reserved_table.py.
+ghost use Rattle.std.specs.Prelude.{◌≡◌, false, ◌+◌, ◌*◌, ◌≤◌, ◌<◌, length, get_or, take, drop};
+ghost use Rattle.prelude.specs.Choice.{same};
+ghost use Rattle.word.specs.Case.{upper, uppers};
 ghost use Rattle.keyword.specs.Reserved.{reserved};
-ghost use Rattle.keyword.specs.TableWords.{has_bit, mark_of, Covers};
+ghost use Rattle.keyword.specs.TableWords.{place_in, count_in, Lists, has_bit, mark_of, Covers};
 
-use word::is_word;
+use word::{is_word, upper_of};
 
-// By length, and those of one length in the order of the alphabet.
-const RESERVED: &[&[u8]] = &[
-    b"AS",
-    b"BY",
-    b"DO",
-    b"IF",
-    b"IN",
-    b"IS",
-    b"NO",
-    b"OF",
-    b"ON",
-    b"OR",
-    b"TO",
-    b"ADD",
-    b"ALL",
-    b"AND",
-    b"ASC",
-    b"DIV",
-    b"END",
-    b"FOR",
-    b"KEY",
-    b"NOT",
-    b"ROW",
-    b"SET",
-    b"CASE",
-    b"CAST",
-    b"DESC",
-    b"DROP",
-    b"EACH",
-    b"ELSE",
-    b"FAIL",
-    b"FROM",
-    b"FULL",
-    b"GLOB",
-    b"INTO",
-    b"JOIN",
-    b"LAST",
-    b"LEFT",
-    b"LIKE",
-    b"NULL",
-    b"OVER",
-    b"PLAN",
-    b"ROWS",
-    b"TEMP",
-    b"THEN",
-    b"TIES",
-    b"TRUE",
-    b"VIEW",
-    b"WHEN",
-    b"WITH",
-    b"ABORT",
-    b"AFTER",
-    b"ALTER",
-    b"BEGIN",
-    b"CHECK",
-    b"CROSS",
-    b"FALSE",
-    b"FIRST",
-    b"GROUP",
-    b"INDEX",
-    b"INNER",
-    b"LIMIT",
-    b"MATCH",
-    b"NULLS",
-    b"ORDER",
-    b"OUTER",
-    b"QUERY",
-    b"RAISE",
-    b"RANGE",
-    b"RIGHT",
-    b"TABLE",
-    b"UNION",
-    b"USING",
-    b"WHERE",
-    b"ACTION",
-    b"ALWAYS",
-    b"ATTACH",
-    b"BEFORE",
-    b"COLUMN",
-    b"COMMIT",
-    b"CREATE",
-    b"DELETE",
-    b"DETACH",
-    b"ESCAPE",
-    b"EXCEPT",
-    b"EXISTS",
-    b"FILTER",
-    b"GROUPS",
-    b"HAVING",
-    b"IGNORE",
-    b"INSERT",
-    b"ISNULL",
-    b"OFFSET",
-    b"OTHERS",
-    b"PRAGMA",
-    b"REGEXP",
-    b"RENAME",
-    b"SELECT",
-    b"UNIQUE",
-    b"UPDATE",
-    b"VACUUM",
-    b"VALUES",
-    b"WINDOW",
-    b"ANALYZE",
-    b"BETWEEN",
-    b"CASCADE",
-    b"COLLATE",
-    b"CURRENT",
-    b"DEFAULT",
-    b"EXCLUDE",
-    b"EXPLAIN",
-    b"FOREIGN",
-    b"INDEXED",
-    b"INSTEAD",
-    b"NATURAL",
-    b"NOTHING",
-    b"NOTNULL",
-    b"PRIMARY",
-    b"REINDEX",
-    b"RELEASE",
-    b"REPLACE",
-    b"TRIGGER",
-    b"VIRTUAL",
-    b"WITHOUT",
-    b"CONFLICT",
-    b"DATABASE",
-    b"DEFERRED",
-    b"DISTINCT",
-    b"RESTRICT",
-    b"ROLLBACK",
-    b"EXCLUSIVE",
-    b"FOLLOWING",
-    b"GENERATED",
-    b"IMMEDIATE",
-    b"INITIALLY",
-    b"INTERSECT",
-    b"PARTITION",
-    b"PRECEDING",
-    b"RECURSIVE",
-    b"RETURNING",
-    b"SAVEPOINT",
-    b"TEMPORARY",
-    b"UNBOUNDED",
-    b"CONSTRAINT",
-    b"DEFERRABLE",
-    b"REFERENCES",
-    b"TRANSACTION",
-    b"CURRENT_DATE",
-    b"CURRENT_TIME",
-    b"MATERIALIZED",
-    b"AUTOINCREMENT",
-    b"CURRENT_TIMESTAMP",
-];
+// The words by length. First stand, for each length from 0 to 17, three bytes: where its words begin, low byte first, and how many they are. Then
+// come the words, those of one length in the order of the alphabet.
+const RESERVED: &[u8; 926] = b"\
+    \x36\x00\x00\x36\x00\x00\x36\x00\x0b\x4c\x00\x0b\x6d\x00\x1a\xd5\x00\x18\
+    \x4d\x01\x1d\xfb\x01\x15\x8e\x02\x06\xbe\x02\x0d\x33\x03\x03\x51\x03\x01\
+    \x5c\x03\x03\x80\x03\x01\x8d\x03\x00\x8d\x03\x00\x8d\x03\x00\x8d\x03\x01\
+    AS\
+    BY\
+    DO\
+    IF\
+    IN\
+    IS\
+    NO\
+    OF\
+    ON\
+    OR\
+    TO\
+    ADD\
+    ALL\
+    AND\
+    ASC\
+    DIV\
+    END\
+    FOR\
+    KEY\
+    NOT\
+    ROW\
+    SET\
+    CASE\
+    CAST\
+    DESC\
+    DROP\
+    EACH\
+    ELSE\
+    FAIL\
+    FROM\
+    FULL\
+    GLOB\
+    INTO\
+    JOIN\
+    LAST\
+    LEFT\
+    LIKE\
+    NULL\
+    OVER\
+    PLAN\
+    ROWS\
+    TEMP\
+    THEN\
+    TIES\
+    TRUE\
+    VIEW\
+    WHEN\
+    WITH\
+    ABORT\
+    AFTER\
+    ALTER\
+    BEGIN\
+    CHECK\
+    CROSS\
+    FALSE\
+    FIRST\
+    GROUP\
+    INDEX\
+    INNER\
+    LIMIT\
+    MATCH\
+    NULLS\
+    ORDER\
+    OUTER\
+    QUERY\
+    RAISE\
+    RANGE\
+    RIGHT\
+    TABLE\
+    UNION\
+    USING\
+    WHERE\
+    ACTION\
+    ALWAYS\
+    ATTACH\
+    BEFORE\
+    COLUMN\
+    COMMIT\
+    CREATE\
+    DELETE\
+    DETACH\
+    ESCAPE\
+    EXCEPT\
+    EXISTS\
+    FILTER\
+    GROUPS\
+    HAVING\
+    IGNORE\
+    INSERT\
+    ISNULL\
+    OFFSET\
+    OTHERS\
+    PRAGMA\
+    REGEXP\
+    RENAME\
+    SELECT\
+    UNIQUE\
+    UPDATE\
+    VACUUM\
+    VALUES\
+    WINDOW\
+    ANALYZE\
+    BETWEEN\
+    CASCADE\
+    COLLATE\
+    CURRENT\
+    DEFAULT\
+    EXCLUDE\
+    EXPLAIN\
+    FOREIGN\
+    INDEXED\
+    INSTEAD\
+    NATURAL\
+    NOTHING\
+    NOTNULL\
+    PRIMARY\
+    REINDEX\
+    RELEASE\
+    REPLACE\
+    TRIGGER\
+    VIRTUAL\
+    WITHOUT\
+    CONFLICT\
+    DATABASE\
+    DEFERRED\
+    DISTINCT\
+    RESTRICT\
+    ROLLBACK\
+    EXCLUSIVE\
+    FOLLOWING\
+    GENERATED\
+    IMMEDIATE\
+    INITIALLY\
+    INTERSECT\
+    PARTITION\
+    PRECEDING\
+    RECURSIVE\
+    RETURNING\
+    SAVEPOINT\
+    TEMPORARY\
+    UNBOUNDED\
+    CONSTRAINT\
+    DEFERRABLE\
+    REFERENCES\
+    TRANSACTION\
+    CURRENT_DATE\
+    CURRENT_TIME\
+    MATERIALIZED\
+    AUTOINCREMENT\
+    CURRENT_TIMESTAMP";
 
-pub(crate) fn is_listed(s: &[u8]) -> bool
+// One constant of bytes and no list of texts: that would be a list of addresses, which a library for a device has to keep in memory that is written.
+fn reserved_words() -> &'static [u8; 926]
+    ensures { Lists result.now }
+{
+    RESERVED
+}
+
+// Where the words of n bytes begin.
+fn place(table: &[u8], n: usize) -> usize
+    requires { 3 * n + 1 < length table.now }
+    ensures { result ≡ place_in table.now n }
+{
+    usize::from(table[3 * n]) + 256 * usize::from(table[3 * n + 1])
+}
+
+// How many words have n bytes.
+fn count(table: &[u8], n: usize) -> usize
+    requires { 3 * n + 2 < length table.now }
+    ensures { result ≡ count_in table.now n }
+{
+    usize::from(table[3 * n + 2])
+}
+
+// The word, which begins with this capital, stands at a place of the table. Most words of the table differ in their first letter.
+fn stands(table: &[u8], at: usize, first: u8, s: &[u8]) -> bool
+    requires { (at + length s.now ≤ length table.now) × (1 ≤ length s.now) × (first ≡ upper (get_or s.now 0 0)) }
+    ensures { result ≡ same (uppers s.now) (take (length s.now) (drop at table.now)) }
+{
+    if table[at] != first {
+        return false;
+    }
+    is_word(s, &table[at..at + s.len()])
+}
+
+// The word is one of those of its length.
+fn look_up(table: &[u8], s: &[u8]) -> bool
+    requires { Lists table.now × (1 ≤ length s.now) × (length s.now ≤ 17) }
     ensures { result ≡ reserved s.now }
 {
-    RESERVED.iter().any(|w| is_word(s, w))
+    let first = upper_of(s[0]);
+    let mut at = place(table, s.len());
+    let mut left = count(table, s.len());
+    while 0 < left {
+        if stands(table, at, first, s) {
+            return true;
+        }
+        at += s.len();
+        left -= 1;
+    }
+    false
+}
+
+pub(crate) fn is_listed(s: &[u8]) -> bool
+    requires { (1 ≤ length s.now) × (length s.now ≤ 17) }
+    ensures { result ≡ reserved s.now }
+{
+    look_up(reserved_words(), s)
 }
 
 // Whether a set of numbers below 64, a bit for each, has this one.
