@@ -17,7 +17,8 @@ use Rattle.string.specs.Quote.{doubled}
 use Rattle.string.specs.QuoteLaws.{doubled-append, doubled_mark, doubled_other}
 use Rattle.literal.specs.Literal.{quoted}
 use Rattle.literal.specs.LiteralLaws.{length-quoted}
-use Rattle.emit.specs.EmitLaws.{sets_append, Wrote}
+use Rattle.emit.specs.Emit.{count_limit, ended, Puts}
+use Rattle.emit.specs.EmitLaws.{placed_over, sets_append, Wrote}
 
 -- one byte more for each apostrophe
 pub length-doubled : (s : List ℕ) → length (doubled s) ≡ length s + count_by (λ (b : ℕ). eqb b apostrophe) s
@@ -143,6 +144,13 @@ module _ {s out₀ out : List ℕ} {at i k : ℕ} (x : Laid s out₀ at out i k)
 pub length-written : (s : List ℕ) (n : ℕ) {k w : ℕ} → length (doubled s) ≡ length s + n → k ≡ min (length s + n) 0xffff_ffff_ffff_ffff → w ≡ min (k + 2) 0xffff_ffff_ffff_ffff
     → w ≡ min (length (quoted (doubled s))) 0xffff_ffff_ffff_ffff
 length-written s n e f g = let q = length-quoted (doubled s) in omega (arith, q, e)
+
+-- one that is longer than any text is not written
+pub too_long : (s out : List ℕ) (at : ℕ) {r : ℕ} → count_limit < length s → r ≡ ended count_limit at (length s) → Puts count_limit at (quoted (doubled s)) out out r
+too_long s out at h e =
+    let q = length-quoted (doubled s) in
+    let l = length-doubled s in
+    record { laid = sym (placed_over count_limit out at (quoted (doubled s)) (omega (arith, q, l))); end = omega (arith, e, q, l) }
 
 -- what is laid after a text that was written
 pub laid_then : {cap at : ℕ} {out t mid exit : List ℕ} {q k : ℕ} (u : List ℕ) → Wrote cap out at t mid q → exit ≡ sets mid q u → k ≡ q + length u → Wrote cap out at (t ++ u) exit k

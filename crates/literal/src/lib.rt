@@ -43,7 +43,11 @@ pub fn put_quoted(s: &[u8], out: &mut [u8], at: usize) -> usize
 fn apostrophes(s: &[u8]) -> usize
     ensures { length (doubled s.now) ≡ length s.now + result }
 {
-    s.iter().filter(|b| **b == b'\'').count()
+    let mut n = 0;
+    for b in s {
+        n += usize::from(*b == b'\'');
+    }
+    n
 }
 
 // Lays s over out from `at`, each apostrophe twice; answers the place after it.
@@ -70,6 +74,10 @@ pub fn put_str(s: &[u8], out: &mut [u8], at: usize) -> usize
 {
     if !s.contains(&b'\'') {
         return put_quoted(s, out, at);
+    }
+    // Longer than any text: its apostrophes need no counting.
+    if emit::COUNT_LIMIT < s.len() {
+        return emit::ended(at, s.len());
     }
     let n = s
         .len()
