@@ -51,7 +51,7 @@ fn put_part(part: Part, out: &mut [u8], at: usize) -> usize
         Part::Or => emit::put(b") OR (", out, at),
         Part::And => emit::put(b") AND (", out, at),
         Part::Not => emit::put(b"NOT((", out, at),
-        Part::E0 | Part::E1 | Part::E2 | Part::E3 => emit::ended(at, 0),
+        Part::E0 | Part::E1 | Part::E2 | Part::E3 | Part::Blank => emit::ended(at, 0),
     }
 }
 

@@ -1,11 +1,12 @@
 -- What parts spell in each form; guards on texts are the guards of a condition, and so are texts joined.
-use Rattle.std.proofs.Common.{◌≡◌, refl, ap, sym, ◌∙◌, arith, List, [], ◌∷◌, ◌++◌, append_assoc, length, slice_index_or, ℕ, Bool, true, false}
+use Rattle.std.proofs.Common.{◌≡◌, refl, ap, sym, ◌∙◌, arith, List, [], ◌∷◌, ◌++◌, append_assoc, length, slice_index_or, ℕ, Bool, true, false, eqb, ne_eqb, Option, Some, None}
 use Rattle.prelude.specs.Choice.{pick}
 use Rattle.prelude.specs.Bytes.{bytes}
 use Rattle.sql.specs.Condition.{Cond, and, or, is_not_null, not_null, brackets, print, check_id, check_ids}
 use Rattle.op.specs.declared.Op.{Op}
 use Rattle.op.specs.declared.Op.TheVariants as op
-use Rattle.op.specs.Op.{op_number}
+use Rattle.op.specs.Op.{op_number, op_of}
+use Rattle.op.specs.OpLaws.{number_of}
 use Rattle.sql.specs.Translators.{translate, t_starts}
 use Rattle.sql.specs.declared.Part.{Part}
 use Rattle.sql.specs.declared.Part.TheVariants.{Open, Close, CloseBoth, Quote, IsNotNull, IsNotNullQuote, NotNull, Or, And, Not}
@@ -133,3 +134,27 @@ others op.IsInList _ _ _ _ _ _ _ _ _ _ _ _ _ _ = refl
 others op.IsNotInList _ _ _ _ _ _ _ _ _ _ _ _ _ _ = refl
 others op.IsNull _ _ _ _ _ _ _ _ _ _ _ _ _ _ = refl
 others op.IsNotNull _ _ _ _ _ _ _ _ _ _ _ _ _ _ = refl
+
+apart : (n : ℕ) → op_of n ≡ None → (o : Op) → eqb n (op_number o) ≡ false
+apart n e o = ne_eqb n (op_number o) (λ q. let z : ◌≡◌ {A = Option Op} None (Some o) = sym e ∙ (ap op_of q ∙ number_of o) in cc)
+
+-- and so has a number that is no operator's
+pub past_all : (n : ℕ) → op_of n ≡ None → translate n ≡ t_starts
+unfolding translate
+past_all n e =
+    simp (
+      apart n e op.TAfter,
+      apart n e op.TBefore,
+      apart n e op.TContains,
+      apart n e op.TDisjoint,
+      apart n e op.TDuring,
+      apart n e op.TEquals,
+      apart n e op.TFinishedBy,
+      apart n e op.TFinishes,
+      apart n e op.TIntersects,
+      apart n e op.TMeets,
+      apart n e op.TMetBy,
+      apart n e op.TOverlappedBy,
+      apart n e op.TOverlaps,
+      apart n e op.TStartedBy,
+    )

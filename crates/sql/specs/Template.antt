@@ -1,11 +1,11 @@
 -- The text of a temporal condition whose ends are still to be written, with digits where they go, and the parts that the code makes such a text of (src/ds/sql.rs, src/ds/gpkg.rs).
-use Rattle.std.specs.Prelude.{ℕ, ◌+◌, ◌-◌, List, [], ◌∷◌, ◌++◌, Bool, ltb}
+use Rattle.std.specs.Prelude.{ℕ, ◌+◌, ◌-◌, List, [], ◌∷◌, ◌++◌, Bool, ltb, take}
 use Rattle.prelude.specs.Bytes.{bytes}
 use Rattle.prelude.specs.Choice.{pick, between}
-use Rattle.arrayvec.specs.ArrayVec.{ArrayVec}
 use Rattle.sql.specs.Condition.{Cond, print}
 use Rattle.sql.specs.declared.Part.{Part}
-use Rattle.sql.specs.declared.Part.TheVariants.{E0, E1, E2, E3, Open, Close, CloseBoth, Greater, Less, Equal, Unequal, Quote, IsNotNull, IsNotNullQuote, NotNull, Or, And, Not}
+use Rattle.sql.specs.declared.Template as template
+use Rattle.sql.specs.declared.Part.TheVariants.{E0, E1, E2, E3, Open, Close, CloseBoth, Greater, Less, Equal, Unequal, Quote, IsNotNull, IsNotNullQuote, NotNull, Or, And, Not, Blank}
 
 -- an end as a digit
 abbrev pub digit_of : ℕ → List ℕ
@@ -35,6 +35,7 @@ place NotNull = 14
 place Or = 15
 place And = 16
 place Not = 17
+place Blank = 18
 
 -- what a part is in a template: an end is a digit, all others are words
 unfoldable pub part_of : Part → List ℕ
@@ -56,6 +57,7 @@ part_of NotNull = bytes "\" NOT NULL AND ("
 part_of Or = bytes ") OR ("
 part_of And = bytes ") AND ("
 part_of Not = bytes "NOT(("
+part_of Blank = []
 
 -- the words of a part that is no end
 unfoldable pub words_of : Part → List ℕ
@@ -66,9 +68,12 @@ unfoldable pub spelt : List Part → List ℕ
 spelt [] = []
 spelt (p ∷ ps) = part_of p ++ spelt ps
 
--- what a template of the code holds
-abbrev pub held : ArrayVec Part → List ℕ
-held t = spelt t.items
+-- the parts that a template of the code has, and what it holds
+abbrev pub items : template.Template → List Part
+items t = take t.len t.parts
+
+abbrev pub held : template.Template → List ℕ
+held t = spelt (items t)
 
 -- a template filled: each digit gives way to the text of its number
 unfoldable pub fill : (ℕ → List ℕ) → List ℕ → List ℕ

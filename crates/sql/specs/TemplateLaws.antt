@@ -1,5 +1,5 @@
 -- Laws of templates: filling is done part by part, and a condition's template filled is the condition printed.
-use Rattle.std.specs.Prelude.{ℕ, zero, suc, ◌+◌, ◌-◌, ◌<◌, ◌≡◌, refl, List, [], ◌∷◌, ◌++◌, Bool, true, false, T, ltb, leb, eqb}
+use Rattle.std.specs.Prelude.{ℕ, ◌+◌, ◌-◌, ◌<◌, ◌≡◌, refl, List, [], ◌∷◌, ◌++◌, Bool, true, false, T, ltb, leb, eqb}
 use Rattle.std.proofs.Common.{ap, sym, ◌∙◌, append_assoc, append-nil, arith, ltb→lt, le-leb}
 use Rattle.std.proofs.Math.Nat.{add-sub_cancel_left}
 use Rattle.prelude.specs.Choice.{pick, both, between}
@@ -38,6 +38,7 @@ digit-part parts.NotNull h = absurd (let v : ⊥ = omega arith in v)
 digit-part parts.Or h = absurd (let v : ⊥ = omega arith in v)
 digit-part parts.And h = absurd (let v : ⊥ = omega arith in v)
 digit-part parts.Not h = absurd (let v : ⊥ = omega arith in v)
+digit-part parts.Blank h = absurd (let v : ⊥ = omega arith in v)
 
 pub fill-append : (slot : ℕ → List ℕ) (a b : List ℕ) → fill slot (a ++ b) ≡ fill slot a ++ fill slot b
 unfolding fill

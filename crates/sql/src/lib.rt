@@ -1,17 +1,16 @@
 // The conditions of the temporal operators over their four ends (src/ds/sql.rs and the fifteen `t_…_sql` of src/ds/gpkg.rs).
 #![tactic(auto)]
 
-ghost use Rattle.std.specs.Prelude.{◌≡◌, ◌++◌, ◌+◌, ◌≤◌, ℕ, Bool, length};
+ghost use Rattle.std.specs.Prelude.{◌≡◌, [], ◌∷◌, ◌++◌, ◌+◌, ◌≤◌, ◌<◌, length};
 ghost use Rattle.op.specs.Op.{op_number};
 ghost use Rattle.operand.specs.Ends.{columns};
-ghost use Rattle.sql.specs.Template.{held, spelt, part_of, place, template_of, guarded_text, guarded_both_text, check_id_text, check_ids_text, both_text, neither_text, either_text};
+ghost use Rattle.sql.specs.Template.{items, held, spelt, part_of, place, template_of, guarded_text, guarded_both_text, check_id_text, check_ids_text, both_text, neither_text, either_text};
 ghost use Rattle.sql.specs.Translators.{t_after, t_before, t_contains, t_disjoint, t_during, t_equals, t_finished_by, t_finishes, t_intersects, t_meets, t_met_by, t_overlapped_by, t_overlaps, t_started_by, t_starts, translate};
 
 use Part::{
     And, Close, CloseBoth, E0, E1, E2, E3, Equal, Greater, IsNotNull, IsNotNullQuote, Less, Not,
     NotNull, Open, Or, Quote, Unequal,
 };
-use arrayvec::ArrayVec;
 use op::Op;
 use operand::End;
 
@@ -51,16 +50,40 @@ pub enum Part {
     And,
     // `NOT((`
     Not,
+    // No words: no template has it.
+    Blank,
 }
 
-// A condition's text in parts, of which none has more than 21.
-pub type Template = ArrayVec<Part, 24>;
+// A condition's text in parts, of which none has more than 21: the first `len` of `parts`.
+#[derive(Clone, Copy)]
+pub struct Template {
+    pub parts: [Part; 24],
+    pub len: usize,
+}
 
-// A template with some parts after it. One by one: a slice as a whole would be copied by memmove, and include/wenduulig.h promises that memcpy and memset
-// alone are called.
+impl Template {
+    // The parts that it has.
+    pub fn as_slice(&self) -> &[Part]
+        ensures value { result.now ≡ items self.now }
+    {
+        &self.parts[..self.len.min(self.parts.len())]
+    }
+
+    fn push(&mut self, part: Part)
+        requires { self.old.len < 24 }
+        ensures items { items self.new ≡ items self.old ++ part ∷ [] }
+        ensures len { self.new.len ≡ self.old.len + 1 }
+    {
+        self.parts[self.len] = part;
+        self.len += 1;
+    }
+}
+
+// A template with some parts after it.
 fn append(t: &mut Template, parts: &[Part])
-    requires { length t.old.items + length parts.now ≤ 24 }
-    ensures { t.new.items ≡ t.old.items ++ parts.now }
+    requires { t.old.len + length parts.now ≤ 24 }
+    ensures items { items t.new ≡ items t.old ++ parts.now }
+    ensures len { t.new.len ≡ t.old.len + length parts.now }
 {
     for &part in parts {
         t.push(part);
@@ -70,16 +93,21 @@ fn append(t: &mut Template, parts: &[Part])
 // The template of some parts.
 fn sql(parts: &[Part]) -> Template
     requires { length parts.now ≤ 24 }
-    ensures { result.items ≡ parts.now }
+    ensures items { items result ≡ parts.now }
+    ensures len { result.len ≡ length parts.now }
 {
-    let mut t = ArrayVec::new();
+    let mut t = Template {
+        parts: [E0; 24],
+        len: 0,
+    };
     append(&mut t, parts);
     t
 }
 
 // `"i" IS NOT NULL AND (base)`
 fn guarded(i: Part, base: [Part; 3]) -> Template
-    ensures { (held result ≡ guarded_text (part_of i) (spelt base)) × (length result.items ≤ 9) }
+    ensures text { held result ≡ guarded_text (part_of i) (spelt base) }
+    ensures len { result.len ≤ 9 }
 {
     let [x, sign, y] = base;
     sql(&[Quote, i, IsNotNull, x, sign, y, Close])
@@ -87,23 +115,25 @@ fn guarded(i: Part, base: [Part; 3]) -> Template
 
 // `"i" IS NOT NULL AND "j" NOT NULL AND (base)`
 fn guarded_both(i: Part, j: Part, base: [Part; 3]) -> Template
-    ensures { (held result ≡ guarded_both_text (part_of i) (part_of j) (spelt base)) × (length result.items ≤ 9) }
+    ensures text { held result ≡ guarded_both_text (part_of i) (part_of j) (spelt base) }
+    ensures len { result.len ≤ 9 }
 {
     let [x, sign, y] = base;
     sql(&[Quote, i, IsNotNullQuote, j, NotNull, x, sign, y, Close])
 }
 
 // Whether a part is an end that is a column.
-fn is_column(i: Part, e: &[End; 4]) -> bool
-    ensures { result ≡ columns e.now (place i) }
+fn is_column(i: Part, e: [End; 4]) -> bool
+    ensures { result ≡ columns e (place i) }
 {
     let n = i as usize;
     n < 4 && operand::is_column(e[n])
 }
 
 // Guards the base by an end that is a column.
-fn check_id(i: Part, e: &[End; 4], base: [Part; 3]) -> Template
-    ensures { (held result ≡ check_id_text (columns e.now (place i)) (part_of i) (spelt base)) × (length result.items ≤ 9) }
+fn check_id(i: Part, e: [End; 4], base: [Part; 3]) -> Template
+    ensures text { held result ≡ check_id_text (columns e (place i)) (part_of i) (spelt base) }
+    ensures len { result.len ≤ 9 }
 {
     if is_column(i, e) {
         guarded(i, base)
@@ -113,8 +143,9 @@ fn check_id(i: Part, e: &[End; 4], base: [Part; 3]) -> Template
 }
 
 // Guards the base by two ends, in argument order.
-fn check_ids(i: Part, j: Part, e: &[End; 4], base: [Part; 3]) -> Template
-    ensures { (held result ≡ check_ids_text (columns e.now (place i)) (columns e.now (place j)) (part_of i) (part_of j) (spelt base)) × (length result.items ≤ 9) }
+fn check_ids(i: Part, j: Part, e: [End; 4], base: [Part; 3]) -> Template
+    ensures text { held result ≡ check_ids_text (columns e (place i)) (columns e (place j)) (part_of i) (part_of j) (spelt base) }
+    ensures len { result.len ≤ 9 }
 {
     match (is_column(i, e), is_column(j, e)) {
         (true, true) => guarded_both(i, j, base),
@@ -125,7 +156,8 @@ fn check_ids(i: Part, j: Part, e: &[End; 4], base: [Part; 3]) -> Template
 
 // `(x) AND (y)`
 fn both(x: [Part; 3], y: [Part; 3]) -> Template
-    ensures { held result ≡ both_text (spelt x) (spelt y) }
+    ensures text { held result ≡ both_text (spelt x) (spelt y) }
+    ensures len { result.len ≤ 24 }
 {
     let [i, s, j] = x;
     let [k, t, l] = y;
@@ -134,7 +166,8 @@ fn both(x: [Part; 3], y: [Part; 3]) -> Template
 
 // `NOT((x) OR (y))`
 fn neither(x: [Part; 3], y: [Part; 3]) -> Template
-    ensures { held result ≡ neither_text (spelt x) (spelt y) }
+    ensures text { held result ≡ neither_text (spelt x) (spelt y) }
+    ensures len { result.len ≤ 24 }
 {
     let [i, s, j] = x;
     let [k, t, l] = y;
@@ -143,8 +176,9 @@ fn neither(x: [Part; 3], y: [Part; 3]) -> Template
 
 // `(t) OR (u)`
 fn either(t: Template, u: Template) -> Template
-    requires { (length t.items ≤ 9) × (length u.items ≤ 9) }
-    ensures { held result ≡ either_text (held t) (held u) }
+    requires { (t.len ≤ 9) × (u.len ≤ 9) }
+    ensures text { held result ≡ either_text (held t) (held u) }
+    ensures len { result.len ≤ 24 }
 {
     let mut both = sql(&[Open]);
     append(&mut both, t.as_slice());
@@ -156,8 +190,9 @@ fn either(t: Template, u: Template) -> Template
 
 // Mixed (instant and interval) arguments.
 
-fn t_after_sql(a: bool, b: bool, e: &[End; 4]) -> Template
-    ensures { held result ≡ template_of (t_after a b (columns e.now)) }
+fn t_after_sql(a: bool, b: bool, e: [End; 4]) -> Template
+    ensures text { held result ≡ template_of (t_after a b (columns e)) }
+    ensures len { result.len ≤ 24 }
 {
     match (a, b) {
         (true, true) => check_ids(E1, E2, e, [E0, Greater, E3]),
@@ -167,8 +202,9 @@ fn t_after_sql(a: bool, b: bool, e: &[End; 4]) -> Template
     }
 }
 
-fn t_before_sql(a: bool, b: bool, e: &[End; 4]) -> Template
-    ensures { held result ≡ template_of (t_before a b (columns e.now)) }
+fn t_before_sql(a: bool, b: bool, e: [End; 4]) -> Template
+    ensures text { held result ≡ template_of (t_before a b (columns e)) }
+    ensures len { result.len ≤ 24 }
 {
     match (a, b) {
         (true, true) => check_ids(E0, E3, e, [E1, Less, E2]),
@@ -178,8 +214,9 @@ fn t_before_sql(a: bool, b: bool, e: &[End; 4]) -> Template
     }
 }
 
-fn t_disjoint_sql(a: bool, b: bool, e: &[End; 4]) -> Template
-    ensures { held result ≡ template_of (t_disjoint a b (columns e.now)) }
+fn t_disjoint_sql(a: bool, b: bool, e: [End; 4]) -> Template
+    ensures text { held result ≡ template_of (t_disjoint a b (columns e)) }
+    ensures len { result.len ≤ 24 }
 {
     match (a, b) {
         (true, true) => {
@@ -199,8 +236,9 @@ fn t_disjoint_sql(a: bool, b: bool, e: &[End; 4]) -> Template
 }
 
 #[tactic(auto, unfolding(crate::specs::Translators::t_equals, crate::specs::Condition::print, crate::specs::Template::both_text, crate::specs::Template::spelt, crate::specs::Template::part_of))]
-fn t_equals_sql(a: bool, b: bool, e: &[End; 4]) -> Template
-    ensures { held result ≡ template_of (t_equals a b (columns e.now)) }
+fn t_equals_sql(a: bool, b: bool, e: [End; 4]) -> Template
+    ensures text { held result ≡ template_of (t_equals a b (columns e)) }
+    ensures len { result.len ≤ 24 }
 {
     match (a, b) {
         (true, true) => both([E0, Equal, E2], [E1, Equal, E3]),
@@ -211,8 +249,9 @@ fn t_equals_sql(a: bool, b: bool, e: &[End; 4]) -> Template
 }
 
 #[tactic(auto, unfolding(crate::specs::Translators::t_intersects, crate::specs::Condition::print, crate::specs::Template::neither_text, crate::specs::Template::spelt, crate::specs::Template::part_of))]
-fn t_intersects_sql(a: bool, b: bool, e: &[End; 4]) -> Template
-    ensures { held result ≡ template_of (t_intersects a b (columns e.now)) }
+fn t_intersects_sql(a: bool, b: bool, e: [End; 4]) -> Template
+    ensures text { held result ≡ template_of (t_intersects a b (columns e)) }
+    ensures len { result.len ≤ 24 }
 {
     match (a, b) {
         (true, true) => neither([E1, Less, E2], [E0, Greater, E3]),
@@ -225,48 +264,55 @@ fn t_intersects_sql(a: bool, b: bool, e: &[End; 4]) -> Template
 // Intervals only.
 
 #[tactic(auto, unfolding(crate::specs::Translators::t_contains, crate::specs::Condition::print, crate::specs::Template::both_text, crate::specs::Template::spelt, crate::specs::Template::part_of))]
-fn t_contains_sql() -> Template
-    ensures { (a b : Bool) (column : ℕ → Bool) → held result ≡ template_of (t_contains a b column) }
+fn t_contains_sql(a: bool, b: bool, e: [End; 4]) -> Template
+    ensures text { held result ≡ template_of (t_contains a b (columns e)) }
+    ensures len { result.len ≤ 24 }
 {
     both([E0, Less, E2], [E1, Greater, E3])
 }
 
 #[tactic(auto, unfolding(crate::specs::Translators::t_during, crate::specs::Condition::print, crate::specs::Template::both_text, crate::specs::Template::spelt, crate::specs::Template::part_of))]
-fn t_during_sql() -> Template
-    ensures { (a b : Bool) (column : ℕ → Bool) → held result ≡ template_of (t_during a b column) }
+fn t_during_sql(a: bool, b: bool, e: [End; 4]) -> Template
+    ensures text { held result ≡ template_of (t_during a b (columns e)) }
+    ensures len { result.len ≤ 24 }
 {
     both([E0, Greater, E2], [E1, Less, E3])
 }
 
 #[tactic(auto, unfolding(crate::specs::Translators::t_finished_by, crate::specs::Condition::print, crate::specs::Template::both_text, crate::specs::Template::spelt, crate::specs::Template::part_of))]
-fn t_finished_by_sql() -> Template
-    ensures { (a b : Bool) (column : ℕ → Bool) → held result ≡ template_of (t_finished_by a b column) }
+fn t_finished_by_sql(a: bool, b: bool, e: [End; 4]) -> Template
+    ensures text { held result ≡ template_of (t_finished_by a b (columns e)) }
+    ensures len { result.len ≤ 24 }
 {
     both([E0, Less, E2], [E1, Equal, E3])
 }
 
 #[tactic(auto, unfolding(crate::specs::Translators::t_finishes, crate::specs::Condition::print, crate::specs::Template::both_text, crate::specs::Template::spelt, crate::specs::Template::part_of))]
-fn t_finishes_sql() -> Template
-    ensures { (a b : Bool) (column : ℕ → Bool) → held result ≡ template_of (t_finishes a b column) }
+fn t_finishes_sql(a: bool, b: bool, e: [End; 4]) -> Template
+    ensures text { held result ≡ template_of (t_finishes a b (columns e)) }
+    ensures len { result.len ≤ 24 }
 {
     both([E0, Greater, E2], [E1, Equal, E3])
 }
 
-fn t_meets_sql(e: &[End; 4]) -> Template
-    ensures { (a b : Bool) → held result ≡ template_of (t_meets a b (columns e.now)) }
+fn t_meets_sql(a: bool, b: bool, e: [End; 4]) -> Template
+    ensures text { held result ≡ template_of (t_meets a b (columns e)) }
+    ensures len { result.len ≤ 24 }
 {
     check_ids(E0, E3, e, [E1, Equal, E2])
 }
 
-fn t_met_by_sql(e: &[End; 4]) -> Template
-    ensures { (a b : Bool) → held result ≡ template_of (t_met_by a b (columns e.now)) }
+fn t_met_by_sql(a: bool, b: bool, e: [End; 4]) -> Template
+    ensures text { held result ≡ template_of (t_met_by a b (columns e)) }
+    ensures len { result.len ≤ 24 }
 {
     check_ids(E1, E2, e, [E0, Equal, E3])
 }
 
 #[tactic(auto, unfolding(crate::specs::Translators::t_overlapped_by, crate::specs::Condition::print, crate::specs::Template::spelt, crate::specs::Template::part_of))]
-fn t_overlapped_by_sql() -> Template
-    ensures { (a b : Bool) (column : ℕ → Bool) → held result ≡ template_of (t_overlapped_by a b column) }
+fn t_overlapped_by_sql(a: bool, b: bool, e: [End; 4]) -> Template
+    ensures text { held result ≡ template_of (t_overlapped_by a b (columns e)) }
+    ensures len { result.len ≤ 24 }
 {
     sql(&[
         Open, E0, Greater, E2, And, E0, Less, E3, And, E1, Greater, E3, Close,
@@ -274,8 +320,9 @@ fn t_overlapped_by_sql() -> Template
 }
 
 #[tactic(auto, unfolding(crate::specs::Translators::t_overlaps, crate::specs::Condition::print, crate::specs::Template::spelt, crate::specs::Template::part_of))]
-fn t_overlaps_sql() -> Template
-    ensures { (a b : Bool) (column : ℕ → Bool) → held result ≡ template_of (t_overlaps a b column) }
+fn t_overlaps_sql(a: bool, b: bool, e: [End; 4]) -> Template
+    ensures text { held result ≡ template_of (t_overlaps a b (columns e)) }
+    ensures len { result.len ≤ 24 }
 {
     sql(&[
         Open, E0, Less, E2, And, E1, Greater, E2, And, E1, Less, E3, Close,
@@ -283,39 +330,53 @@ fn t_overlaps_sql() -> Template
 }
 
 #[tactic(auto, unfolding(crate::specs::Translators::t_started_by, crate::specs::Condition::print, crate::specs::Template::both_text, crate::specs::Template::spelt, crate::specs::Template::part_of))]
-fn t_started_by_sql() -> Template
-    ensures { (a b : Bool) (column : ℕ → Bool) → held result ≡ template_of (t_started_by a b column) }
+fn t_started_by_sql(a: bool, b: bool, e: [End; 4]) -> Template
+    ensures text { held result ≡ template_of (t_started_by a b (columns e)) }
+    ensures len { result.len ≤ 24 }
 {
     both([E0, Equal, E2], [E1, Greater, E3])
 }
 
 #[tactic(auto, unfolding(crate::specs::Translators::t_starts, crate::specs::Condition::print, crate::specs::Template::both_text, crate::specs::Template::spelt, crate::specs::Template::part_of))]
-fn t_starts_sql() -> Template
-    ensures { (a b : Bool) (column : ℕ → Bool) → held result ≡ template_of (t_starts a b column) }
+fn t_starts_sql(a: bool, b: bool, e: [End; 4]) -> Template
+    ensures text { held result ≡ template_of (t_starts a b (columns e)) }
+    ensures len { result.len ≤ 24 }
 {
     both([E0, Equal, E2], [E1, Less, E3])
 }
 
-// The template of a temporal operator.
+// The template of a temporal operator; any other has that of TStarts.
 #[tactic(auto, unfolding(crate::specs::Translators::translate))]
-pub fn temporal_sql(op: Op, a: bool, b: bool, e: &[End; 4]) -> Template
-    ensures { held result ≡ template_of (translate (op_number op) a b (columns e.now)) }
+fn of_operator(op: Op, a: bool, b: bool, e: [End; 4]) -> Template
+    ensures text { held result ≡ template_of (translate (op_number op) a b (columns e)) }
+    ensures len { result.len ≤ 24 }
 {
     match op {
         Op::TAfter => t_after_sql(a, b, e),
         Op::TBefore => t_before_sql(a, b, e),
-        Op::TContains => t_contains_sql(),
+        Op::TContains => t_contains_sql(a, b, e),
         Op::TDisjoint => t_disjoint_sql(a, b, e),
-        Op::TDuring => t_during_sql(),
+        Op::TDuring => t_during_sql(a, b, e),
         Op::TEquals => t_equals_sql(a, b, e),
-        Op::TFinishedBy => t_finished_by_sql(),
-        Op::TFinishes => t_finishes_sql(),
+        Op::TFinishedBy => t_finished_by_sql(a, b, e),
+        Op::TFinishes => t_finishes_sql(a, b, e),
         Op::TIntersects => t_intersects_sql(a, b, e),
-        Op::TMeets => t_meets_sql(e),
-        Op::TMetBy => t_met_by_sql(e),
-        Op::TOverlappedBy => t_overlapped_by_sql(),
-        Op::TOverlaps => t_overlaps_sql(),
-        Op::TStartedBy => t_started_by_sql(),
-        _ => t_starts_sql(),
+        Op::TMeets => t_meets_sql(a, b, e),
+        Op::TMetBy => t_met_by_sql(a, b, e),
+        Op::TOverlappedBy => t_overlapped_by_sql(a, b, e),
+        Op::TOverlaps => t_overlaps_sql(a, b, e),
+        Op::TStartedBy => t_started_by_sql(a, b, e),
+        _ => t_starts_sql(a, b, e),
+    }
+}
+
+// That of the operator with a number.
+pub fn temporal_sql(op: usize, a: bool, b: bool, e: [End; 4]) -> Template
+    ensures text { held result ≡ template_of (translate op a b (columns e)) }
+    ensures len { result.len ≤ 24 }
+{
+    match op::op_of(op) {
+        Some(op) => of_operator(op, a, b, e),
+        None => t_starts_sql(a, b, e),
     }
 }

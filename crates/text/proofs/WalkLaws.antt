@@ -228,6 +228,7 @@ clear_part parts.NotNull h = refl
 clear_part parts.Or h = refl
 clear_part parts.And h = refl
 clear_part parts.Not h = refl
+clear_part parts.Blank h = refl
 
 -- the text of an end's part
 end-part : (writing : Writing) (g : Settings) (xs : List Tree) (p : Part) → place p < 4 → fill (slot writing g xs) (part_of p) ≡ slot writing g xs (place p)

@@ -14,7 +14,6 @@ ghost use Rattle.class.specs.ClassWords.{temporal_number};
 
 use crate::classes::is_temporal_number;
 use crate::records::{OPERAND, end_of, is_kind};
-use op::op_of;
 use operand::{End, Operand};
 use record::{BODY, KIND};
 use sql::Template;
@@ -75,14 +74,12 @@ pub(crate) fn is_temporal(kind: usize, op: usize) -> bool
 // The template of a temporal node. It is not taken into the node writer, whose frame is laid once for each level: a caller of the controller's
 // is promised less than 4 KiB of stack (include/wenduulig.h).
 #[inline(never)]
-pub(crate) fn template_of(s: &[u8], op: usize, m: usize, e: &[End; 4]) -> Template
+pub(crate) fn template_of(s: &[u8], op: usize, m: usize, e: [End; 4]) -> Template
     requires { (8 ≤ m) × (m ≤ length s.now) }
-    ensures { (w : Writing) (g : Settings) (t : Tree) → Node s.now DYADIC op m t → temporal_number op ≡ true → Are s.now e.now (node_ends t) → text w g t ≡ fill (slot w g (node_ends t)) (held result) }
+    ensures text { (w : Writing) (g : Settings) (t : Tree) → Node s.now DYADIC op m t → temporal_number op ≡ true → Are s.now e (node_ends t) → text w g t ≡ fill (slot w g (node_ends t)) (held result) }
+    ensures len { result.len ≤ 24 }
 {
     let a = is_kind(&s[OPERAND..m], INTERVAL);
     let b = is_kind(&s[m..], INTERVAL);
-    match op_of(op) {
-        Some(op) => sql::temporal_sql(op, a, b, e),
-        None => Template::new(),
-    }
+    sql::temporal_sql(op, a, b, e)
 }

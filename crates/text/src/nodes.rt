@@ -193,7 +193,7 @@ fn write_operands(s: &[u8], style: Style<'_>, out: &mut [u8], at: usize) -> usiz
         return write_others(s, kind, op, m, style, out, at);
     }
     let e = temporal_ends(s, m);
-    let t = template_of(s, op, m, &e);
+    let t = template_of(s, op, m, e);
     let parts = t.as_slice();
     let mut here = emit::ended(at, 0);
     for &part in parts {

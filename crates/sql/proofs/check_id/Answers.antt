@@ -9,4 +9,4 @@ returns-then-is_column c = rw (sym c.is_column.ensures ∙ c.if-is_column.true) 
 
 pub returns-else-is_column : goal.returns-else-is_column
 unfolding check_id_text
-returns-else-is_column c = rw (sym c.is_column.ensures ∙ c.if-is_column.false) (ap spelt c.sql.ensures, rw c.sql.ensures (search (rules, c.well_formed)))
+returns-else-is_column c = rw (sym c.is_column.ensures ∙ c.if-is_column.false) (record { text = ap spelt c.sql.ensures.items; len = rw c.sql.ensures.len (search (rules, c.well_formed)) })

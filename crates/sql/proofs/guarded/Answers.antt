@@ -6,4 +6,4 @@ use Rattle.sql.proofs.Laws.{one_guarded, three}
 use Rattle.sql.proofs.guarded.Goals as goal
 
 pub returns : goal.returns
-returns c = (ap spelt c.sql.ensures ∙ one_guarded _ _ _ c.args.i ∙ ap (λ (l : List Part). guarded_text (part_of c.args.i) (spelt l)) (three c.args.base _ _ _ (search (rules, c.well_formed))), rw c.sql.ensures (omega arith))
+returns c = record { text = ap spelt c.sql.ensures.items ∙ one_guarded _ _ _ c.args.i ∙ ap (λ (l : List Part). guarded_text (part_of c.args.i) (spelt l)) (three c.args.base _ _ _ (search (rules, c.well_formed))); len = rw c.sql.ensures.len (omega arith) }

@@ -6,4 +6,4 @@ use Rattle.sql.proofs.Laws.{two_guarded, three}
 use Rattle.sql.proofs.guarded_both.Goals as goal
 
 pub returns : goal.returns
-returns c = (ap spelt c.sql.ensures ∙ two_guarded _ _ _ c.args.i c.args.j ∙ ap (λ (l : List Part). guarded_both_text (part_of c.args.i) (part_of c.args.j) (spelt l)) (three c.args.base _ _ _ (search (rules, c.well_formed))), rw c.sql.ensures (omega arith))
+returns c = record { text = ap spelt c.sql.ensures.items ∙ two_guarded _ _ _ c.args.i c.args.j ∙ ap (λ (l : List Part). guarded_both_text (part_of c.args.i) (part_of c.args.j) (spelt l)) (three c.args.base _ _ _ (search (rules, c.well_formed))); len = rw c.sql.ensures.len (omega arith) }

@@ -6,6 +6,6 @@ use Rattle.sql.specs.Translators.{t_meets}
 use Rattle.sql.proofs.Laws.{two_guards}
 use Rattle.sql.proofs.t_meets_sql.Goals as goal
 
-pub returns : goal.returns
+pub returns-clause-text : goal.returns-clause-text
 unfolding t_meets print spelt part_of
-returns c = λ a b. c.check_ids.ensures.0 ∙ two_guards _ 0 3 (test 1 eq 2)
+returns-clause-text c = c.check_ids.ensures.text ∙ two_guards _ 0 3 (test 1 eq 2)

@@ -6,6 +6,6 @@ use Rattle.sql.specs.Translators.{t_met_by}
 use Rattle.sql.proofs.Laws.{two_guards}
 use Rattle.sql.proofs.t_met_by_sql.Goals as goal
 
-pub returns : goal.returns
+pub returns-clause-text : goal.returns-clause-text
 unfolding t_met_by print spelt part_of
-returns c = λ a b. c.check_ids.ensures.0 ∙ two_guards _ 1 2 (test 0 eq 3)
+returns-clause-text c = c.check_ids.ensures.text ∙ two_guards _ 1 2 (test 0 eq 3)

@@ -99,7 +99,7 @@ write_operands-loop-part-preserved t c = (
 )
 
 pub write_operands-returns : goal.write_operands-returns
-write_operands-returns t c = λ t e f a b. let tn = temporal_node (sym c.is_temporal.ensures ∙ c.if-not-is_temporal.false) (node_of c.args.s.now c.word_at-kind.result c.word_at-op.result c.end_of-m.result t e f c.word_at-kind.ensures.0 c.word_at-op.ensures.0 c.end_of-m.ensures (let q = c.word_at-kind.ensures.0 in omega arith) (let q = c.word_at-kind.ensures.0 in omega arith)) in let ar = node_ends_lem tn.0 _ c.temporal_ends-e.ensures in lays_of (ap (λ (ps : List Part). fill (slot c.args.style.writing (settings_in c.args.style.set.now) (node_ends t)) (spelt ps)) (take_all c.loop-part.part-index c.as_slice-parts.result.now (omega arith) ∙ c.as_slice-parts.ensures.value) ∙ sym (c.template_of-t.ensures c.args.style.writing (settings_in c.args.style.set.now) t tn.0 tn.1 ar)) (c.loop-part.invariant.1 t e f a b)
+write_operands-returns t c = λ t e f a b. let tn = temporal_node (sym c.is_temporal.ensures ∙ c.if-not-is_temporal.false) (node_of c.args.s.now c.word_at-kind.result c.word_at-op.result c.end_of-m.result t e f c.word_at-kind.ensures.0 c.word_at-op.ensures.0 c.end_of-m.ensures (let q = c.word_at-kind.ensures.0 in omega arith) (let q = c.word_at-kind.ensures.0 in omega arith)) in let ar = node_ends_lem tn.0 _ c.temporal_ends-e.ensures in lays_of (ap (λ (ps : List Part). fill (slot c.args.style.writing (settings_in c.args.style.set.now) (node_ends t)) (spelt ps)) (take_all c.loop-part.part-index c.as_slice-parts.result.now (omega arith) ∙ c.as_slice-parts.ensures.value) ∙ sym (c.template_of-t.ensures.text c.args.style.writing (settings_in c.args.style.set.now) t tn.0 tn.1 ar)) (c.loop-part.invariant.1 t e f a b)
 
 pub write_others-returns-then-kind-eq-MONADIC : goal.write_others-returns-then-kind-eq-MONADIC
 write_others-returns-then-kind-eq-MONADIC t c = λ t nd nt. c.write_monadic.ensures c.args.m t (monadic_node c.if-kind-eq-MONADIC.true nd)
