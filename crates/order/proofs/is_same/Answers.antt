@@ -1,15 +1,12 @@
 -- `order::is_same` meets its contract: `zip_turn` says at which place of both this turn's bytes stand, `zip_end` where the loop ends.
-use Rattle.std.proofs.Common.{sym, ap, ◌∙◌, arith, ◌≡◌, refl}
+use Rattle.std.proofs.Common.{sym, ap, ◌∙◌, arith, ◌≡◌, refl, length}
 use Rattle.std.specs.Ordering.{is_eq}
 use Rattle.std.specs.Iterator.Adapters.{zip_first, zip_second}
 use Rattle.std.specs.Slice.Iter.{iter_rest}
 use Rattle.std.proofs.lemmas.Slice.Zip.{zip_turn, zip_end}
 use Rattle.std.proofs.lemmas.List.{length_push}
-use Rattle.order.specs.OrderLaws.{other_length, order_level, order-apart, order_stop, cmp-level}
+use Rattle.order.specs.OrderLaws.{order_level, order-apart, order_stop, cmp-level}
 use Rattle.order.proofs.is_same.Goals as goal
-
-pub returns-then-a-b : goal.returns-then-a-b
-returns-then-a-b c = sym (other_length c.args.a.now c.args.b.now c.if-a-b.true)
 
 pub loop-x-preserved : goal.loop-x-preserved
 loop-x-preserved c =
@@ -34,4 +31,4 @@ returns c =
     let first = ap (λ z. iter_rest (zip_first z)) h ∙ ap iter_rest c.zip-x-items.ensures.first ∙ c.iter.ensures.rest in
     let second = ap (λ z. iter_rest (zip_second z)) h ∙ c.zip-x-items.ensures.second.0 in
     let t = zip_end c.args.a.now c.args.b.now c.loop-x.yielded c.into_iter-x-iterator.result c.loop-x.x-iterator c.next.new.self c.next.result first second c.loop-x.yielded_by c.in-None.is c.next.ensures.steps in
-    sym (ap is_eq (sym c.loop-x.invariant ∙ order_stop c.args.a.now c.args.b.now _ t ∙ cmp-level _ _ c.if-a-b.false))
+    sym (ap is_eq (sym c.loop-x.invariant ∙ order_stop c.args.a.now c.args.b.now _ t ∙ cmp-level (length c.args.a.now) (length c.args.b.now) (omega arith)))
