@@ -49,7 +49,7 @@ impl Filter<'_> {
             .preview(self.settings, self.tree, LENGTH_LIMIT)
             .unwrap_or(0);
         self.is_told(call, 0)
-            && self.is_told(call, n.saturating_sub(1))
+            && (n == 0 || self.is_told(call, n - 1))
             && self.is_told(call, n)
             && self.is_told(call, n.saturating_add(1))
             && self.is_told(call, size)
