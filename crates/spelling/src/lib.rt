@@ -3,61 +3,84 @@
 
 ghost use Rattle.std.specs.Prelude.{◌≡◌, option_map};
 ghost use Rattle.spelling.specs.Spelling.{spelling, spelling_of};
+ghost use Rattle.spelling.specs.SpellingTable.{Spells};
 
-use op::Op;
+use op::{IS_NOT_NULL, Op};
+
+// The spellings of `Op::to_sql`. First stands, by operator number, where each begins; it ends where the next one begins, and one that ends where
+// it begins is none. Then come the spellings in order. A place is one byte, so none lies outside 256 bytes. The table holds no addresses, which a
+// library for a device would keep in data that is written.
+const SPELLINGS: &[u8; 256] = b"\
+    \x36\x37\x38\x39\x3a\x3d\x3e\x3f\x42\
+    \x43\x45\x46\x47\x49\x4b\x4e\x50\x50\
+    \x50\x5d\x66\x71\x7b\x84\x8f\x99\xa4\
+    \xa4\xa4\xa4\xa4\xa4\xa4\xa4\xa4\xa4\
+    \xa4\xa4\xa4\xa4\xa4\xa4\xa5\xa7\xa9\
+    \xab\xaf\xb7\xbe\xc9\xcb\xd1\xd8\xe3\
+    +\
+    -\
+    *\
+    /\
+    div\
+    %\
+    ^\
+    NOT\
+    =\
+    <>\
+    <\
+    >\
+    <=\
+    >=\
+    AND\
+    OR\
+    ST_Intersects\
+    ST_Equals\
+    ST_Disjoint\
+    ST_Touches\
+    ST_Within\
+    ST_Overlaps\
+    ST_Crosses\
+    ST_Contains\
+    =\
+    @>\
+    <@\
+    &&\
+    LIKE\
+    NOT LIKE\
+    BETWEEN\
+    NOT BETWEEN\
+    IN\
+    NOT IN\
+    IS NULL\
+    IS NOT NULL\
+    29 bytes that no place names.";
+
+// The table; what it has to hold is said of it here, once.
+fn spellings() -> &'static [u8; 256]
+    ensures { Spells result.now }
+{
+    SPELLINGS
+}
 
 // The spelling of an operator (`Op::to_sql`); CaseI, AccentI and the temporal operators have none.
 pub fn to_sql(op: Op) -> Option<&'static [u8]>
     ensures { option_map (λ s. s.now) result ≡ spelling op }
 {
-    let spelled: &'static [u8] = match op {
-        Op::Plus => b"+",
-        Op::Minus => b"-",
-        Op::Mult => b"*",
-        Op::Div => b"/",
-        Op::IntDiv => b"div",
-        Op::Mod => b"%",
-        Op::Exp => b"^",
-        Op::Neg => b"NOT",
-        Op::Eq => b"=",
-        Op::Neq => b"<>",
-        Op::Lt => b"<",
-        Op::Gt => b">",
-        Op::Lte => b"<=",
-        Op::Gte => b">=",
-        Op::And => b"AND",
-        Op::Or => b"OR",
-        Op::SIntersects => b"ST_Intersects",
-        Op::SEquals => b"ST_Equals",
-        Op::SDisjoint => b"ST_Disjoint",
-        Op::STouches => b"ST_Touches",
-        Op::SWithin => b"ST_Within",
-        Op::SOverlaps => b"ST_Overlaps",
-        Op::SCrosses => b"ST_Crosses",
-        Op::SContains => b"ST_Contains",
-        Op::AEquals => b"=",
-        Op::AContains => b"@>",
-        Op::AContainedBy => b"<@",
-        Op::AOverlaps => b"&&",
-        Op::IsLike => b"LIKE",
-        Op::IsNotLike => b"NOT LIKE",
-        Op::IsBetween => b"BETWEEN",
-        Op::IsNotBetween => b"NOT BETWEEN",
-        Op::IsInList => b"IN",
-        Op::IsNotInList => b"NOT IN",
-        Op::IsNull => b"IS NULL",
-        Op::IsNotNull => b"IS NOT NULL",
-        _ => return None,
-    };
-    Some(spelled)
+    of_number(op::op_number(op))
 }
 
 // That of the operator with a number; a number that is no operator's has none.
 pub fn of_number(n: usize) -> Option<&'static [u8]>
     ensures { option_map (λ s. s.now) result ≡ spelling_of n }
 {
-    match op::op_of(n) {
-        Some(op) => to_sql(op),
-        None => None,
+    if IS_NOT_NULL < n {
+        return None;
     }
+    let table = spellings();
+    let from = usize::from(table[n]);
+    let to = usize::from(table[n + 1]);
+    if to <= from {
+        return None;
+    }
+    Some(&table[from..to])
 }
