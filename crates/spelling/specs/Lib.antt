@@ -1,6 +1,6 @@
 -- What is to be believed.
 pub mod Spelling
--- Words of private contracts.
+-- Words of contracts.
 pub mod SpellingTable
 -- Laws.
 pub mod SpellingLaws

@@ -56,7 +56,7 @@ const SPELLINGS: &[u8; 256] = b"\
     29 bytes that no place names.";
 
 // The table; what it has to hold is said of it here, once.
-fn spellings() -> &'static [u8; 256]
+pub fn spellings() -> &'static [u8; 256]
     ensures { Spells result.now }
 {
     SPELLINGS
