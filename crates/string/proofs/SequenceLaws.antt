@@ -158,6 +158,13 @@ module _ (s : List ℕ) (i : ℕ) (h : i < length s) (l : get_or s i 0 < 256) (e
   fourth_fails q g d j =
       after_two 2 q (later_fails s (i + 2) c (0x80, 0xBF) (tails 1) g (i + 3) (omega arith) (due_fails s (i + 3) d (0x80, 0xBF) [] j))
 
+-- what was found at a place
+pub heads_some : (s : List ℕ) (i r : ℕ) {n : Option ℕ} → Heads s i n → n ≡ Some r → (0 < r) × Passes s i r [] [] × Open s i r
+heads_some s i r h e = subst (λ (k : Option ℕ). Heads s i k) e h
+
+pub heads_none : (s : List ℕ) (i : ℕ) {n : Option ℕ} → Heads s i n → n ≡ None → Heads s i None
+heads_none s i h e = subst (λ (k : Option ℕ). Heads s i k) e h
+
 -- a sequence that was read to its end
 pub heads_of : (s : List ℕ) (i r : ℕ) → 0 < r → Passes s i r [] [] × Open s i r → Heads s i (Some r)
 heads_of s i r h p = (h, p.0, p.1)

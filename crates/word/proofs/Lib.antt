@@ -1,0 +1,2 @@
+-- Laws of a word read byte by byte.
+pub mod WordLaws
