@@ -42,7 +42,7 @@ fn joined(c: Chain, op: Op) -> Chain
     }
 }
 
-// CaseI and AccentI down to a Str, or Other. The number is looked at as it is: with `op_at` a deep chain took a quarter more time.
+// CaseI and AccentI down to a Str, or Other. The number is looked at as it is: with `op_at` a deep chain took a quarter more instructions.
 fn text_below(s: &[u8]) -> Chain
     requires { Recorded s.now }
     ensures { (t : Tree) → s.now ≡ encode t → result ≡ chain_of t }

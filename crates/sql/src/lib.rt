@@ -370,7 +370,7 @@ fn of_operator(op: Op, a: bool, b: bool, e: [End; 4]) -> Template
     }
 }
 
-// That of the operator with a number.
+// That of the operator with a number; of a number that is no temporal operator's, that of TStarts.
 pub fn temporal_sql(op: usize, a: bool, b: bool, e: [End; 4]) -> Template
     ensures text { held result ≡ template_of (translate op a b (columns e)) }
     ensures len { result.len ≤ 24 }
