@@ -12,6 +12,6 @@ fn main(rt: HostRuntime) -> io::Result<()> {
     let mut out = input::large_buffer();
     input::answer_all(&rt, |settings, tree| {
         let lowered = call.lower(settings, tree, &mut out);
-        calls::print_line(&rt, lowered, &out)
+        calls::print_line(&mut io::writer(&rt), lowered, &out)
     })
 }

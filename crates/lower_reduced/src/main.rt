@@ -18,6 +18,6 @@ fn main(rt: HostRuntime) -> io::Result<()> {
             input::first(&room, n),
             &mut out,
         ));
-        calls::print_line(&rt, lowered, &out)
+        calls::print_line(&mut io::writer(&rt), lowered, &out)
     })
 }

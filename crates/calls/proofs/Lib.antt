@@ -1,0 +1,2 @@
+mod WordsLaws
+mod LineLaws
