@@ -2,9 +2,11 @@
 // a call of the system's reads. So what is read and what it is stand apart: `read_part` fills the buffers and counts, and `part_of` says what was read.
 #![tactic(auto)]
 
-ghost use Rattle.std.specs.Prelude.{◌≡◌, ◌+◌, ◌≤◌, length, take, true, Ok, []};
+ghost use Rattle.std.specs.Prelude.{◌≡◌, ◌+◌, ◌≤◌, length, take, replicate, true, Ok, OnOk, [], ◌∷◌};
+ghost use Rattle.std.specs.Fn.{CalledAtTwo};
 ghost use Rattle.record.specs.Record.{le32};
 ghost use Rattle.input.specs.Part.{part_of, held, IsRead, AreRead};
+ghost use Rattle.input.specs.Answered.{texts, AnswersCases};
 
 use std::io;
 use std::io::Read;
@@ -26,7 +28,7 @@ pub struct Part {
 
 // 65,536 zeros: room for each part that is within the limits.
 pub fn large_buffer() -> [u8; 65536]
-    ensures { 65536 ≡ length result }
+    ensures { result ≡ replicate 65536 0 }
 {
     [0; 65536]
 }
@@ -138,19 +140,30 @@ pub fn read_case<R: Read, const N: usize>(file: &mut R, parts: &mut [Part; N]) -
     Ok(true)
 }
 
+// The bytes of the two parts of a case, as they are handed over.
+pub fn texts(parts: &[Part; 2]) -> (&[u8], &[u8])
+    ensures { texts parts.now ≡ result.0.now ∷ result.1.now ∷ [] }
+{
+    (parts[0].bytes(), parts[1].bytes())
+}
+
 // Has each case of the input answered, which has two parts; a line says so if the input ends inside one.
 pub fn answer_all<H: Input + Print, F: FnMut(&[u8], &[u8]) -> io::Result<()>>(
     rt: &H,
     mut answer: F,
 ) -> io::Result<()>
     requires { F.IsAlwaysCallable answer }
+    ensures { OnOk result ((last : F) × AnswersCases (λ f x y g. CalledAtTwo F.FnMut f x y (Ok tt) g) answer last) }
 {
     let mut file = rt.reader();
     let mut parts = [Part::new(); 2];
     // A proved loop has to end, and nothing says that the input does: no run uses up so many turns.
     for _ in 0..u64::MAX {
         match read_case(&mut file, &mut parts) {
-            Ok(true) => answer(parts[0].bytes(), parts[1].bytes())?,
+            Ok(true) => {
+                let (first, second) = texts(&parts);
+                answer(first, second)?;
+            }
             Ok(false) => return Ok(()),
             Err(Cut) => return println!(rt; "incomplete"),
         }
