@@ -44,7 +44,10 @@ fn replay<R: Files + Print + Eprint, K: Kind<N>, const N: usize>(
     requires { N ≤ 4 }
 {
     match fs::open(rt, name) {
-        Ok(mut file) => replay_cases::replay(rt, name, &mut file, kind),
+        Ok(mut file) => {
+            let tally = replay_cases::replay(rt, name, &mut file, kind)?;
+            kind.report(rt, name, &tally)
+        }
         Err(e) => eprintln!(rt; "{name}: {e}"),
     }
 }

@@ -1,1 +1,2 @@
 pub mod BlankLaws
+mod CountedLaws

@@ -1,2 +1,3 @@
 pub mod TallyWords
 pub mod Found
+pub mod Counted

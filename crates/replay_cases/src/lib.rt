@@ -1,9 +1,12 @@
 // What the replays of stored answers share: the cases of a file, judged and counted, and what a call left in a buffer that it was lent.
 #![tactic(auto)]
 
-ghost use Rattle.std.specs.Prelude.{◌≡◌, ◌+◌, ◌%◌, ◌^◌, ◌≤◌, replicate};
+ghost use Rattle.std.specs.Prelude.{◌≡◌, ℕ, ◌+◌, ◌%◌, ◌^◌, ◌≤◌, List, Option, IfOk, ⊤, replicate};
+ghost use Rattle.input.specs.declared.Part.{Part};
+ghost use Rattle.replay_cases.specs.declared.Case.{Case};
 ghost use Rattle.replay_cases.specs.TallyWords.{tallied};
 ghost use Rattle.replay_cases.specs.Found.{found, are_blank};
+ghost use Rattle.replay_cases.specs.Counted.{IsCountOf};
 
 use input::{Cut, Part};
 use refusal::Refusal;
@@ -38,8 +41,12 @@ pub struct Tally {
 
 // What the cases of a file are about, each of N parts.
 pub trait Kind<const N: usize> {
+    // What may be judged of the parts at a place, where a kind says it.
+    ghost judges: { Self → ℕ → List Part → Option Case → Type 0 } = { λ _ _ _ _. ⊤ };
+
     // The case of these parts; None if a part has another size than is due.
-    fn judged(&self, place: u64, parts: &[Part; N]) -> Option<Case>;
+    fn judged(&self, place: u64, parts: &[Part; N]) -> Option<Case>
+        ensures { judges self.now place parts.now result };
 
     // The line that tells the counts.
     fn report<P: Print>(&self, rt: &P, name: &str, tally: &Tally) -> io::Result<()>;
@@ -92,14 +99,16 @@ pub fn found(answer: Result<usize, Refusal>, stored: &[u8], out: &[u8]) -> u8
     }
 }
 
-// Replays the cases of a file, of four parts at most: a line for each whose answer is not the stored one, one if the file breaks off inside a case, and one that tells the counts.
+// Replays the cases of a file, of four parts at most, and counts them: a line for each whose answer is not the stored one, and one if the file breaks off
+// inside a case.
 pub fn replay<P: Print, R: Read, K: Kind<N>, const N: usize>(
     rt: &P,
     name: &str,
     file: &mut R,
     kind: &K,
-) -> io::Result<()>
+) -> io::Result<Tally>
     requires { N ≤ 4 }
+    ensures { IfOk result (IsCountOf (K.judges kind.now)) }
 {
     let mut parts = [Part::new(); N];
     let mut tally = Tally {
@@ -109,17 +118,17 @@ pub fn replay<P: Print, R: Read, K: Kind<N>, const N: usize>(
     for place in 0..MOST {
         let case = match input::read_case(file, &mut parts) {
             Ok(true) => kind.judged(place, &parts),
-            Ok(false) => break,
+            Ok(false) => return Ok(tally),
             Err(Cut) => None,
         };
         let Some(Case { want, found }) = case else {
             println!(rt; "{name}: the file of cases is broken")?;
-            break;
+            return Ok(tally);
         };
         if want != found {
             println!(rt; "{name}: case {place}: stored {want}, found {found}")?;
         }
         tally.count(Case { want, found });
     }
-    kind.report(rt, name, &tally)
+    Ok(tally)
 }

@@ -3,6 +3,7 @@
 #![tactic(auto)]
 
 use crate::reductions::Reductions;
+use replay_cases::Kind;
 use std::rt::Files;
 use std::{fs, io};
 
@@ -13,5 +14,6 @@ const NAME: &str = "reductions";
 
 fn main(rt: HostRuntime) -> io::Result<()> {
     let mut file = fs::open(&rt, NAME)?;
-    replay_cases::replay(&rt, NAME, &mut file, &Reductions)
+    let tally = replay_cases::replay(&rt, NAME, &mut file, &Reductions)?;
+    Reductions.report(&rt, NAME, &tally)
 }

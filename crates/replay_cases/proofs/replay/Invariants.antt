@@ -1,0 +1,7 @@
+-- `replay_cases::replay` meets its contract: what is counted after the cases so far is counted from the start.
+use Rattle.replay_cases.specs.Counted.{CountsCases, none_counted}
+use Rattle.replay_cases.proofs.replay.Given as goal
+
+abbrev pub invariant-loop-place : goal.invariant-loop-place
+invariant-loop-place g l =
+    (end : _) → CountsCases (g.K.Kind.judges l.fn.kind) (l.place-counter, l.tally) end → CountsCases (g.K.Kind.judges l.fn.kind) (0, none_counted) end
