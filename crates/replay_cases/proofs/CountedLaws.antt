@@ -9,10 +9,10 @@ use Rattle.replay_cases.specs.declared.Tally.{Tally}
 
 module _ (J : ℕ → List Part → Option Case → Type 0) where
   -- none more
-  pub none_more : (s : ℕ × Tally) → CountsCases J s s
+  pub none_more : (s : Tally) → CountsCases J s s
   none_more s = ([], refl)
 
   -- one more, before the others
-  pub one_counted : (k : ℕ) (s t : Tally) (ps : List Part) (case : Case) → AreRead ps → J k ps (Some case) → t.done ≡ (s.done + 1) % 2 ^ 64
-      → t.counts ≡ tallied s.counts case.want case.found → (end : ℕ × Tally) → CountsCases J (k + 1, t) end → CountsCases J (k, s) end
-  one_counted k s t ps case read judged done counts end more = ((ps, case) ∷ more.0, ((k + 1, t), (read, judged, refl, done, counts), more.1))
+  pub one_counted : (s t : Tally) (ps : List Part) (case : Case) → AreRead ps → J s.done ps (Some case) → t.done ≡ (s.done + 1) % 2 ^ 64
+      → t.counts ≡ tallied s.counts case.want case.found → (end : Tally) → CountsCases J t end → CountsCases J s end
+  one_counted s t ps case read judged done counts end more = ((ps, case) ∷ more.0, (t, (read, judged, done, counts), more.1))

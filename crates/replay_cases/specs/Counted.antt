@@ -13,15 +13,15 @@ none_counted = record { done = 0; counts = replicate 16 0 }
 
 -- J says what may be judged of the parts at a place
 module _ (J : ℕ → List Part → Option Case → Type 0) where
-  -- the case of parts that were read is judged at its place, and counted
-  abbrev pub CountsCase : ℕ × Tally → List Part × Case → ℕ × Tally → Type 0
+  -- the case of parts that were read is judged, at the place that is the number of those before it, and counted
+  abbrev pub CountsCase : Tally → List Part × Case → Tally → Type 0
   CountsCase s x t =
-      AreRead x.0 × J s.0 x.0 (Some x.1) × (t.0 ≡ s.0 + 1) × (t.1.done ≡ (s.1.done + 1) % 2 ^ 64) × (t.1.counts ≡ tallied s.1.counts x.1.want x.1.found)
+      AreRead x.0 × J s.done x.0 (Some x.1) × (t.done ≡ (s.done + 1) % 2 ^ 64) × (t.counts ≡ tallied s.counts x.1.want x.1.found)
 
-  -- so many cases from the first place on are counted
-  abbrev pub CountsCases : ℕ × Tally → ℕ × Tally → Type 0
+  -- cases are counted, one after another
+  abbrev pub CountsCases : Tally → Tally → Type 0
   CountsCases s t = (cases : List (List Part × Case)) × FoldsTo CountsCase s cases t
 
   -- what is counted of a file's cases, from its first one on
   abbrev pub IsCountOf : Tally → Type 0
-  IsCountOf tally = (places : ℕ) × CountsCases (0, none_counted) (places, tally)
+  IsCountOf tally = CountsCases none_counted tally

@@ -115,7 +115,8 @@ pub fn replay<P: Print, R: Read, K: Kind<N>, const N: usize>(
         done: 0,
         counts: [0; 16],
     };
-    for place in 0..MOST {
+    for _ in 0..MOST {
+        let place = tally.done;
         let case = match input::read_case(file, &mut parts) {
             Ok(true) => kind.judged(place, &parts),
             Ok(false) => return Ok(tally),

@@ -2,6 +2,6 @@
 use Rattle.replay_cases.specs.Counted.{CountsCases, none_counted}
 use Rattle.replay_cases.proofs.replay.Given as goal
 
-abbrev pub invariant-loop-place : goal.invariant-loop-place
-invariant-loop-place g l =
-    (end : _) → CountsCases (g.K.Kind.judges l.fn.kind) (l.place-counter, l.tally) end → CountsCases (g.K.Kind.judges l.fn.kind) (0, none_counted) end
+abbrev pub invariant-loop : goal.invariant-loop
+invariant-loop g l =
+    (end : _) → CountsCases (g.K.Kind.judges l.fn.kind) l.tally end → CountsCases (g.K.Kind.judges l.fn.kind) none_counted end
